@@ -1,0 +1,7 @@
+pub mod Transform
+pub mod TransformLaws
+pub mod Hits
+pub mod Sides
+pub mod Domain
+pub mod HitsLaws
+pub mod Numbers

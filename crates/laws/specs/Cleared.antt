@@ -1,0 +1,74 @@
+-- The first n places of a list set to one value.
+use mathlib.Core.Path.{_≡_, refl, sym, ap, _∙_}
+use mathlib.Core.List.{List, [], _∷_, _++_}
+use Prim.Native.Nat.{ℕ, zero, suc, _+_, _-_, _≤_, _<_}
+use lib.ListN.{length, take, drop, set, getD, replicate, length-append, length-replicate, length-drop, length-set, List·getD-append}
+use native.Mathlib.Omega.{arith}
+use native.Mathlib.Numerals.{add-one}
+use lib.Seq.{set-at, drop-cons, getD-append-add, getD-drop}
+use Rattle.laws.specs.Written.{Written}
+
+-- what lies past the first n places; shut, since a literal n would unroll
+unfoldable pub surplus : {A : Type 0} → ℕ → List A → List A
+surplus n l = drop n l
+
+-- the first n places hold a, the surplus what it held
+unfoldable pub cleared : {A : Type 0} → A → ℕ → List A → List A
+cleared a n l = replicate n a ++ surplus n l
+
+-- one place more: the place n of a list whose first n places are cleared
+pub cleared-more : {A : Type 0} (a : A) (n : ℕ) (l : List A) → n < length l → set (cleared a n l) n a ≡ cleared a (n + 1) l
+unfolding cleared surplus
+cleared-more a n l h =
+    rw (add-one, drop-cons l n a) (set-at (replicate n a) (getD l n a) (drop (suc n) l) a n (length-replicate n a) ∙ sym (more n))
+  where
+    more : (k : ℕ) → replicate (suc k) a ++ drop (suc n) l ≡ replicate k a ++ a ∷ drop (suc n) l
+    more zero = refl
+    more (suc k) = ap (a ∷_) (more k)
+
+pub cleared-none : {A : Type 0} (a : A) (l : List A) → cleared a 0 l ≡ l
+unfolding cleared surplus
+cleared-none a l = refl
+
+pub length-cleared : {A : Type 0} (a : A) (n : ℕ) (l : List A) → n ≤ length l → length (cleared a n l) ≡ length l
+unfolding cleared surplus
+length-cleared a n l h = simp (length-append, length-replicate, length-drop) (omega arith)
+
+-- by index
+pub cleared-written : {A : Type 0} (d a : A) (n : ℕ) (l : List A) → n ≤ length l → Written d (λ k. a) l (cleared a n l) n
+unfolding cleared surplus
+cleared-written d a n l h = record {
+  len = length-cleared a n l h;
+  front = λ k b. List·getD-append (replicate n a) (drop n l) d k (omega (arith, length-replicate n a)) ∙ held n k b;
+  back = λ k b.
+      let m : n + (k - n) ≡ k = omega arith in
+      ap (λ i. getD (replicate n a ++ drop n l) i d) (sym (ap (λ x. x + (k - n)) (length-replicate n a) ∙ m))
+      ∙ getD-append-add (replicate n a) (drop n l) (k - n) d
+      ∙ getD-drop n l (k - n) d
+      ∙ ap (λ i. getD l i d) m;
+}
+  where
+    held : (n k : ℕ) → k < n → getD (replicate n a) k d ≡ a
+    held zero k b = absurd (omega arith)
+    held (suc n) zero b = refl
+    held (suc n) (suc k) b = held n k (omega arith)
+
+-- ---- a loop that clears, after i places of n
+pub record Clearing {A : Type 0} (a : A) (n : ℕ) (old new : List A) (i : ℕ) : Type 0 where
+  pub inside : i ≤ n
+  pub len : length new ≡ length old
+  pub so-far : new ≡ cleared a i old
+
+module _ {A : Type 0} (a : A) (n : ℕ) (old : List A) where
+  pub clearing-none : Clearing a n old old 0
+  clearing-none = record { inside = omega arith; len = refl; so-far = sym (cleared-none a old) }
+
+  pub clearing-more : (new : List A) (i : ℕ) → n ≤ length old → i < n → Clearing a n old new i → Clearing a n old (set new i a) (i + 1)
+  clearing-more new i room h c = record {
+    inside = omega arith;
+    len = length-set new i a ∙ c .len;
+    so-far = ap (λ l. set l i a) (c .so-far) ∙ cleared-more a i old (omega arith);
+  }
+
+  pub clearing-done : (new : List A) (i : ℕ) → n ≤ i → Clearing a n old new i → new ≡ cleared a n old
+  clearing-done new i h c = let e : i ≡ n = omega (arith, c .inside) in c .so-far ∙ ap (λ k. cleared a k old) e

@@ -1,0 +1,38 @@
+-- f32 weights: finite, with no minus sign, and at most a count. Every sum of confidences in the tables is one.
+use mathlib.Core.Path.{_≡_}
+use mathlib.Core.Bool.{Bool, true, false}
+use Prim.Native.Nat.{ℕ, _*_, _≤_}
+use lib.IntN.{pos}
+use lib.Ieee.{Float, nan, inf, fin, up, down, lt}
+
+-- 0 and 1
+abbrev pub zeroF : Float
+zeroF = fin false 0 (pos 0)
+
+abbrev pub oneF : Float
+oneF = fin false 1 (pos 0)
+
+-- finite, with no minus sign, and at most a
+abbrev pub Upto : Float → ℕ → Type 0
+Upto nan a = ⊥
+Upto (inf s) a = ⊥
+Upto (fin true m e) a = ⊥
+Upto (fin false m e) a = m * up e ≤ a * down e
+
+-- the same, or -0
+abbrev pub Weight : Float → ℕ → Type 0
+Weight nan a = ⊥
+Weight (inf s) a = ⊥
+Weight (fin true m e) a = m ≡ 0
+Weight (fin false m e) a = m * up e ≤ a * down e
+
+-- finite, with no minus sign
+abbrev pub weightlike : Float → Bool
+weightlike nan = false
+weightlike (inf s) = false
+weightlike (fin true m e) = false
+weightlike (fin false m e) = true
+
+-- weight i is greater than weight j
+abbrev pub heavier : (ℕ → Float) → ℕ → ℕ → Bool
+heavier w i j = lt (w j) (w i)

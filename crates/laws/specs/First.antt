@@ -89,3 +89,25 @@ module _ (p : ℕ → Bool) where
     pub first-before : (j : ℕ) → j < first p n → p j ≡ false
     unfolding first
     first-before j h = from-before 0 n j (omega arith) h
+
+-- ---- a search, before index i of n: no index passed so far
+pub record Searching (p : ℕ → Bool) (n i : ℕ) : Type 0 where
+  pub inside : i ≤ n
+  pub none-yet : (k : ℕ) → k < i → p k ≡ false
+
+module _ (p : ℕ → Bool) (n : ℕ) where
+  pub search-starts : Searching p n 0
+  search-starts = record { inside = omega arith; none-yet = λ k h. absurd (omega arith) }
+
+  pub search-goes-on : (i : ℕ) → i < n → Searching p n i → p i ≡ false → Searching p n (i + 1)
+  search-goes-on i h s e = record { inside = omega arith; none-yet = λ k l. ⊎-elim (λ q. rw q e) (s .none-yet k) (eq-or-lt-of-le (before k l)) }
+    where
+      before : (k : ℕ) → k < i + 1 → k ≤ i
+      before k l = omega arith
+
+  -- it stops at the first index that passes, or at the end
+  pub search-finds : (i : ℕ) → Searching p n i → p i ≡ true → i ≡ first p n
+  search-finds i s e = sym (first-least p n i (s .inside) (s .none-yet) (λ h. e))
+
+  pub search-ends : (i : ℕ) → n ≤ i → Searching p n i → i ≡ first p n
+  search-ends i h s = sym (first-least p n i (s .inside) (s .none-yet) (λ l. absurd (omega arith)))

@@ -1,0 +1,4 @@
+pub mod Rounding
+pub mod Scaled
+pub mod Fields
+pub mod Digits

@@ -1,0 +1,179 @@
+// The checks behind refusals 1 to 9. Each takes every input. A check of a list answers where: the first bad index, or the length.
+ghost use mathlib.Core.Path.{_≡_};
+ghost use mathlib.Core.Bool.{_||_, not};
+ghost use Rattle.board.specs.Hits.{edges};
+ghost use Rattle.checks.specs.Checks.{far, farAt, badCoordinate, badLikelihood, inRange, unlikelyAt, firstBadCoordinate, firstBadByte, firstBadConfidence, firstBadLikelihood, lengthsDiffer, sizeBad, fieldBad, confidenceBad, transformsBad, tableBad};
+
+// Whether a coordinate is outside -1,000,000 to 1,000,000.
+pub fn is_far(x: i32) -> bool
+    ensures { λ r. ⌜ r ≡ far x ⌝ }
+{
+    x < -1000000 || 1000000 < x
+}
+
+// Whether the coordinate at index i is outside; past the end there is none.
+pub fn far_at(xs: &[i32], i: usize) -> bool
+    ensures { λ r. ⌜ r ≡ farAt (now (xs .entry)) i ⌝ }
+{
+    if i < xs.len() { is_far(xs[i]) } else { false }
+}
+
+// Whether edge i has a row or column out of range.
+pub fn bad_coordinate_at(rows: &[i32], cols: &[i32], i: usize) -> bool
+    ensures { λ r. ⌜ r ≡ badCoordinate (now (rows .entry)) (now (cols .entry)) i ⌝ }
+{
+    far_at(rows, i) || far_at(cols, i)
+}
+
+// The first edge with a row or column out of range, or the number of rows.
+pub fn first_bad_coordinate(rows: &[i32], cols: &[i32]) -> usize
+    ensures { λ r. ⌜ r ≡ firstBadCoordinate (now (rows .entry)) (now (cols .entry)) ⌝ }
+{
+    let mut i = 0;
+    while i < rows.len() {
+        if bad_coordinate_at(rows, cols, i) {
+            return i;
+        }
+        i += 1;
+    }
+    i
+}
+
+// The first byte above top, or the length: orientations and bits (top 1), transform numbers and patterns (top 7).
+pub fn first_bad_byte(xs: &[u8], top: u8) -> usize
+    ensures { λ r. ⌜ r ≡ firstBadByte top (now (xs .entry)) ⌝ }
+{
+    let mut i = 0;
+    while i < xs.len() {
+        if top < xs[i] {
+            return i;
+        }
+        i += 1;
+    }
+    i
+}
+
+// Whether x is a number from 0 to top; -0 counts as 0, a NaN is none.
+pub fn in_range(x: f32, top: f32) -> bool
+    ensures { λ r. ⌜ r ≡ inRange top x ⌝ }
+{
+    0.0f32 <= x && x <= top
+}
+
+// The first confidence that is no number from 0 to 1, or the length.
+pub fn first_bad_confidence(xs: &[f32]) -> usize
+    ensures { λ r. ⌜ r ≡ firstBadConfidence (now (xs .entry)) ⌝ }
+{
+    let mut i = 0;
+    while i < xs.len() {
+        if !in_range(xs[i], 1.0f32) {
+            return i;
+        }
+        i += 1;
+    }
+    i
+}
+
+// Whether there is no acceptable likelihood at index i.
+pub fn unlikely_at(xs: &[f32], i: usize) -> bool
+    ensures { λ r. ⌜ r ≡ unlikelyAt (now (xs .entry)) i ⌝ }
+{
+    if i < xs.len() {
+        !likelihood::is_likelihood(xs[i])
+    } else {
+        true
+    }
+}
+
+// Whether edge i lacks an acceptable match or mismatch likelihood.
+pub fn bad_likelihood_at(matches: &[f32], mismatches: &[f32], i: usize) -> bool
+    ensures { λ r. ⌜ r ≡ badLikelihood (now (matches .entry)) (now (mismatches .entry)) i ⌝ }
+{
+    unlikely_at(matches, i) || unlikely_at(mismatches, i)
+}
+
+// The first edge with a likelihood that is not acceptable, or the number of match likelihoods.
+pub fn first_bad_likelihood(matches: &[f32], mismatches: &[f32]) -> usize
+    ensures { λ r. ⌜ r ≡ firstBadLikelihood (now (matches .entry)) (now (mismatches .entry)) ⌝ }
+{
+    let mut i = 0;
+    while i < matches.len() {
+        if bad_likelihood_at(matches, mismatches, i) {
+            return i;
+        }
+        i += 1;
+    }
+    i
+}
+
+// Whether the slices of one list differ in length.
+pub fn lengths_differ(
+    rows: &[i32],
+    cols: &[i32],
+    orientations: &[u8],
+    bits: &[u8],
+    confidences: &[f32],
+) -> bool
+    ensures { λ r. ⌜ r ≡ lengthsDiffer (edges (now (rows .entry)) (now (cols .entry)) (now (orientations .entry)) (now (bits .entry)) (now (confidences .entry))) ⌝ }
+{
+    let n = rows.len();
+    if n == cols.len() {
+        if n == orientations.len() {
+            if n == bits.len() {
+                return n != confidences.len();
+            }
+        }
+    }
+    true
+}
+
+// Whether a list has fewer than `least` edges or more than 8,192.
+pub fn size_bad(least: usize, n: usize) -> bool
+    ensures { λ r. ⌜ r ≡ sizeBad least n ⌝ }
+{
+    n < least || 8192 < n
+}
+
+// Whether a coordinate, an orientation code or a bit of the list is out of range.
+pub fn field_bad(rows: &[i32], cols: &[i32], orientations: &[u8], bits: &[u8]) -> bool
+    ensures { λ r. ⌜ r ≡ fieldBad (now (rows .entry)) (now (cols .entry)) (now (orientations .entry)) (now (bits .entry)) ⌝ }
+{
+    if first_bad_coordinate(rows, cols) < rows.len() {
+        return true;
+    }
+    if first_bad_byte(orientations, 1) < orientations.len() {
+        return true;
+    }
+    first_bad_byte(bits, 1) < bits.len()
+}
+
+// Whether a confidence of the list is out of range.
+pub fn confidence_bad(confidences: &[f32]) -> bool
+    ensures { λ r. ⌜ r ≡ confidenceBad (now (confidences .entry)) ⌝ }
+{
+    first_bad_confidence(confidences) < confidences.len()
+}
+
+// Whether there are no transforms, more than eight, or one above 7.
+pub fn transforms_bad(transforms: &[u8]) -> bool
+    ensures { λ r. ⌜ r ≡ transformsBad (now (transforms .entry)) ⌝ }
+{
+    let n = transforms.len();
+    if n == 0 {
+        return true;
+    }
+    if 8 < n {
+        return true;
+    }
+    first_bad_byte(transforms, 7) < n
+}
+
+// Whether a pattern table has not 167 entries, or one above 7.
+pub fn table_bad(patterns: &[u8]) -> bool
+    ensures { λ r. ⌜ r ≡ tableBad (now (patterns .entry)) ⌝ }
+{
+    if patterns.len() == 167 {
+        return first_bad_byte(patterns, 7) < 167;
+    }
+    true
+}

@@ -1,0 +1,3 @@
+// The public library: what a bench program calls. Every entry point takes all inputs, ends, and answers found or refused; a refusal carries no square.
+pub mod answer; // the answers: found with its floats, or refused with its number
+pub mod stats; // match statistics of one known placing

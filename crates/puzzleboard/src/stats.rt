@@ -1,0 +1,145 @@
+// Match statistics: how a list fits one known placing.
+ghost use mathlib.Core.Path.{_≡_};
+ghost use Prim.Native.Nat.{_≤_, _<_};
+ghost use Rattle.board.specs.Hits.{edges, tables};
+ghost use Rattle.checks.specs.Accepted.{StatsAccepted};
+ghost use Rattle.puzzleboard.specs.Stats.{added, hitsAndWeight, rateOf, meanOf, statsOf, statsAnswer};
+use crate::answer::MatchStats;
+use crate::answer::StatsAnswer;
+
+// Hits so far, and the sum of their confidences.
+pub struct HitsWeight {
+    pub hits: u32,
+    pub weight: f32,
+}
+
+// One edge more: a hit adds one and its confidence.
+pub fn add_edge(sum: HitsWeight, hit: bool, confidence: f32) -> HitsWeight
+    requires { ⌜ sum .hits < 8192 ⌝ }
+    ensures { λ r. ⌜ r ≡ added sum hit confidence ⌝ }
+{
+    if hit {
+        return HitsWeight {
+            hits: sum.hits + 1,
+            weight: sum.weight + confidence,
+        };
+    }
+    sum
+}
+
+// The hits of a list at one placing, and their confidences added in list order.
+pub fn count_hits(
+    rows: &[i32],
+    cols: &[i32],
+    orientations: &[u8],
+    bits: &[u8],
+    confidences: &[f32],
+    transform: u8,
+    row: u32,
+    col: u32,
+    h: &[u8],
+    v: &[u8],
+) -> HitsWeight
+    requires { ⌜ StatsAccepted
+        (edges (now rows) (now cols) (now orientations) (now bits) (now confidences))
+        transform row col (tables (now h) (now v)) ⌝ }
+    ensures { λ r. ⌜ r ≡ hitsAndWeight
+        (edges (now (rows .entry)) (now (cols .entry)) (now (orientations .entry)) (now (bits .entry)) (now (confidences .entry)))
+        transform row col (tables (now (h .entry)) (now (v .entry))) ⌝ }
+{
+    let mut sum = HitsWeight {
+        hits: 0,
+        weight: 0.0,
+    };
+    for i in 0..rows.len() {
+        let hit = board::pattern::is_hit(
+            h,
+            v,
+            rows[i],
+            cols[i],
+            orientations[i],
+            bits[i],
+            transform,
+            row,
+            col,
+        );
+        sum = add_edge(sum, hit, confidences[i]);
+    }
+    sum
+}
+
+// Misses over edges, one f32 division; 1 for no edges.
+pub fn rate(edges: u32, hits: u32) -> f32
+    requires { ⌜ (hits ≤ edges) × (edges ≤ 8192) ⌝ }
+    ensures { λ r. ⌜ r ≡ rateOf edges hits ⌝ }
+{
+    if edges == 0 {
+        return 1.0;
+    }
+    (edges - hits) as f32 / edges as f32
+}
+
+// The sum of the hits' confidences over the hits; 0 for no hits.
+pub fn mean(hits: u32, weight: f32) -> f32
+    requires { ⌜ hits ≤ 8192 ⌝ }
+    ensures { λ r. ⌜ r ≡ meanOf hits weight ⌝ }
+{
+    if hits == 0 {
+        return 0.0;
+    }
+    weight / hits as f32
+}
+
+// Edges, hits, rate and mean of one list at one known transform and origin, for all inputs.
+pub fn match_stats(
+    rows: &[i32],
+    cols: &[i32],
+    orientations: &[u8],
+    bits: &[u8],
+    confidences: &[f32],
+    transform: u8,
+    row: u32,
+    col: u32,
+    h: &[u8],
+    v: &[u8],
+) -> StatsAnswer
+    ensures { λ r. ⌜ r ≡ statsAnswer
+        (edges (now (rows .entry)) (now (cols .entry)) (now (orientations .entry)) (now (bits .entry)) (now (confidences .entry)))
+        transform row col (tables (now (h .entry)) (now (v .entry))) ⌝ }
+{
+    let refusal = checks::refusal::stats_refusal(
+        rows,
+        cols,
+        orientations,
+        bits,
+        confidences,
+        transform,
+        row,
+        col,
+        h,
+        v,
+    );
+    if refusal.number != 0 {
+        return StatsAnswer::Refused(refusal);
+    }
+    let counted = count_hits(
+        rows,
+        cols,
+        orientations,
+        bits,
+        confidences,
+        transform,
+        row,
+        col,
+        h,
+        v,
+    );
+    let edges = rows.len() as u32;
+    let hits = counted.hits;
+    StatsAnswer::Counted(MatchStats {
+        edges,
+        hits,
+        rate: rate(edges, hits),
+        mean: mean(hits, counted.weight),
+    })
+}

@@ -6,7 +6,7 @@ use lib.ListN.{length, take, drop, set, getD, replicate, length-append, length-r
 use native.Mathlib.Omega.{arith}
 use native.Mathlib.Numerals.{add-one}
 use lib.Seq.{set-at, drop-cons, getD-append-add, getD-drop}
-use Rattle.laws.specs.Written.{Written}
+use Rattle.laws.specs.Written.{Written, written-unique}
 
 -- what lies past the first n places; shut, since a literal n would unroll
 unfoldable pub surplus : {A : Type 0} → ℕ → List A → List A
@@ -72,3 +72,21 @@ module _ {A : Type 0} (a : A) (n : ℕ) (old : List A) where
 
   pub clearing-done : (new : List A) (i : ℕ) → n ≤ i → Clearing a n old new i → new ≡ cleared a n old
   clearing-done new i h c = let e : i ≡ n = omega (arith, c .inside) in c .so-far ∙ ap (λ k. cleared a k old) e
+
+-- ---- a list that is as it was from place n on
+pub record SameBeyond {A : Type 0} (d : A) (n : ℕ) (old new : List A) : Type 0 where
+  pub len : length new ≡ length old
+  pub same : (k : ℕ) → n ≤ k → getD new k d ≡ getD old k d
+
+module _ {A : Type 0} (d : A) (n : ℕ) where
+  pub beyond-refl : (l : List A) → SameBeyond d n l l
+  beyond-refl l = record { len = refl; same = λ k h. refl }
+
+  pub beyond-trans : (a b c : List A) → SameBeyond d n a b → SameBeyond d n b c → SameBeyond d n a c
+  beyond-trans a b c p q = record { len = q .len ∙ p .len; same = λ k h. q .same k h ∙ p .same k h }
+
+  -- once its first n places are cleared, nothing tells that they were used
+  pub cleared-forgets : (a : A) (old new : List A) → n ≤ length old → SameBeyond d n old new → cleared a n new ≡ cleared a n old
+  cleared-forgets a old new room s =
+      let w = cleared-written d a n new (omega (arith, s .len)) in
+      written-unique d (λ k. a) old (cleared a n new) (cleared a n old) n (record { len = w .len ∙ s .len; front = w .front; back = λ k h. w .back k h ∙ s .same k h }) (cleared-written d a n old room)

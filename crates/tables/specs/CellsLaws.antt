@@ -1,0 +1,175 @@
+-- Laws of cells: one family more, what all families hold, and the cell's count and weight against the edges.
+use mathlib.Core.Path.{_≡_, refl, sym, ap, ap₂, _∙_}
+use mathlib.Core.Bool.{Bool, true, false, not, _&&_, cond}
+use mathlib.Core.List.{List}
+use Prim.Native.Nat.{ℕ, zero, suc, _+_, _*_, _/_, _%_, _^_, _≤_, _<_}
+use native.Mathlib.Nat.{le-trans, le-of-eq, add-zero, add-assoc, add-comm, div-add-mod'}
+use native.Mathlib.Omega.{arith}
+use lib.Dec.{eqb, ltb, lit<, eqb·suc-zero}
+use lib.IntN.{ℤ, pos, _+ℤ_}
+use lib.ListN.{getD, length}
+use lib.Ieee.{Float, binary32, add}
+use borrow.Author.Tests.{lt-ltb}
+use Rattle.laws.specs.Tests.{and-ext}
+use Rattle.laws.specs.Fold.{fold, put, all, one, fold-zero, fold-hit, sum-some, sum-mono, sum-le}
+use Rattle.laws.specs.Counting.{count-le}
+use Rattle.laws.specs.DoubleCounting.{fold-ext, flatten, regroup, edge-by-edge}
+use Rattle.laws.specs.Remainder.{emod}
+use Rattle.laws.specs.RemainderLaws.{emod-lt, emod-add}
+use Rattle.laws.specs.Weights.{zeroF, Upto, Weight}
+use Rattle.laws.specs.WeightLaws.{sum-upto, upto-weight}
+use Rattle.laws.specs.Zone.{Zone}
+use Rattle.board.specs.Hits.{EdgeList, Board, size, seen, bitAt, patternBit, hit}
+use Rattle.board.specs.Sides.{onSide, tableOf, periodOf, longOf, shortOf, sideHits}
+use Rattle.board.specs.HitsLaws.{hit-side}
+use Rattle.tables.specs.Groups.{group, groupAt, member, groupCount, groupWeight, confidenceAt}
+use Rattle.tables.specs.Terms.{agrees, adds, termC, termW}
+use Rattle.tables.specs.TermsLaws.{same-termC, same-termW}
+use Rattle.tables.specs.Cells.{longClass, shortClass, patternAt, cellSum, family, familyC, familyW, cellCount}
+use Rattle.tables.specs.FillLaws.{group-below}
+use Rattle.tables.specs.Side.{total}
+
+-- ---- one family more, of any sum
+module _ {A : Type 0} (op : A → A → A) (z : A) (term : ℕ → ℕ → ℕ → A) (ps : List ℕ) where
+  pub cell-none : (lc s : ℕ) → cellSum op z term ps 0 lc s ≡ z
+  unfolding cellSum
+  cell-none lc s = fold-zero op z all _
+
+  pub cell-more : (f lc s : ℕ) → cellSum op z term ps (f + 1) lc s ≡ op (cellSum op z term ps f lc s) (term f (patternAt ps lc f) s)
+  unfolding cellSum
+  cell-more f lc s = fold-hit op z all _ f refl
+
+  -- families that add the same make the same cell
+  pub cell-same : (term' : ℕ → ℕ → ℕ → A) (n lc s : ℕ) → ((f : ℕ) → f < n → (p : ℕ) → term f p s ≡ term' f p s) → cellSum op z term ps n lc s ≡ cellSum op z term' ps n lc s
+  unfolding cellSum
+  cell-same term' n lc s e = fold-ext op z n all all _ _ (λ f l. refl) (λ f l. e f l (patternAt ps lc f))
+
+  -- a zone of cells with one family more
+  pub zone-family : (d : A) (lc sc : ℕ → ℕ) (at n f : ℕ) (old mid new : List A) → Zone d (λ k. cellSum op z term ps f (lc k) (sc k)) at n old mid
+      → Zone d (λ k. op (getD mid (at + k) d) (term f (patternAt ps (lc k) f) (sc k))) at n mid new → Zone d (λ k. cellSum op z term ps (f + 1) (lc k) (sc k)) at n old new
+  zone-family d lc sc at n f old mid new a b = record {
+    len = b .len ∙ a .len;
+    inside = λ k h. b .inside k h ∙ ap (λ x. op x (term f (patternAt ps (lc k) f) (sc k))) (a .inside k h) ∙ sym (cell-more f (lc k) (sc k));
+    below = λ k h. b .below k h ∙ a .below k h;
+    above = λ k h. b .above k h ∙ a .above k h;
+  }
+
+-- ---- groups that hold the same make the same cells
+same-family : {A : Type 0} (g g' : ℕ → A) (n : ℕ) → ((k : ℕ) → k < n * 6 → g k ≡ g' k) → (f : ℕ) → f < n → (j : ℕ) → j < 6 → family g f j ≡ family g' f j
+same-family g g' n e f h j l = e (f * 6 + j) (omega arith)
+
+module _ (g g' : ℕ → ℕ) (n : ℕ) (e : (k : ℕ) → k < n * 6 → g k ≡ g' k) (ps : List ℕ) (lc s : ℕ) where
+  pub same-cellC : cellSum _+_ 0 (familyC g) ps n lc s ≡ cellSum _+_ 0 (familyC g') ps n lc s
+  same-cellC = cell-same _+_ 0 (familyC g) ps (familyC g') n lc s (λ f h p. same-termC 6 (family g f) (family g' f) p s (same-family g g' n e f h))
+
+  pub same-cellW : (w w' : ℕ → Float) → ((k : ℕ) → k < n * 6 → w k ≡ w' k) → cellSum (add binary32) zeroF (familyW g w) ps n lc s ≡ cellSum (add binary32) zeroF (familyW g' w') ps n lc s
+  same-cellW w w' i = cell-same (add binary32) zeroF (familyW g w) ps (familyW g' w') n lc s
+      (λ f h p. same-termW 6 (family g f) (family g' f) p s (same-family g g' n e f h) (family w f) (family w' f) (same-family w w' n i f h))
+
+-- ---- a cell has no more than all groups together
+pub total-mono : (g : ℕ → ℕ) (f n : ℕ) → f ≤ n → total g f ≤ total g n
+unfolding total
+total-mono g f n h = sum-mono all g (f * 6) (n * 6) (omega arith)
+
+by-family : (g : ℕ → ℕ) (n : ℕ) → fold _+_ 0 n all (λ f. fold _+_ 0 6 all (family g f)) ≡ total g n
+unfolding total
+by-family g n = flatten _+_ 0 add-zero add-assoc add-comm 6 n (λ f. all) (family g) ∙ fold-ext _+_ 0 (n * 6) all all (λ k. g (k / 6 * 6 + k % 6)) g (λ k l. refl) (λ k l. ap g (div-add-mod' k 6))
+
+pub cell-total : (g : ℕ → ℕ) (ps : List ℕ) (n lc s : ℕ) → cellSum _+_ 0 (familyC g) ps n lc s ≤ total g n
+unfolding cellSum termC
+cell-total g ps n lc s =
+    le-trans
+    (sum-le n (λ f. fold _+_ 0 6 (adds (family g f) (patternAt ps lc f) s) (family g f)) (λ f. fold _+_ 0 6 all (family g f)) (λ f. sum-some (adds (family g f) (patternAt ps lc f) s) (family g f) 6))
+    (le-of-eq (by-family g n))
+
+-- nor has a family
+pub family-total : (g : ℕ → ℕ) (f n : ℕ) → f < n → fold _+_ 0 6 all (family g f) ≤ total g n
+family-total g f n h =
+    let b = fold-hit _+_ 0 all (λ f. fold _+_ 0 6 all (family g f)) f refl in
+    let m : total g (f + 1) ≤ total g n = total-mono g (f + 1) n (omega arith) in
+    omega (arith, b, by-family g (f + 1))
+
+-- ---- weights: at most the counts
+module _ (g : ℕ → ℕ) (w : ℕ → Float) (n : ℕ) (small : (k : ℕ) → k < n * 6 → Weight (w k) (g k)) (few : total g n ≤ 2 ^ 24) where
+  term-upto : (f : ℕ) → f < n → (p s : ℕ) → Upto (familyW g w f p s) (familyC g f p s)
+  unfolding termC termW
+  term-upto f h p s =
+      let a : fold _+_ 0 6 (adds (family g f) p s) (family g f) ≤ fold _+_ 0 6 all (family g f) = sum-some (adds (family g f) p s) (family g f) 6 in
+      sum-upto (adds (family g f) p s) (family w f) (family g f) 6 (λ j l. small (f * 6 + j) (omega arith)) (omega (arith, family-total g f n h))
+
+  pub cell-upto : (ps : List ℕ) (lc s : ℕ) → Upto (cellSum (add binary32) zeroF (familyW g w) ps n lc s) (cellSum _+_ 0 (familyC g) ps n lc s)
+  unfolding cellSum
+  cell-upto ps lc s =
+      sum-upto all (λ f. familyW g w f (patternAt ps lc f) s) (λ f. familyC g f (patternAt ps lc f) s) n
+      (λ f l. upto-weight (familyW g w f (patternAt ps lc f) s) (familyC g f (patternAt ps lc f) s) (term-upto f l (patternAt ps lc f) s))
+      (le-trans (cell-total g ps n lc s) few)
+
+-- ---- the counts are those of the edges
+keep-zero : (b : Bool) (a x : ℕ) → put _+_ (not (eqb x 0) && b) a x ≡ put _+_ b a x
+keep-zero true a zero = sym (add-zero a)
+keep-zero false a zero = refl
+keep-zero b a (suc x) = rw eqb·suc-zero
+
+-- an empty group adds nothing to a count
+skip-zeros : (n : ℕ) (c : ℕ → ℕ) (p s : ℕ) → fold _+_ 0 n (adds c p s) c ≡ fold _+_ 0 n (agrees p s) c
+unfolding fold
+skip-zeros zero c p s = refl
+skip-zeros (suc n) c p s = keep-zero (agrees p s n) (fold _+_ 0 n (adds c p s) c) (c n) ∙ ap (λ a. put _+_ (agrees p s n) a (c n)) (skip-zeros n c p s)
+
+-- a group's number, taken apart
+group-parts : (l s b : ℕ) → s < 3 → b < 2 → let k = l * 6 + s * 2 + b in (k / 6 ≡ l) × (k % 6 / 2 ≡ s) × (k % 6 % 2 ≡ b)
+group-parts l s b h k = (omega arith, omega arith, omega arith)
+
+-- a coordinate moved by r
+moved : (x : ℤ) (r n : ℕ) → 0 < n → (r + emod x n) % n ≡ emod (x +ℤ pos r) n
+moved x r n h = ap (λ a. a % n) (add-comm r (emod x n)) ∙ emod-add x r n h
+
+-- one edge with long and short coordinates x and y and bit b: its group agrees at the class (a, s) where the pattern's bit is the edge's
+group-agrees : (ps : List ℕ) → 0 < length ps → (x y : ℤ) (b : ℕ) → b < 2 → (a s : ℕ) → let k = group (length ps) x y b in
+    agrees (patternAt ps a (k / 6)) s (k % 6) ≡ eqb (patternBit ps (x +ℤ pos a) (y +ℤ pos s)) b
+group-agrees ps some x y b h a s =
+    let k = group-parts (emod x (length ps)) (emod y 3) b (emod-lt y 3 (lit< tt)) h in
+    rw (k .0, k .1, k .2) (ap₂ (λ (p j : ℕ). eqb (bitAt (getD ps p 0) j) b) (moved x a (length ps) some) (moved y s 3 (lit< tt)))
+
+module _ (B : Board) (E : EdgeList) (t : ℕ) (some : (s : Bool) → 0 < periodOf B s) (bits : (i : ℕ) → i < size E → seen E i < 2) where
+  -- an edge's group is one of its side's, and agrees at a class where the edge is a hit
+  pub in-table : (s : Bool) (i : ℕ) → i < size E → ltb (groupAt B E t s i) (periodOf B s * 6) ≡ true
+  unfolding groupAt
+  in-table s i l = lt-ltb _ _ (group-below (periodOf B s) (longOf E t s i) (shortOf E t s i) (seen E i) (some s) (bits i l))
+
+  pub hit-group : (s : Bool) (r c i : ℕ) → i < size E → onSide E t s i ≡ true
+      → agrees (patternAt (tableOf B s) (cond s r c) (groupAt B E t s i / 6)) (cond s c r) (groupAt B E t s i % 6) ≡ hit B E t r c i
+  unfolding groupAt
+  hit-group s r c i l e =
+      group-agrees (tableOf B s) (some s) (longOf E t s i) (shortOf E t s i) (seen E i) (bits i l) (cond s r c) (cond s c r) ∙ sym (hit-side B E t s r c i e)
+
+  -- what the families add up to is the hits of the side at the class
+  pub cell-side : (s : Bool) (r c : ℕ) → cellSum _+_ 0 (familyC (groupCount B E t s)) (tableOf B s) (periodOf B s) (cond s r c) (cond s c r) ≡ sideHits B E t s r c
+  unfolding cellSum termC sideHits
+  cell-side s r c =
+      let g = groupCount B E t s in
+      let P : ℕ → ℕ → Bool = λ f j. agrees (patternAt (tableOf B s) (cond s r c) f) (cond s c r) j in
+      fold-ext _+_ 0 (periodOf B s) all all
+      (λ f. fold _+_ 0 6 (adds (family g f) (patternAt (tableOf B s) (cond s r c) f) (cond s c r)) (family g f))
+      (λ f. fold _+_ 0 6 (P f) (family g f))
+      (λ f l. refl) (λ f l. skip-zeros 6 (family g f) (patternAt (tableOf B s) (cond s r c) f) (cond s c r))
+      ∙ edge-by-edge _+_ 0 add-zero add-assoc add-comm 6 (periodOf B s) (size E) (onSide E t s) (groupAt B E t s) P one
+      ∙ fold-ext _+_ 0 (size E) _ _ one one (λ i l. and-ext (onSide E t s i) (λ e. ap₂ _&&_ (in-table s i l) (hit-group s r c i l e))) (λ i l. refl)
+
+  -- the same by cell
+  pub cell-count : (s : Bool) (k : ℕ) → cellSum _+_ 0 (familyC (groupCount B E t s)) (tableOf B s) (periodOf B s) (longClass B s k) (shortClass B s k) ≡ cellCount B E t s k
+  unfolding longClass shortClass cellCount
+  cell-count true k = cell-side true (k / 3) (k % 3)
+  cell-count false k = cell-side false (k / periodOf B false) (k % periodOf B false)
+
+-- ---- all groups of a side have no more edges than the list
+pub total-edges : (B : Board) (E : EdgeList) (t : ℕ) (s : Bool) (n : ℕ) → total (groupCount B E t s) n ≤ size E
+unfolding total
+total-edges B E t s n =
+    le-trans
+    (le-of-eq (regroup _+_ 0 add-zero add-assoc add-comm (n * 6) (size E) (onSide E t s) (groupAt B E t s) all one))
+    (count-le (λ i. onSide E t s i && (ltb (groupAt B E t s i) (n * 6) && true)) (size E))
+
+-- and a group's weight is at most its count
+pub group-upto : (B : Board) (E : EdgeList) (t : ℕ) → size E ≤ 2 ^ 24 → ((i : ℕ) → i < size E → Weight (confidenceAt E i) 1) → (s : Bool) (k : ℕ) → Upto (groupWeight B E t s k) (groupCount B E t s k)
+group-upto B E t h c s k = sum-upto (member B E t s k) (confidenceAt E) one (size E) c (le-trans (count-le (member B E t s k) (size E)) h)

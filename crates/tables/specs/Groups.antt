@@ -1,0 +1,50 @@
+-- Document 01, 'Class tables': groups. "Each edge's confidence is added, in list order, to its group (long residue, short residue, bit), from 0."
+use mathlib.Core.Bool.{Bool, _&&_, cond}
+use Prim.Native.Nat.{ℕ, _+_, _*_, _≤_, _<_}
+use lib.Dec.{eqb}
+use lib.ListN.{getD}
+use lib.IntN.{ℤ}
+use lib.Ieee.{Float, nan, binary32, add}
+use Rattle.laws.specs.Fold.{fold, count}
+use Rattle.laws.specs.Remainder.{emod}
+use Rattle.laws.specs.Weights.{zeroF}
+use Rattle.board.specs.declared.transform.EdgeLookup.{EdgeLookup}
+use Rattle.board.specs.Hits.{EdgeList, Board, size, seen, horizontal}
+use Rattle.board.specs.Sides.{onSide, periodOf, longOf, shortOf}
+
+-- (long residue, short residue, bit) as one number, of an edge with these coordinates and this bit
+abbrev pub group : ℕ → ℤ → ℤ → ℕ → ℕ
+group period long short bit = emod long period * 6 + emod short 3 * 2 + bit
+
+-- the group of edge i on the side s
+unfoldable pub groupAt : Board → EdgeList → ℕ → Bool → ℕ → ℕ
+groupAt B E t s i = group (periodOf B s) (longOf E t s i) (shortOf E t s i) (seen E i)
+
+-- edge i lies on the side s, in its group k
+abbrev pub member : Board → EdgeList → ℕ → Bool → ℕ → ℕ → Bool
+member B E t s k i = onSide E t s i && eqb (groupAt B E t s i) k
+
+-- edge i's confidence
+abbrev pub confidenceAt : EdgeList → ℕ → Float
+confidenceAt E i = getD (E .confidences) i nan
+
+-- how many edges a group has
+abbrev pub groupCount : Board → EdgeList → ℕ → Bool → ℕ → ℕ
+groupCount B E t s k = count (size E) (member B E t s k)
+
+-- their confidences, added in list order from 0
+abbrev pub groupWeight : Board → EdgeList → ℕ → Bool → ℕ → Float
+groupWeight B E t s k = fold (add binary32) zeroF (size E) (member B E t s k) (confidenceAt E)
+
+-- ---- where a group stands when the groups of both sides stand in one row, the horizontal ones first; L and M are the periods
+abbrev pub placeOf : ℕ → ℕ → EdgeLookup → ℕ → ℕ
+placeOf L M l bit = cond (horizontal l) (group L (l .row) (l .col) bit) (L * 6 + group M (l .col) (l .row) bit)
+
+-- how many places that row has
+abbrev pub rowLength : ℕ → ℕ → ℕ
+rowLength L M = (L + M) * 6
+
+-- periods of two accepted tables
+pub record Periods (L M : ℕ) : Type 0 where
+  pub some : (0 < L) × (0 < M)
+  pub few : (L ≤ 500) × (M ≤ 500)

@@ -1,0 +1,81 @@
+-- Building a side, family by family: each family is ready to be credited, and credited it is one more in the cells.
+use mathlib.Core.Path.{_≡_, refl, sym, ap, ap₂, _∙_}
+use mathlib.Core.Bool.{Bool}
+use mathlib.Core.List.{List}
+use Prim.Native.Nat.{ℕ, _+_, _*_, _≤_, _<_}
+use native.Mathlib.Nat.{add-assoc}
+use native.Mathlib.Omega.{arith}
+use lib.ListN.{getD}
+use lib.Ieee.{Float, nan, binary32, add}
+use Rattle.laws.specs.Fold.{all}
+use Rattle.laws.specs.DoubleCounting.{fold-ext}
+use Rattle.laws.specs.Weights.{zeroF}
+use Rattle.laws.specs.WeightLaws.{upto-weightlike}
+use Rattle.laws.specs.Zone.{Zone, zone-none, zone-ext}
+use Rattle.board.specs.Hits.{Board}
+use Rattle.board.specs.Sides.{tableOf, periodOf}
+use Rattle.tables.specs.Terms.{placesN, placesF}
+use Rattle.tables.specs.TermsLaws.{same-termC, same-termW}
+use Rattle.tables.specs.Cells.{longClass, shortClass, cellSum, family, familyC, familyW}
+use Rattle.tables.specs.CellsLaws.{cell-none, cell-more, zone-family, cell-total, family-total, total-mono, cell-upto}
+use Rattle.tables.specs.Credit.{cellPattern, gainC, gainW, FamilyReady, FamilyCredited}
+use Rattle.tables.specs.Side.{total, SideReady, SideCells}
+
+-- what stands past the cells is as it was: place j of family f's groups
+pub same-groups : {A : Type 0} (d : A) (Q : ℕ → A) (cells n groups : ℕ) (x x' : List A) → cells + n ≤ groups → Zone d Q cells n x x' → (f j : ℕ) → getD x' (groups + f * 6 + j) d ≡ getD x (groups + (f * 6 + j)) d
+same-groups d Q cells n groups x x' apart z f j = z .above (groups + f * 6 + j) (omega arith) ∙ ap (λ k. getD x k d) (add-assoc groups (f * 6) j)
+
+module _ (B : Board) (s : Bool) (long short cells groups : ℕ) (c : List ℕ) (w : List Float) (R : SideReady B s long short cells groups c w) where
+  pub side-none : SideCells B s cells groups 0 c c w w
+  side-none = record {
+    counts = zone-none 0 _ cells (3 * periodOf B s) c (λ k h. R .clearC k h ∙ sym (cell-none _+_ 0 (familyC (placesN groups c)) (tableOf B s) (longClass B s k) (shortClass B s k)));
+    weights = zone-none nan _ cells (3 * periodOf B s) w (λ k h. R .clearW k h ∙ sym (cell-none (add binary32) zeroF (familyW (placesN groups c) (placesF groups w)) (tableOf B s) (longClass B s k) (shortClass B s k)));
+  }
+
+  -- the first f families are in, and family f comes next
+  module _ (f : ℕ) (h : f < periodOf B s) (c' : List ℕ) (w' : List Float) (b : SideCells B s cells groups f c c' w w') where
+    groupsC : (j : ℕ) → j < 6 → placesN (groups + f * 6) c' j ≡ family (placesN groups c) f j
+    groupsC j l = same-groups 0 _ cells (3 * periodOf B s) groups c c' (R .apart) (b .counts) f j
+
+    groupsW : (j : ℕ) → j < 6 → placesF (groups + f * 6) w' j ≡ family (placesF groups w) f j
+    groupsW j l = same-groups nan _ cells (3 * periodOf B s) groups w w' (R .apart) (b .weights) f j
+
+    gain-count : (k : ℕ) → gainC B s f (groups + f * 6) c' k ≡ familyC (placesN groups c) f (cellPattern B s f k) (shortClass B s k)
+    gain-count k = same-termC 6 _ _ (cellPattern B s f k) (shortClass B s k) groupsC
+
+    gain-weight : (k : ℕ) → gainW B s f (groups + f * 6) c' w' k ≡ familyW (placesN groups c) (placesF groups w) f (cellPattern B s f k) (shortClass B s k)
+    gain-weight k = same-termW 6 _ _ (cellPattern B s f k) (shortClass B s k) groupsC _ _ groupsW
+
+    -- the count with the family in
+    next : (k : ℕ) → k < 3 * periodOf B s
+        → placesN cells c' k + gainC B s f (groups + f * 6) c' k ≡ cellSum _+_ 0 (familyC (placesN groups c)) (tableOf B s) (f + 1) (longClass B s k) (shortClass B s k)
+    next k l = ap₂ _+_ (b .counts .inside k l) (gain-count k) ∙ sym (cell-more _+_ 0 (familyC (placesN groups c)) (tableOf B s) f (longClass B s k) (shortClass B s k))
+
+    pub family-ready : FamilyReady B s f long short cells groups c' w'
+    family-ready = record {
+      places = record { board = R .board; steps = R .steps; in-table = h };
+      six = record {
+        counts = omega (arith, R .room .0, b .counts .len);
+        weights = omega (arith, R .room .1, b .weights .len);
+        few = omega (arith, fold-ext _+_ 0 6 all all (placesN (groups + f * 6) c') (family (placesN groups c) f) (λ j l. refl) groupsC, family-total (placesN groups c) f (periodOf B s) h, R .few);
+      };
+      room = (omega (arith, R .apart, R .room .0, b .counts .len), omega (arith, R .apart, R .room .1, b .weights .len));
+      fits = λ k l.
+          let a : cellSum _+_ 0 (familyC (placesN groups c)) (tableOf B s) (f + 1) (longClass B s k) (shortClass B s k) ≤ total (placesN groups c) (f + 1) = cell-total (placesN groups c) (tableOf B s) (f + 1) (longClass B s k) (shortClass B s k) in
+          let m : total (placesN groups c) (f + 1) ≤ total (placesN groups c) (periodOf B s) = total-mono (placesN groups c) (f + 1) (periodOf B s) (omega arith) in
+          omega (arith, next k l, R .few);
+      plain = λ k l.
+          rw (b .weights .inside k l)
+          (upto-weightlike (cellSum (add binary32) zeroF (familyW (placesN groups c) (placesF groups w)) (tableOf B s) f (longClass B s k) (shortClass B s k)) (cellSum _+_ 0 (familyC (placesN groups c)) (tableOf B s) f (longClass B s k) (shortClass B s k))
+          (cell-upto (placesN groups c) (placesF groups w) f (λ j m. R .light j (omega arith)) (omega (arith, R .few, total-mono (placesN groups c) f (periodOf B s) (omega arith))) (tableOf B s) (longClass B s k) (shortClass B s k)));
+    }
+
+    pub side-more : (c'' : List ℕ) (w'' : List Float) → FamilyCredited B s f cells groups c' c'' w' w'' → SideCells B s cells groups (f + 1) c c'' w w''
+    side-more c'' w'' p = record {
+      counts =
+          zone-family _+_ 0 (familyC (placesN groups c)) (tableOf B s) 0 (longClass B s) (shortClass B s) cells (3 * periodOf B s) f c c' c'' (b .counts)
+          (zone-ext 0 _ _ cells (3 * periodOf B s) c' c'' (λ k l. ap (λ x. placesN cells c' k + x) (gain-count k)) (p .counts));
+      weights =
+          zone-family (add binary32) zeroF (familyW (placesN groups c) (placesF groups w)) (tableOf B s) nan (longClass B s) (shortClass B s) cells (3 * periodOf B s) f w w' w'' (b .weights)
+          (zone-ext nan _ _ cells (3 * periodOf B s) w' w'' (λ k l. ap (add binary32 (placesF cells w' k)) (gain-weight k)) (p .weights));
+    }

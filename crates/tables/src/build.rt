@@ -1,0 +1,76 @@
+// The class tables of one transform, in lent room.
+ghost use lib.Dec.{eqb};
+ghost use Rattle.board.specs.Hits.{edges, tables};
+ghost use Rattle.tables.specs.Side.{SideReady, SideBuilt};
+ghost use Rattle.tables.specs.Room.{TablesReady, TablesBuilt};
+
+// Adds all families of one side to its cells, by rising long residue. The cells were cleared, and the groups stand.
+pub fn build_side<'a>(
+    h: &'a [u8],
+    v: &'a [u8],
+    orientation: u8,
+    long: usize,
+    short: usize,
+    cells: usize,
+    groups: usize,
+    counts: &mut [u32],
+    weights: &mut [f32],
+)
+    requires { ⌜ SideReady (tables (now h) (now v)) (eqb orientation 0) long short cells groups (now counts) (now weights) ⌝ }
+    ensures { λ _. ⌜ SideBuilt (tables (now (h .entry)) (now (v .entry))) (eqb orientation 0) cells groups (now (counts .entry)) (now (counts .exit)) (now (weights .entry)) (now (weights .exit)) ⌝ }
+{
+    let period = board::pattern::patterns_from(h, v, orientation, 0).len();
+    for family in 0..period {
+        crate::credit::credit_family(
+            h,
+            v,
+            orientation,
+            family,
+            long,
+            short,
+            cells,
+            groups,
+            counts,
+            weights,
+        );
+    }
+}
+
+// The tables of one transform: the used room is cleared, the groups are filled, then the horizontal cells are built, then the vertical ones.
+pub fn build_tables<'a>(
+    rows: &[i32],
+    cols: &[i32],
+    orientations: &[u8],
+    bits: &[u8],
+    confidences: &[f32],
+    t: u8,
+    h: &'a [u8],
+    v: &'a [u8],
+    counts: &mut [u32],
+    weights: &mut [f32],
+)
+    requires { ⌜ TablesReady (tables (now h) (now v)) (edges (now rows) (now cols) (now orientations) (now bits) (now confidences)) t (now counts) (now weights) ⌝ }
+    ensures { λ _. ⌜ TablesBuilt (tables (now (h .entry)) (now (v .entry))) (edges (now (rows .entry)) (now (cols .entry)) (now (orientations .entry)) (now (bits .entry)) (now (confidences .entry))) t (now (counts .entry)) (now (counts .exit)) (now (weights .entry)) (now (weights .exit)) ⌝ }
+{
+    let len = h.len();
+    let tall = v.len();
+    let base = 3 * len + 3 * tall;
+    let end = base + (len + tall) * 6;
+    laws::clear_u32(counts, end);
+    laws::clear_f32(weights, end);
+    crate::groups::fill_groups(
+        rows,
+        cols,
+        orientations,
+        bits,
+        confidences,
+        t,
+        len as u32,
+        tall as u32,
+        base,
+        counts,
+        weights,
+    );
+    build_side(h, v, 0, 3, 1, 0, base, counts, weights);
+    build_side(h, v, 1, 1, tall, 3 * len, base + len * 6, counts, weights);
+}

@@ -1,0 +1,58 @@
+// Groups: the edges of one side that share long residue, short residue and bit. A group's number is long · 6 + short · 2 + bit.
+ghost use mathlib.Core.Path.{_≡_};
+ghost use Prim.Native.Nat.{_+_, _*_, _<_, _≤_};
+ghost use lib.ListN.{length};
+ghost use Rattle.board.specs.Transform.{lookupOf};
+ghost use Rattle.board.specs.Hits.{edges};
+ghost use Rattle.board.specs.Domain.{EdgeOk};
+ghost use Rattle.tables.specs.Groups.{group, placeOf, Periods};
+ghost use Rattle.tables.specs.Fill.{FillReady, Filled};
+
+// The group of an edge by its long and short coordinate and its bit.
+pub fn group_of(long: i32, short: i32, bit: u8, period: u32) -> u32
+    requires { ⌜ (0 < period) × (period ≤ 500) × (bit < 2) ⌝ }
+    ensures { λ r. ⌜ (r ≡ group period long short bit) × (r < period * 6) ⌝ }
+{
+    laws::rem_euclid(long, period) * 6 + laws::rem_euclid(short, 3) * 2 + bit as u32
+}
+
+// Where an edge's group stands when the groups of both sides stand in one row, the horizontal ones first.
+pub fn group_place(row: i32, col: i32, orientation: u8, bit: u8, t: u8, len: u32, tall: u32) -> u32
+    requires { ⌜ EdgeOk row col bit t ⌝ }
+    requires { ⌜ Periods len tall ⌝ }
+    ensures { λ p. ⌜ (p ≡ placeOf len tall (lookupOf t row col orientation) bit) × (p < (len + tall) * 6) ⌝ }
+{
+    let l = board::transform::transform_edge_lookup(t, row, col, orientation);
+    let r = l.row;
+    let c = l.col;
+    if l.orientation == 0 {
+        group_of(r, c, bit, len)
+    } else {
+        len * 6 + group_of(c, r, bit, tall)
+    }
+}
+
+// Adds each edge to its group, in list order: one to the count, its confidence to the weight. The groups stand from `base` on.
+pub fn fill_groups(
+    rows: &[i32],
+    cols: &[i32],
+    orientations: &[u8],
+    bits: &[u8],
+    confidences: &[f32],
+    t: u8,
+    len: u32,
+    tall: u32,
+    base: usize,
+    counts: &mut [u32],
+    weights: &mut [f32],
+)
+    requires { ⌜ FillReady len tall (edges (now rows) (now cols) (now orientations) (now bits) (now confidences)) t base (now counts) (now weights) ⌝ }
+    ensures { λ _. ⌜ Filled len tall (edges (now (rows .entry)) (now (cols .entry)) (now (orientations .entry)) (now (bits .entry)) (now (confidences .entry))) t base (length (now (rows .entry))) (now (counts .entry)) (now (counts .exit)) (now (weights .entry)) (now (weights .exit)) ⌝ }
+{
+    for i in 0..rows.len() {
+        let p = group_place(rows[i], cols[i], orientations[i], bits[i], t, len, tall);
+        let at = base + p as usize;
+        counts[at] += 1;
+        weights[at] += confidences[i];
+    }
+}

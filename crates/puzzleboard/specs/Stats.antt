@@ -1,7 +1,7 @@
 -- Document 01, end of 'Refusal numbers': match statistics. "edges, hits, rate, and mean over hits added in list order; no edges: rate 1; no hits: mean 0."
 use mathlib.Core.Bool.{Bool, true, false, cond}
 use mathlib.Core.List.{List}
-use Prim.Native.Nat.{ℕ, _+_, _-_}
+use Prim.Native.Nat.{ℕ, _+_}
 use lib.Dec.{eqb}
 use lib.ListN.{getD}
 use lib.IntN.{pos}
@@ -9,6 +9,7 @@ use lib.Ieee.{Float, nan, binary32, add, div, ofInt}
 use Rattle.laws.specs.Fold.{fold, put}
 use Rattle.laws.specs.Weights.{zeroF, oneF}
 use Rattle.board.specs.Hits.{EdgeList, Board, size, hit, hits}
+use Rattle.hard.specs.Scan.{rateOf}
 use Rattle.checks.specs.declared.refusal.Refusal.{Refusal}
 use Rattle.puzzleboard.specs.declared.answer.MatchStats.{MatchStats}
 use Rattle.puzzleboard.specs.declared.answer.StatsAnswer.{StatsAnswer}
@@ -16,9 +17,9 @@ use Rattle.puzzleboard.specs.declared.answer.StatsAnswer.the-variants.{C
 use Rattle.puzzleboard.specs.declared.stats.HitsWeight.{HitsWeight}
 use Rattle.checks.specs.Refusals.{statsRefusal}
 
--- "Rate = misses / edges, one f32 division"; no edges: 1
-unfoldable pub rateOf : ℕ → ℕ → Float
-rateOf edges hits = cond (eqb edges 0) oneF (div binary32 (ofInt binary32 (pos (edges - hits))) (ofInt binary32 (pos edges)))
+-- hard selection's rate; no edges: 1
+unfoldable pub statsRate : ℕ → ℕ → Float
+statsRate edges hits = cond (eqb edges 0) oneF (rateOf edges hits)
 
 -- "Mean confidence = weight / hits, 0 for no hits"
 unfoldable pub meanOf : ℕ → Float → Float
@@ -33,7 +34,7 @@ unfoldable pub statsOf : EdgeList → ℕ → ℕ → ℕ → Board → MatchSta
 statsOf E t row col B = record {
   edges = size E;
   hits = hits B E t row col;
-  rate = rateOf (size E) (hits B E t row col);
+  rate = statsRate (size E) (hits B E t row col);
   mean = meanOf (hits B E t row col) (hitWeight B E t row col (size E));
 }
 

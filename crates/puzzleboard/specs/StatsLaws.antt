@@ -20,7 +20,7 @@ use Rattle.puzzleboard.specs.declared.answer.StatsAnswer.the-variants.{C
 use Rattle.puzzleboard.specs.declared.stats.HitsWeight.{HitsWeight}
 use Rattle.checks.specs.Refusals.{statsRefusal}
 use Rattle.checks.specs.Accepted.{StatsAccepted}
-use Rattle.puzzleboard.specs.Stats.{rateOf, meanOf, hitWeight, statsOf, statsAnswer, orCounted, added, hitsAndWeight}
+use Rattle.puzzleboard.specs.Stats.{statsRate, meanOf, hitWeight, statsOf, statsAnswer, orCounted, added, hitsAndWeight}
 
 module _ (E : EdgeList) (t row col : ℕ) (B : Board) where
   -- after n edges
@@ -61,8 +61,8 @@ module _ (E : EdgeList) (t row col : ℕ) (B : Board) where
   stats-refused r e n = let f : eqb (statsRefusal E t row col B .number) 0 ≡ false = ap (λ (x : Refusal). eqb (x .number) 0) (sym e) ∙ ne-eqb (r .number) 0 n in rw f (ap Refused e)
 
   pub stats-counted : (r : Refusal) (c : HitsWeight) (s : MatchStats) → r ≡ statsRefusal E t row col B → r .number ≡ 0 → c ≡ hitsAndWeight E t row col B
-      → s ≡ record { edges = size E; hits = c .hits; rate = rateOf (size E) (c .hits); mean = meanOf (c .hits) (c .weight) } → Counted s ≡ statsAnswer E t row col B
+      → s ≡ record { edges = size E; hits = c .hits; rate = statsRate (size E) (c .hits); mean = meanOf (c .hits) (c .weight) } → Counted s ≡ statsAnswer E t row col B
   unfolding statsAnswer statsOf hitsAndWeight
   stats-counted r c s e z k d =
       let f : eqb (statsRefusal E t row col B .number) 0 ≡ true = ap (λ (x : Refusal). eqb (x .number) 0) (sym e) ∙ eq-eqb (r .number) 0 z in
-      rw f (ap Counted (d ∙ ap (λ (x : HitsWeight). record { edges = size E; hits = x .hits; rate = rateOf (size E) (x .hits); mean = meanOf (x .hits) (x .weight) }) k))
+      rw f (ap Counted (d ∙ ap (λ (x : HitsWeight). record { edges = size E; hits = x .hits; rate = statsRate (size E) (x .hits); mean = meanOf (x .hits) (x .weight) }) k))

@@ -1,3 +1,4 @@
 // The public library: what a bench program calls. Every entry point takes all inputs, ends, and answers found or refused; a refusal carries no square.
 pub mod answer; // the answers: found with its floats, or refused with its number
+pub mod hard_decode; // hard decode: the square by hits
 pub mod stats; // match statistics of one known placing

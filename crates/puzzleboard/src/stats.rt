@@ -3,7 +3,7 @@ ghost use mathlib.Core.Path.{_≡_};
 ghost use Prim.Native.Nat.{_≤_, _<_};
 ghost use Rattle.board.specs.Hits.{edges, tables};
 ghost use Rattle.checks.specs.Accepted.{StatsAccepted};
-ghost use Rattle.puzzleboard.specs.Stats.{added, hitsAndWeight, rateOf, meanOf, statsOf, statsAnswer};
+ghost use Rattle.puzzleboard.specs.Stats.{added, hitsAndWeight, statsRate, meanOf, statsOf, statsAnswer};
 use crate::answer::MatchStats;
 use crate::answer::StatsAnswer;
 
@@ -71,12 +71,12 @@ pub fn count_hits(
 // Misses over edges, one f32 division; 1 for no edges.
 pub fn rate(edges: u32, hits: u32) -> f32
     requires { ⌜ (hits ≤ edges) × (edges ≤ 8192) ⌝ }
-    ensures { λ r. ⌜ r ≡ rateOf edges hits ⌝ }
+    ensures { λ r. ⌜ r ≡ statsRate edges hits ⌝ }
 {
     if edges == 0 {
         return 1.0;
     }
-    (edges - hits) as f32 / edges as f32
+    hard::scan::rate(edges, hits)
 }
 
 // The sum of the hits' confidences over the hits; 0 for no hits.

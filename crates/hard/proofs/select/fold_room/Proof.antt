@@ -1,0 +1,108 @@
+use mathlib.Core.Path.{_≡_, ap, sym, subst, _∙_}
+use mathlib.Core.List.{List}
+use Prim.Native.Nat.{ℕ, _+_, _*_, _-_}
+use native.Mathlib.Omega.{arith}
+use lib.Ieee.{Float}
+use lib.ListN.{take, drop}
+use borrow.Author.Needs.{needs}
+use Rattle.hard.specs.CellTables.{CellTables, cells, TablesOk}
+use Rattle.hard.specs.Transform.{foldTransform}
+use Rattle.hard.specs.SelectLaws.{roomCells}
+use Rattle.hard.proofs.select.fold_room.Statement.{statement}
+use Rattle.hard.proofs.select.fold_room.Tie as tie
+
+-- the parts that are lent are the tables in the room
+parts : (L M : ℕ) (c : List ℕ) (w : List Float) → cells (take (3 * L - 0) (drop 0 c)) (take (3 * L - 0) (drop 0 w)) (take (3 * L + 3 * M - 3 * L) (drop (3 * L) c)) (take (3 * L + 3 * M - 3 * L) (drop (3 * L) w)) ≡ roomCells L M c w
+unfolding roomCells
+parts L M c w =
+    let a : 3 * L - 0 ≡ 3 * L = omega arith in
+    let b : 3 * L + 3 * M - 3 * L ≡ 3 * M = omega arith in
+    λ i. cells (take (a i) (drop 0 c)) (take (a i) (drop 0 w)) (take (b i) (drop (3 * L) c)) (take (b i) (drop (3 * L) w))
+
+mul-a : tie.Need-mul-a
+mul-a c = search needs
+
+mul-e : tie.Need-mul-e
+mul-e c = search needs
+
+add-e : tie.Need-add-e
+add-e c = search needs
+
+sub-fold-transform : tie.Need-sub-fold-transform
+sub-fold-transform c = search needs
+
+part-fold-transform-start : tie.Need-part-fold-transform-start
+part-fold-transform-start c = search needs
+
+part-fold-transform-end : tie.Need-part-fold-transform-end
+part-fold-transform-end c = search needs
+
+sub-fold-transform-2 : tie.Need-sub-fold-transform-2
+sub-fold-transform-2 c = search needs
+
+part-fold-transform-start-2 : tie.Need-part-fold-transform-start-2
+part-fold-transform-start-2 c = search needs
+
+part-fold-transform-end-2 : tie.Need-part-fold-transform-end-2
+part-fold-transform-end-2 c = search needs
+
+mul-fold-transform : tie.Need-mul-fold-transform
+mul-fold-transform c = search needs
+
+sub-fold-transform-3 : tie.Need-sub-fold-transform-3
+sub-fold-transform-3 c = search needs
+
+part-fold-transform-start-3 : tie.Need-part-fold-transform-start-3
+part-fold-transform-start-3 c = search needs
+
+part-fold-transform-end-3 : tie.Need-part-fold-transform-end-3
+part-fold-transform-end-3 c = search needs
+
+mul-fold-transform-2 : tie.Need-mul-fold-transform-2
+mul-fold-transform-2 c = search needs
+
+sub-fold-transform-4 : tie.Need-sub-fold-transform-4
+sub-fold-transform-4 c = search needs
+
+part-fold-transform-start-4 : tie.Need-part-fold-transform-start-4
+part-fold-transform-start-4 c = search needs
+
+part-fold-transform-end-4 : tie.Need-part-fold-transform-end-4
+part-fold-transform-end-4 c = search needs
+
+fold-transform-requires : tie.Need-fold-transform-requires
+fold-transform-requires c κs =
+    let s = c .before .before .before .before .before .before in
+    let p = s .pre .0 in
+    let a = s .args in
+    ((p .long, p .wide, subst (λ (X : CellTables). TablesOk (a .long) (a .wide) (a .edges) X) (sym (parts (a .long) (a .wide) (a .counts .now) (a .weights .now))) (p .tables)), s .pre .1)
+
+returns : tie.Need-returns
+returns c =
+    let s = c .before .before .before .before .before .before .before in
+    let a = s .args in
+    c .fold-transform .ensures ∙ ap (λ (X : CellTables). foldTransform (a .long) (a .wide) (a .edges) (a .conf) (a .limit) (a .transform) X (a .scan)) (parts (a .long) (a .wide) (a .counts .now) (a .weights .now))
+
+pub fold-room-spec : {M : Type 1} → statement M
+fold-room-spec =
+    tie.close
+    (tie.spec
+    mul-a
+    mul-e
+    add-e
+    sub-fold-transform
+    part-fold-transform-start
+    part-fold-transform-end
+    sub-fold-transform-2
+    part-fold-transform-start-2
+    part-fold-transform-end-2
+    mul-fold-transform
+    sub-fold-transform-3
+    part-fold-transform-start-3
+    part-fold-transform-end-3
+    mul-fold-transform-2
+    sub-fold-transform-4
+    part-fold-transform-start-4
+    part-fold-transform-end-4
+    fold-transform-requires
+    returns)

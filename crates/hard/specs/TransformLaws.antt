@@ -1,0 +1,191 @@
+-- Laws of one transform's fold: what is known of its two tables, how large its keys are, and the fold case by case and put together.
+use mathlib.Core.Path.{_≡_, refl, sym, _∙_}
+use mathlib.Core.Bool.{Bool, true, false, cond}
+use mathlib.Core.List.{List}
+use mathlib.Core.Logic.{_⊎_, inl, inr}
+use Prim.Native.Nat.{ℕ, zero, suc, _+_, _*_, _≤_, _<_}
+use native.Mathlib.Nat.{mul-le-mul}
+use native.Mathlib.Omega.{arith}
+use native.Mathlib.Numerals.{add-one}
+use lib.Dec.{ltb}
+use lib.ListN.{length, getD, set, length-set, length-replicate}
+use lib.Seq.{getD-set-same, getD-set-other}
+use lib.Ieee.{Float}
+use borrow.Author.Tests.{lt-ltb, le-ltb}
+use Rattle.laws.specs.Tests.{split}
+use Rattle.laws.specs.Counting.{count-le}
+use Rattle.laws.specs.Grid.{Laws, origins}
+use Rattle.laws.specs.GridLaws.{origins-laws}
+use Rattle.hard.specs.CellTables.{CellTables, Period, TablesOk, cAt, wAt}
+use Rattle.hard.specs.Lex.{TableOk, level, optimal, lexBest, secondCell, lexOf}
+use Rattle.hard.specs.LexLaws.{cell-in, second-inside}
+use Rattle.hard.specs.RowMajor.{rowMajor}
+use Rattle.hard.specs.RowMajorLaws.{major-none}
+use Rattle.hard.specs.Scan.{overLimit, replaced, noSummary, emptyScan, pushed}
+use Rattle.hard.specs.Direct.{tried}
+use Rattle.hard.specs.Transform.{BestOk, bestOrigin, bestHits, bestCandidate, tied, nextOrigin, summaryOf, transformSummary, offeredBy, foldTransform, selected}
+use Rattle.hard.specs.declared.lex.LexMax.{LexMax}
+use Rattle.hard.specs.declared.scan.TransformSummary.{TransformSummary}
+use Rattle.hard.specs.declared.scan.HardScan.{HardScan}
+use Rattle.hard.specs.declared.scan.Kept.{Kept}
+use Rattle.hard.specs.declared.transform.Ranked.{Ranked}
+
+-- what is known of a transform's two tables a and b and of its best origin: in range, at most `edges` hits, and a small key
+pub record SaidOk (L M edges : ℕ) (a b : LexMax) (first : ℕ) : Type 0 where
+  pub best : BestOk L M a b
+  pub most : bestHits a b ≤ edges
+  pub first-small : first ≤ 2250000
+
+module _ (L M : ℕ) (p : Period L) (q : Period M) where
+  -- the board's grid
+  pub grid : Laws (origins L M) (3 * L) (3 * M)
+  grid = origins-laws L M (omega (arith, p .more)) (omega (arith, q .more)) (p .free) (q .free)
+
+  pub none-small : 3 * L * (3 * M) ≤ 2250000
+  none-small = mul-le-mul {n₁ = 3 * L} {m₁ = 3 * M} {n₂ = 1500} {m₂ = 1500} (omega (arith, p .few)) (omega (arith, q .few))
+
+  module _ (edges : ℕ) (X : CellTables) (ok : TablesOk L M edges X) where
+    pub h-table : TableOk (X .hc) (X .hw)
+    h-table = record { two = omega (arith, ok .hcs, p .more); same = ok .hws ∙ sym (ok .hcs) }
+
+    pub v-table : TableOk (X .vc) (X .vw)
+    v-table = record { two = omega (arith, ok .vcs, q .more); same = ok .vws ∙ sym (ok .vcs) }
+
+    -- what the two tables say is in range
+    pub best-ok : BestOk L M (lexOf (X .hc) (X .hw)) (lexOf (X .vc) (X .vw))
+    unfolding lexOf
+    best-ok =
+        let hi = cell-in (X .hc) (X .hw) (h-table .two) in
+        let vi = cell-in (X .vc) (X .vw) (v-table .two) in
+        let hj = second-inside (X .hc) (lexBest (X .hc) (X .hw)) (h-table .two) in
+        let vj = second-inside (X .vc) (lexBest (X .vc) (X .vw)) (v-table .two) in
+        record {
+          h-cell = omega (arith, ok .hcs);
+          h-second = omega (arith, ok .hcs);
+          v-cell = omega (arith, ok .vcs);
+          v-second = omega (arith, ok .vcs);
+          h-level = omega (arith, ok .hcs, p .few, count-le (level (X .hc) (cAt (X .hc) (lexBest (X .hc) (X .hw)))) (length (X .hc)));
+          v-level = omega (arith, ok .vcs, q .few, count-le (level (X .vc) (cAt (X .vc) (lexBest (X .vc) (X .vw)))) (length (X .vc)));
+          h-optimal = omega (arith, ok .hcs, p .few, count-le (optimal (X .hc) (X .hw) (cAt (X .hc) (lexBest (X .hc) (X .hw))) (wAt (X .hw) (lexBest (X .hc) (X .hw)))) (length (X .hc)));
+          v-optimal = omega (arith, ok .vcs, q .few, count-le (optimal (X .vc) (X .vw) (cAt (X .vc) (lexBest (X .vc) (X .vw))) (wAt (X .vw) (lexBest (X .vc) (X .vw)))) (length (X .vc)));
+          top = both (lexBest (X .hc) (X .hw)) (lexBest (X .vc) (X .vw)) hi vi;
+          across = both (secondCell (X .hc) (lexBest (X .hc) (X .hw))) (lexBest (X .vc) (X .vw)) hj vi;
+          down = both (lexBest (X .hc) (X .hw)) (secondCell (X .vc) (lexBest (X .vc) (X .vw))) hi vj;
+        }
+      where
+        both : (i j : ℕ) → i < length (X .hc) → j < length (X .vc) → cAt (X .hc) i + cAt (X .vc) j ≤ 8192
+        both i j h v = omega (arith, ok .few, ok .bounded i j (omega (arith, ok .hcs)) (omega (arith, ok .vcs)))
+
+    -- the best hits are at most the edges
+    pub best-under : bestHits (lexOf (X .hc) (X .hw)) (lexOf (X .vc) (X .vw)) ≤ edges
+    unfolding lexOf
+    best-under = ok .bounded (lexBest (X .hc) (X .hw)) (lexBest (X .vc) (X .vw)) (omega (arith, ok .hcs, cell-in (X .hc) (X .hw) (h-table .two))) (omega (arith, ok .vcs, cell-in (X .vc) (X .vw) (v-table .two)))
+
+    -- the same of values that are known to be what the tables say
+    pub said-ok : (a b : LexMax) (first : ℕ)
+        → a ≡ lexOf (X .hc) (X .hw)
+        → b ≡ lexOf (X .vc) (X .vw)
+        → first ≡ rowMajor (origins L M) (length (X .vc)) (optimal (X .hc) (X .hw) (a .count) (a .weight)) (optimal (X .vc) (X .vw) (b .count) (b .weight)) (length (X .hc))
+        → SaidOk L M edges a b first
+    said-ok a b first ea eb ef =
+        record {
+          best = rw (ea, eb) best-ok;
+          most = rw (ea, eb) best-under;
+          first-small = omega (
+            arith,
+            none-small,
+            major-none (origins L M) (length (X .vc)) (optimal (X .hc) (X .hw) (a .count) (a .weight)) (optimal (X .vc) (X .vw) (b .count) (b .weight)) (length (X .hc)),
+          );
+        }
+
+  -- the runner-up inside a transform is named by a key as small
+  pub next-small : (edges : ℕ) (a b : LexMax) (first : ℕ) (next : Ranked) → SaidOk L M edges a b first → next ≡ nextOrigin L M a b first → next .key ≤ 2250000
+  unfolding nextOrigin
+  next-small edges a b first next ok e = rw e (go (tied a b) (ltb (a .under + b .count) (a .count + b .under)))
+    where
+      under : (h v : ℕ) → h < 3 * L → v < 3 * M → origins L M .key h v ≤ 2250000
+      under h v i j = omega (arith, grid .under h v i j, none-small)
+
+      go : (s t : Bool)
+          → Ranked.key (cond s (record { hits = bestHits a b; key = first }) (cond t (record { hits = a .count + b .under; key = origins L M .key (a .cell) (b .second) }) (record { hits = a .under + b .count; key = origins L M .key (a .second) (b .cell) })))
+          ≤ 2250000
+      go true t = ok .first-small
+      go false true = under (a .cell) (b .second) (ok .best .h-cell) (ok .best .v-second)
+      go false false = under (a .second) (b .cell) (ok .best .h-second) (ok .best .v-cell)
+
+module _ (L M edges : ℕ) (conf limit : Float) where
+  -- ---- what is kept after a transform, case by case
+  module _ (place : ℕ) (X : CellTables) (a b : LexMax) (first : ℕ) (kept : Kept) where
+    pub by-none : overLimit edges limit (bestHits a b) ≡ true → offeredBy L M edges conf limit place X a b first kept ≡ kept
+    unfolding offeredBy
+    by-none e = rw e
+
+    pub by-direct : overLimit edges limit (bestHits a b) ≡ false → 1024 < a .optimal * b .optimal
+        → offeredBy L M edges conf limit place X a b first kept ≡ tried L M edges conf limit place X 0 kept (3 * L * (3 * M))
+    unfolding offeredBy
+    by-direct e l = rw (e, lt-ltb 1024 (a .optimal * b .optimal) l)
+
+    pub by-best : overLimit edges limit (bestHits a b) ≡ false → a .optimal * b .optimal ≤ 1024
+        → offeredBy L M edges conf limit place X a b first kept ≡ replaced kept (bestCandidate M conf place a b first)
+    unfolding offeredBy
+    by-best e l = rw (e, le-ltb 1024 (a .optimal * b .optimal) l)
+
+  -- ---- the fold from its parts
+  pub folded : (t : ℕ) (X : CellTables) (scan : HardScan) (a b : LexMax) (first : ℕ) (next : Ranked) (s : TransformSummary) (kept : Kept)
+      → a ≡ lexOf (X .hc) (X .hw)
+      → b ≡ lexOf (X .vc) (X .vw)
+      → first ≡ rowMajor (origins L M) (length (X .vc)) (optimal (X .hc) (X .hw) (a .count) (a .weight)) (optimal (X .vc) (X .vw) (b .count) (b .weight)) (length (X .hc))
+      → next ≡ nextOrigin L M a b first
+      → s ≡ summaryOf M (record { hits = bestHits a b; key = first }) next t
+      → kept ≡ offeredBy L M edges conf limit (scan .count) X a b first (scan .best)
+      → pushed scan s kept ≡ foldTransform L M edges conf limit t X scan
+  unfolding foldTransform transformSummary bestOrigin
+  folded t X scan a b first next s kept ea eb ef en es ek = rw (es, ek, en, ef, ea, eb)
+
+  -- ---- one list position more
+  pub selected-more : (ts : ℕ → ℕ) (tab : ℕ → CellTables) (n : ℕ) (x : HardScan) → x ≡ selected L M edges conf limit ts tab n
+      → foldTransform L M edges conf limit (ts n) (tab n) x ≡ selected L M edges conf limit ts tab (n + 1)
+  unfolding selected
+  selected-more ts tab n x e = rw (add-one n, ← e)
+
+  pub selected-none : (ts : ℕ → ℕ) (tab : ℕ → CellTables) → selected L M edges conf limit ts tab 0 ≡ emptyScan
+  unfolding selected
+  selected-none ts tab = refl
+
+  -- the count is the number of list positions
+  pub selected-count : (ts : ℕ → ℕ) (tab : ℕ → CellTables) (n : ℕ) → selected L M edges conf limit ts tab n .count ≡ n
+  unfolding selected foldTransform pushed emptyScan
+  selected-count ts tab zero = refl
+  selected-count ts tab (suc n) = rw (selected-count ts tab n) (add-one n)
+
+  -- what is kept after one list position more
+  abbrev pub keptAt : (ℕ → CellTables) → ℕ → Kept → Kept
+  keptAt tab p kept = offeredBy L M edges conf limit p (tab p) (lexOf (tab p .hc) (tab p .hw)) (lexOf (tab p .vc) (tab p .vw)) (bestOrigin (origins L M) (tab p)) kept
+
+  pub selected-best : (ts : ℕ → ℕ) (tab : ℕ → CellTables) (n : ℕ) → selected L M edges conf limit ts tab (suc n) .best ≡ keptAt tab n (selected L M edges conf limit ts tab n .best)
+  unfolding selected foldTransform pushed
+  selected-best ts tab n = rw (selected-count ts tab n)
+
+  -- ---- each position's summary stays where it was stored
+  summaries-eight : (ts : ℕ → ℕ) (tab : ℕ → CellTables) (n : ℕ) → length (selected L M edges conf limit ts tab n .summaries) ≡ 8
+  unfolding selected foldTransform pushed emptyScan
+  summaries-eight ts tab zero = length-replicate 8 noSummary
+  summaries-eight ts tab (suc n) = length-set (selected L M edges conf limit ts tab n .summaries) (selected L M edges conf limit ts tab n .count) (transformSummary L M (ts n) (tab n)) ∙ summaries-eight ts tab n
+
+  pub summary-at : (ts : ℕ → ℕ) (tab : ℕ → CellTables) (n p : ℕ) → p < n → n ≤ 8 → getD (selected L M edges conf limit ts tab n .summaries) p noSummary ≡ transformSummary L M (ts p) (tab p)
+  unfolding selected foldTransform pushed
+  summary-at ts tab zero p l h = absurd (omega arith)
+  summary-at ts tab (suc n) p l h = rw (selected-count ts tab n) (go (λ k. summary-at ts tab n p k (omega arith)) (split p n l))
+    where
+      old : List TransformSummary
+      old = selected L M edges conf limit ts tab n .summaries
+
+      new : TransformSummary
+      new = transformSummary L M (ts n) (tab n)
+
+      go : (p < n → getD old p noSummary ≡ transformSummary L M (ts p) (tab p)) → (p ≡ n) ⊎ (p < n) → getD (set old n new) p noSummary ≡ transformSummary L M (ts p) (tab p)
+      go ih (inl e) = rw e (getD-set-same old n new noSummary (omega (arith, summaries-eight ts tab n)))
+      go ih (inr k) = getD-set-other old n p new noSummary (apart p n k) ∙ ih k
+        where
+          apart : (i j : ℕ) → i < j → i ≡ j → ⊥
+          apart i j k e = omega arith

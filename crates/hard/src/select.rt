@@ -1,0 +1,153 @@
+// Hard selection on one list: the tables of each transform in turn, folded into the scan, and what it comes to.
+ghost use mathlib.Core.Path.{_≡_};
+ghost use Prim.Native.Nat.{_*_, _+_, _≤_, _<_};
+ghost use lib.ListN.{length, take, drop};
+ghost use lib.Ieee.{Float};
+ghost use Rattle.board.specs.Hits.{edges, tables};
+ghost use Rattle.hard.specs.CellTables.{Period, TablesOk, cells};
+ghost use Rattle.hard.specs.Transform.{foldTransform};
+ghost use Rattle.hard.specs.Select.{confidenceTo, SelectReady, SelectDone};
+ghost use Rattle.hard.specs.SelectLaws.{roomCells, RoomReady, ScanDone};
+use crate::scan::Candidate;
+use crate::scan::Choice;
+use crate::scan::HardScan;
+use crate::scan::RunnerUp;
+
+// What a selection comes to: refused (10 no confidence, 11 nothing within the limit), or the winner with its runner-up.
+pub enum Selection {
+    Refused(u32),
+    Selected(Candidate, RunnerUp),
+}
+
+// The confidences of a list added, in list order from 0.
+pub fn total_confidence(confidences: &[f32]) -> f32
+    ensures { λ r. ⌜ r ≡ confidenceTo (now (confidences .entry)) (length (now (confidences .entry))) ⌝ }
+{
+    let mut total: f32 = 0.0;
+    for i in 0..confidences.len() {
+        total += confidences[i];
+    }
+    total
+}
+
+// One transform's tables, where they were built in the room, folded into the scan.
+pub fn fold_room(
+    scan: HardScan,
+    counts: &[u32],
+    weights: &[f32],
+    long: usize,
+    wide: usize,
+    transform: u8,
+    edges: u32,
+    conf: f32,
+    limit: f32,
+) -> HardScan
+    requires { ⌜ RoomReady long wide edges (now counts) (now weights) ⌝ }
+    requires { ⌜ scan .count < 8 ⌝ }
+    ensures { λ r. ⌜ r ≡ foldTransform long wide edges conf limit transform (roomCells long wide (now (counts .entry)) (now (weights .entry))) scan ⌝ }
+{
+    let a = 3 * long;
+    let e = a + 3 * wide;
+    crate::transform::fold_transform(
+        scan,
+        &counts[0..a],
+        &weights[0..a],
+        &counts[a..e],
+        &weights[a..e],
+        long,
+        wide,
+        transform,
+        edges,
+        conf,
+        limit,
+    )
+}
+
+// The scan of a list over all its transforms, in order: the tables are built anew for each.
+pub fn scan_transforms<'a>(
+    rows: &[i32],
+    cols: &[i32],
+    orientations: &[u8],
+    bits: &[u8],
+    confidences: &[f32],
+    transforms: &[u8],
+    h: &'a [u8],
+    v: &'a [u8],
+    conf: f32,
+    limit: f32,
+    counts: &mut [u32],
+    weights: &mut [f32],
+) -> HardScan
+    requires { ⌜ SelectReady (tables (now h) (now v)) (edges (now rows) (now cols) (now orientations) (now bits) (now confidences)) (now transforms) (now counts) (now weights) ⌝ }
+    ensures { λ r. ⌜ ScanDone (tables (now (h .entry)) (now (v .entry))) (edges (now (rows .entry)) (now (cols .entry)) (now (orientations .entry)) (now (bits .entry)) (now (confidences .entry))) (now (transforms .entry)) conf limit (length (now (transforms .entry))) (now (counts .entry)) (now (counts .exit)) (now (weights .entry)) (now (weights .exit)) r ⌝ }
+{
+    let mut scan = crate::scan::empty();
+    for i in 0..transforms.len() {
+        let t = transforms[i];
+        tables::build::build_tables(
+            rows,
+            cols,
+            orientations,
+            bits,
+            confidences,
+            t,
+            h,
+            v,
+            counts,
+            weights,
+        );
+        scan = fold_room(
+            scan,
+            counts,
+            weights,
+            h.len(),
+            v.len(),
+            t,
+            rows.len() as u32,
+            conf,
+            limit,
+        );
+    }
+    scan
+}
+
+// The selection on one list.
+pub fn select<'a>(
+    rows: &[i32],
+    cols: &[i32],
+    orientations: &[u8],
+    bits: &[u8],
+    confidences: &[f32],
+    transforms: &[u8],
+    h: &'a [u8],
+    v: &'a [u8],
+    limit: f32,
+    counts: &mut [u32],
+    weights: &mut [f32],
+) -> Selection
+    requires { ⌜ SelectReady (tables (now h) (now v)) (edges (now rows) (now cols) (now orientations) (now bits) (now confidences)) (now transforms) (now counts) (now weights) ⌝ }
+    ensures { λ r. ⌜ SelectDone (tables (now (h .entry)) (now (v .entry))) (edges (now (rows .entry)) (now (cols .entry)) (now (orientations .entry)) (now (bits .entry)) (now (confidences .entry))) (now (transforms .entry)) limit (now (counts .entry)) (now (counts .exit)) (now (weights .entry)) (now (weights .exit)) r ⌝ }
+{
+    let conf = total_confidence(confidences);
+    if conf == 0.0 {
+        return Selection::Refused(10);
+    }
+    let scan = scan_transforms(
+        rows,
+        cols,
+        orientations,
+        bits,
+        confidences,
+        transforms,
+        h,
+        v,
+        conf,
+        limit,
+        counts,
+        weights,
+    );
+    match crate::scan::finish(scan) {
+        Choice::Nothing => Selection::Refused(11),
+        Choice::Chosen { winner, next } => Selection::Selected(winner, next),
+    }
+}

@@ -1,0 +1,168 @@
+// One transform's four tables, folded into the scan.
+ghost use mathlib.Core.Path.{_≡_};
+ghost use Prim.Native.Nat.{_+_, _≤_, _<_};
+ghost use Rattle.hard.specs.CellTables.{Period, TablesOk, cells};
+ghost use Rattle.hard.specs.Transform.{BestOk, nextOrigin, summaryOf, offeredBy, foldTransform};
+use crate::direct::scan_direct;
+use crate::lex::LexMax;
+use crate::lex::lex_max;
+use crate::origin::key_of;
+use crate::origin::row_major_first;
+use crate::scan::Candidate;
+use crate::scan::HardScan;
+use crate::scan::Kept;
+use crate::scan::TransformSummary;
+use crate::scan::offer;
+use crate::scan::over_limit;
+use crate::scan::push;
+
+// An origin by its key, with its hits.
+pub struct Ranked {
+    pub hits: u32,
+    pub key: usize,
+}
+
+// The runner-up inside a transform whose best origin is `first`, from what its horizontal table a and its vertical table b say.
+pub fn next_origin(a: LexMax, b: LexMax, first: usize, long: usize, wide: usize) -> Ranked
+    requires { ⌜ Period long × Period wide × BestOk long wide a b ⌝ }
+    ensures { λ r. ⌜ r ≡ nextOrigin long wide a b first ⌝ }
+{
+    if a.level * b.level > 1 {
+        return Ranked {
+            hits: a.count + b.count,
+            key: first,
+        };
+    }
+    let across = a.under + b.count;
+    let down = a.count + b.under;
+    if down > across {
+        let key = key_of(a.cell, b.second, long, wide);
+        return Ranked { hits: down, key };
+    }
+    let key = key_of(a.second, b.cell, long, wide);
+    Ranked { hits: across, key }
+}
+
+// The summary of a transform from its best origin and the runner-up inside it.
+pub fn summary(best: Ranked, next: Ranked, wide: usize, transform: u8) -> TransformSummary
+    requires { ⌜ Period wide × (best .key ≤ 2250000) × (next .key ≤ 2250000) ⌝ }
+    ensures { λ r. ⌜ r ≡ summaryOf wide best next transform ⌝ }
+{
+    let columns = 3 * wide;
+    let row = (best.key / columns) as u32;
+    let col = (best.key % columns) as u32;
+    let nextrow = (next.key / columns) as u32;
+    let nextcol = (next.key % columns) as u32;
+    TransformSummary {
+        best: best.hits,
+        row,
+        col,
+        next: next.hits,
+        nextrow,
+        nextcol,
+        transform,
+    }
+}
+
+// What is kept after the transform at a list position: no candidate over the limit, the best origin up to 1,024 optimal pairs, else all origins.
+pub fn offer_transform(
+    kept: Kept,
+    a: LexMax,
+    b: LexMax,
+    key: usize,
+    hc: &[u32],
+    hw: &[f32],
+    vc: &[u32],
+    vw: &[f32],
+    long: usize,
+    wide: usize,
+    edges: u32,
+    conf: f32,
+    limit: f32,
+    place: usize,
+) -> Kept
+    requires { ⌜ Period long × Period wide × TablesOk long wide edges (cells (now hc) (now hw) (now vc) (now vw)) ⌝ }
+    requires { ⌜ BestOk long wide a b × (a .count + b .count ≤ edges) × (key ≤ 2250000) ⌝ }
+    ensures { λ r. ⌜ r ≡ offeredBy long wide edges conf limit place (cells (now (hc .entry)) (now (hw .entry)) (now (vc .entry)) (now (vw .entry))) a b key kept ⌝ }
+{
+    let hits = a.count + b.count;
+    if over_limit(edges, hits, limit) {
+        return kept;
+    }
+    if a.optimal * b.optimal > 1024 {
+        return scan_direct(hc, hw, vc, vw, long, wide, edges, conf, limit, place, kept);
+    }
+    let weight = a.weight + b.weight;
+    let score = weight / conf;
+    let columns = 3 * wide;
+    let row = (key / columns) as u32;
+    let col = (key % columns) as u32;
+    let c = Candidate {
+        hits,
+        score,
+        weight,
+        row,
+        col,
+        place,
+    };
+    offer(kept, c)
+}
+
+// The transform at the next list position: its summary is stored, over the limit or not, and its candidate is offered.
+pub fn fold_transform(
+    scan: HardScan,
+    hc: &[u32],
+    hw: &[f32],
+    vc: &[u32],
+    vw: &[f32],
+    long: usize,
+    wide: usize,
+    transform: u8,
+    edges: u32,
+    conf: f32,
+    limit: f32,
+) -> HardScan
+    requires { ⌜ Period long × Period wide × TablesOk long wide edges (cells (now hc) (now hw) (now vc) (now vw)) ⌝ }
+    requires { ⌜ scan .count < 8 ⌝ }
+    ensures { λ r. ⌜ r ≡ foldTransform long wide edges conf limit transform (cells (now (hc .entry)) (now (hw .entry)) (now (vc .entry)) (now (vw .entry))) scan ⌝ }
+{
+    let a = lex_max(hc, hw);
+    let b = lex_max(vc, vw);
+    let key = row_major_first(
+        hc,
+        hw,
+        a.count,
+        a.weight,
+        vc,
+        vw,
+        b.count,
+        b.weight,
+        long,
+        wide,
+    );
+    let best = Ranked {
+        hits: a.count + b.count,
+        key,
+    };
+    let next = next_origin(a, b, key, long, wide);
+    let s = summary(best, next, wide, transform);
+    let place = scan.count;
+    let old = scan.best;
+    let kept = offer_transform(
+        old,
+        a,
+        b,
+        key,
+        hc,
+        hw,
+        vc,
+        vw,
+        long,
+        wide,
+        edges,
+        conf,
+        limit,
+        place,
+    );
+    push(scan, s, kept)
+}

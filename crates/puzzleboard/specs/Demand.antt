@@ -1,0 +1,65 @@
+-- What customers are promised of a decoded view, in terms of board's hits alone: no table occurs here.
+use mathlib.Core.Path.{_≡_}
+use mathlib.Core.Bool.{true, false}
+use mathlib.Core.List.{List}
+use Prim.Native.Nat.{ℕ, _+_, _*_, _≤_, _<_}
+use lib.ListN.{getD, length}
+use lib.IntN.{pos}
+use lib.Ieee.{Float, binary32, ofInt}
+use Rattle.laws.specs.Weights.{oneF}
+use Rattle.board.specs.Hits.{EdgeList, Board, Placing, size, misses, hitsAt}
+use Rattle.board.specs.Sides.{periodOf}
+use Rattle.hard.specs.Scan.{overLimit}
+use Rattle.hard.specs.Select.{selection}
+use Rattle.hard.specs.declared.scan.Candidate.{Candidate}
+use Rattle.hard.specs.declared.scan.RunnerUp.{RunnerUp}
+use Rattle.hard.specs.declared.select.Selection.the-variants.{Selected}
+use Rattle.puzzleboard.specs.declared.answer.Square.{Square}
+use Rattle.puzzleboard.specs.declared.answer.Decoded.{Decoded}
+
+-- "A placing is one place in the transform list with one of the 251,001 origins": 3 L rows of 3 M columns
+pub record OnBoard (B : Board) (ts : List ℕ) (P : Placing) : Type 0 where
+  pub listed : P .place < length ts
+  pub row : P .row < 3 * periodOf B true
+  pub col : P .col < 3 * periodOf B false
+
+-- two placings are the same one
+abbrev pub Same : Placing → Placing → Type 0
+Same P Q = (P .place ≡ Q .place) × (P .row ≡ Q .row) × (P .col ≡ Q .col)
+
+-- the misses of a placing, counted edge by edge
+abbrev pub missesAt : Board → EdgeList → List ℕ → Placing → ℕ
+missesAt B E ts P = misses B E (getD ts (P .place) 0) (P .row) (P .col)
+
+-- "is within the error limit, beats the hits of every other by more than its own misses"
+pub record Leads (B : Board) (E : EdgeList) (ts : List ℕ) (limit : Float) (P : Placing) : Type 0 where
+  pub on-board : OnBoard B ts P
+  pub within : overLimit (size E) limit (hitsAt B E ts P) ≡ false
+  pub ahead : (Q : Placing) → OnBoard B ts Q → (Same Q P → ⊥) → hitsAt B E ts Q + missesAt B E ts P < hitsAt B E ts P
+
+-- "another placing with hits no third exceeds"
+pub record RunsUp (B : Board) (E : EdgeList) (ts : List ℕ) (P Q : Placing) : Type 0 where
+  pub on-board : OnBoard B ts Q
+  pub other : Same Q P → ⊥
+  pub no-third : (R : Placing) → OnBoard B ts R → (Same R P → ⊥) → hitsAt B E ts R ≤ hitsAt B E ts Q
+
+-- the square that a placing names: its transform's number, row and column
+abbrev pub Names : List ℕ → Placing → Square → Type 0
+Names ts P s = (getD ts (P .place) 0 ≡ s .transform) × (P .row ≡ s .row) × (P .col ≡ s .col)
+
+-- "agrees with the winner of the physical list": the physical selection, with limit 1, has a winner, and it has the same transform and origin
+pub record AgreesPhysical (B : Board) (E : EdgeList) (ts : List ℕ) (P : Placing) : Type 0 where
+  pub winner : Candidate
+  pub next : RunnerUp
+  pub chosen : selection B E ts oneF ≡ Selected winner next
+  pub transform : getD ts (winner .place) 0 ≡ getD ts (P .place) 0
+  pub row : winner .row ≡ P .row
+  pub col : winner .col ≡ P .col
+
+-- what a found answer says of the placing P and the runner-up Q on the list E
+pub record Tells (B : Board) (E : EdgeList) (ts : List ℕ) (d : Decoded) (P Q : Placing) : Type 0 where
+  pub square : Names ts P (d .square)
+  pub hits : d .hits ≡ hitsAt B E ts P
+  pub edges : d .edges ≡ size E
+  pub runner : Names ts Q (d .runner)
+  pub next : d .next ≡ ofInt binary32 (pos (hitsAt B E ts Q))

@@ -1,0 +1,108 @@
+-- A placing by row and column, and by key: a lead on one list is a sole placing of hard selection, and what is reported of one list is told by placings.
+use mathlib.Core.Path.{_≡_, refl, sym, ap, ap₂, subst, _∙_}
+use mathlib.Core.Bool.{Bool, true, false}
+use mathlib.Core.List.{List}
+use Prim.Native.Nat.{ℕ, _+_, _*_, _-_, _/_, _%_, _≤_, _<_}
+use native.Mathlib.Nat.{mod-lt, div-lt-iff-lt-mul, div-add-mod'}
+use native.Mathlib.Omega.{arith}
+use lib.Arith.{digits-div, digits-mod, digits-lt}
+use lib.ListN.{getD, length}
+use lib.Ieee.{Float}
+use Rattle.board.specs.Hits.{EdgeList, Board, Placing, size, hits, misses, hitsAt}
+use Rattle.board.specs.HitsLaws.{hits-misses}
+use Rattle.board.specs.Sides.{periodOf}
+use Rattle.board.specs.Domain.{BoardOk, ListOk}
+use Rattle.hard.specs.Scan.{overLimit}
+use Rattle.hard.specs.Placings.{Sole, MostOther}
+use Rattle.hard.specs.OneList.{originNumber, keyAt}
+use Rattle.hard.specs.SelectTheorems.{hitsAtKey}
+use Rattle.puzzleboard.specs.Demand.{OnBoard, Same, missesAt, Leads, RunsUp}
+
+module _ (B : Board) (board : BoardOk B) where
+  abbrev pub rows : ℕ
+  rows = 3 * periodOf B true
+
+  abbrev pub columns : ℕ
+  columns = 3 * periodOf B false
+
+  wide : 0 < 3 * periodOf B false
+  wide = omega (arith, board .v .some)
+
+  -- the key of a placing's origin, and the placing with a key
+  abbrev pub keyOf : Placing → ℕ
+  keyOf P = keyAt (periodOf B false) (P .row) (P .col)
+
+  abbrev pub placing : ℕ → ℕ → Placing
+  placing p k = record { place = p; row = k / (3 * periodOf B false); col = k % (3 * periodOf B false) }
+
+  module _ (ts : List ℕ) where
+    pub key-below : (P : Placing) → OnBoard B ts P → keyOf P < originNumber (periodOf B true) (periodOf B false)
+    key-below P o = digits-lt (o .row) (o .col)
+
+    pub placing-on : (p k : ℕ) → p < length ts → k < originNumber (periodOf B true) (periodOf B false) → OnBoard B ts (placing p k)
+    placing-on p k h l = record { listed = h; row = div-lt-iff-lt-mul wide .1 l; col = mod-lt k wide }
+
+    -- a placing comes back from its key
+    pub row-back : (P : Placing) → OnBoard B ts P → keyOf P / (3 * periodOf B false) ≡ P .row
+    row-back P o = digits-div (P .row) (o .col)
+
+    pub col-back : (P : Placing) → OnBoard B ts P → keyOf P % (3 * periodOf B false) ≡ P .col
+    col-back P o = digits-mod (P .row) (o .col)
+
+    pub key-back : (p k : ℕ) → keyOf (placing p k) ≡ k
+    key-back p k = div-add-mod' k (3 * periodOf B false)
+
+    -- the same placing, by key
+    pub same-key : (P Q : Placing) → Same P Q → (P .place ≡ Q .place) × (keyOf P ≡ keyOf Q)
+    same-key P Q s = (s .0, ap₂ (keyAt (periodOf B false)) (s .1) (s .2))
+
+    pub key-same : (P Q : Placing) → OnBoard B ts P → OnBoard B ts Q → (P .place ≡ Q .place) × (keyOf P ≡ keyOf Q) → Same P Q
+    key-same P Q o u s = (
+      s .0,
+      sym (row-back P o) ∙ ap (λ (k : ℕ). k / (3 * periodOf B false)) (s .1) ∙ row-back Q u,
+      sym (col-back P o) ∙ ap (λ (k : ℕ). k % (3 * periodOf B false)) (s .1) ∙ col-back Q u,
+    )
+
+    module _ (E : EdgeList) (limit : Float) where
+      -- its hits, by key
+      pub hits-key : (P : Placing) → OnBoard B ts P → hitsAtKey B E ts (P .place) (keyOf P) ≡ hitsAt B E ts P
+      hits-key P o = ap₂ (hits B E (getD ts (P .place) 0)) (row-back P o) (col-back P o)
+
+      misses-are : (P : Placing) → missesAt B E ts P ≡ size E - hitsAt B E ts P
+      misses-are P = omega (arith, hits-misses B E (getD ts (P .place) 0) (P .row) (P .col))
+
+      abbrev SoleAt : ℕ → ℕ → Type 0
+      SoleAt = Sole (length ts) (originNumber (periodOf B true) (periodOf B false)) (size E) limit (hitsAtKey B E ts)
+
+      -- a lead is a sole placing, both ways
+      pub leads-sole : (P : Placing) → Leads B E ts limit P → SoleAt (P .place) (keyOf P)
+      leads-sole P l =
+          let o = l .on-board in
+          let e = hits-key P o in
+          record {
+            place = o .listed;
+            key = key-below P o;
+            allowed = ap (overLimit (size E) limit) e ∙ l .within;
+            ahead = λ q j hq hj ne.
+                let u = placing-on q j hq hj in
+                let a = l .ahead (placing q j) u (λ s. let t = same-key (placing q j) P s in ne (t .0, sym (key-back q j) ∙ t .1)) in
+                omega (arith, e, misses-are P);
+          }
+
+      pub sole-leads : (P : Placing) → OnBoard B ts P → SoleAt (P .place) (keyOf P) → Leads B E ts limit P
+      sole-leads P o s =
+          let e = hits-key P o in
+          record {
+            on-board = o;
+            within = ap (overLimit (size E) limit) (sym e) ∙ s .allowed;
+            ahead = λ Q u ne. omega (arith, e, misses-are P, hits-key Q u, s .ahead (Q .place) (keyOf Q) (u .listed) (key-below Q u) (λ t. ne (key-same Q P u o t)));
+          }
+
+      -- the most hits of any other placing are a runner-up's
+      pub most-runs-up : (P Q : Placing) (r : ℕ) → OnBoard B ts P → OnBoard B ts Q → (Same Q P → ⊥) → hitsAt B E ts Q ≡ r
+          → MostOther (length ts) (originNumber (periodOf B true) (periodOf B false)) (size E) limit (hitsAtKey B E ts) (P .place) (keyOf P) r → RunsUp B E ts P Q
+      most-runs-up P Q r o u ne e m = record {
+        on-board = u;
+        other = ne;
+        no-third = λ R v nr. omega (arith, hits-key R v, m .most (R .place) (keyOf R) (v .listed) (key-below R v) (λ t. nr (key-same R P v o t)));
+      }

@@ -1,0 +1,93 @@
+-- Document 01, 'Hard selection', last paragraph, and 'Refusal numbers': "Hard then: 10 logical, 11, 10 physical, 12, 13."
+use mathlib.Core.Path.{_≡_}
+use mathlib.Core.Bool.{Bool, true, false, cond, _&&_}
+use mathlib.Core.List.{List}
+use Prim.Native.Nat.{ℕ, _-_}
+use lib.Dec.{eqb}
+use lib.ListN.{getD, length}
+use lib.IntN.{pos}
+use lib.Ieee.{Float, nan, binary32, ofInt}
+use Rattle.laws.specs.Weights.{zeroF, oneF}
+use Rattle.laws.specs.Cleared.{cleared, SameBeyond}
+use Rattle.board.specs.Hits.{EdgeList, Board, size}
+use Rattle.checks.specs.declared.refusal.Refusal.{Refusal}
+use Rattle.checks.specs.Refusals.{numbered, hardRefusal}
+use Rattle.hard.specs.declared.scan.Candidate.{Candidate}
+use Rattle.hard.specs.declared.scan.RunnerUp.{RunnerUp}
+use Rattle.hard.specs.declared.select.Selection.{Selection}
+use Rattle.hard.specs.declared.select.Selection.the-variants as sel
+use Rattle.hard.specs.Scan.{rateOf}
+use Rattle.hard.specs.Gate.{passed}
+use Rattle.hard.specs.Select.{selection}
+use Rattle.puzzleboard.specs.declared.answer.Decoded.{Decoded}
+use Rattle.puzzleboard.specs.declared.answer.Answer.{Answer}
+use Rattle.puzzleboard.specs.declared.answer.Answer.the-variants.{Found, Refused}
+use Rattle.puzzleboard.specs.Stats.{meanOf}
+
+-- a refusal by its number, and nothing else
+abbrev pub refusedBy : ℕ → Answer
+refusedBy n = Refused (numbered n)
+
+-- "origin and matrix must agree": the eight matrices differ, so transforms by number (`matrix-tells` in HardLaws)
+unfoldable pub agreed : ℕ → Candidate → ℕ → Candidate → Bool
+agreed t a s b = eqb t s && (eqb (a .row) (b .row) && eqb (a .col) (b .col))
+
+-- "The answer holds the logical list's transform, origin, hits, edges, weighted score, rate, mean confidence, best score (= weighted score), runner-up hits
+-- as score, margin, and the runner-up's transform and origin." "margin = best minus runner-up hits, not below 0"
+unfoldable pub decodedOf : ℕ → Candidate → RunnerUp → ℕ → Decoded
+decodedOf t w next edges = record {
+  square = record { transform = t; row = w .row; col = w .col };
+  hits = w .hits;
+  edges = edges;
+  weighted = w .score;
+  rate = rateOf edges (w .hits);
+  mean = meanOf (w .hits) (w .weight);
+  best = w .score;
+  next = ofInt binary32 (pos (next .hits));
+  margin = ofInt binary32 (pos (w .hits - next .hits));
+  runner = record { transform = next .transform; row = next .row; col = next .col };
+}
+
+abbrev pub pick : Bool → Answer → Answer → Answer
+pick true a b = a
+pick false a b = b
+
+-- 12 where the winners differ, 13 where the gate is not passed, else found
+unfoldable pub judged : ℕ → Candidate → RunnerUp → ℕ → Candidate → ℕ → Answer
+unfolding decodedOf agreed
+judged t w next s p edges = pick (agreed t w s p) (pick (passed edges (w .hits) (next .hits)) (Found (decodedOf t w next edges)) (refusedBy 13)) (refusedBy 12)
+
+-- "select on the logical list with the limit, then on the physical list with limit 1; origin and matrix must agree; then the gate on the logical list"
+abbrev pub afterPhysical : EdgeList → List ℕ → Candidate → RunnerUp → Selection → Answer
+afterPhysical L ts w next (sel.Refused n) = refusedBy n
+afterPhysical L ts w next (sel.Selected p other) = judged (getD ts (w .place) 0) w next (getD ts (p .place) 0) p (size L)
+
+abbrev pub afterLogical : EdgeList → EdgeList → List ℕ → Board → Selection → Answer
+afterLogical L P ts B (sel.Refused n) = refusedBy n
+afterLogical L P ts B (sel.Selected w next) = afterPhysical L ts w next (selection B P ts oneF)
+
+-- what an accepted hard call answers
+unfoldable pub hardCore : EdgeList → EdgeList → List ℕ → Board → Float → Answer
+unfolding judged
+hardCore L P ts B limit = afterLogical L P ts B (selection B L ts limit)
+
+-- the answer for all inputs: refusals 1 to 9 come first
+unfoldable pub hardAnswer : EdgeList → EdgeList → List ℕ → Board → Float → ℕ → ℕ → Answer
+unfolding hardCore
+hardAnswer L P ts B limit m n = pick (eqb (hardRefusal L P ts B limit m n .number) 0) (hardCore L P ts B limit) (Refused (hardRefusal L P ts B limit m n))
+
+-- what a room slice holds at exit, of which n places are used: "After refusals 1 to 9 the lent room is untouched; after every other call the used room is zero"
+unfoldable pub left : {A : Type 0} → A → ℕ → Refusal → List A → List A
+left zero n r room = cond (eqb (r .number) 0) (cleared zero n room) room
+
+-- what hard decode promises for all inputs: the answer, and both room slices at exit
+pub record HardDone (L P : EdgeList) (ts : List ℕ) (B : Board) (limit : Float) (c c' : List ℕ) (w w' : List Float) (r : Answer) : Type 0 where
+  pub answer : r ≡ hardAnswer L P ts B limit (length c) (length w)
+  pub counts : c' ≡ left 0 3006 (hardRefusal L P ts B limit (length c) (length w)) c
+  pub weights : w' ≡ left zeroF 3006 (hardRefusal L P ts B limit (length c) (length w)) w
+
+-- what the core leaves to be cleared
+pub record CoreDone (L P : EdgeList) (ts : List ℕ) (B : Board) (limit : Float) (c c' : List ℕ) (w w' : List Float) (r : Answer) : Type 0 where
+  pub answer : r ≡ hardCore L P ts B limit
+  pub counts : SameBeyond 0 3006 c c'
+  pub weights : SameBeyond nan 3006 w w'

@@ -1,0 +1,118 @@
+-- Laws of hard decode: what its two selections ask, the ways in which the core and the entry point end, and that the promise determines the result.
+use mathlib.Core.Path.{_≡_, refl, sym, ap, ap₂, _∙_}
+use mathlib.Core.Bool.{Bool, true, false, not, _&&_, cond}
+use mathlib.Core.List.{List, [], _∷_}
+use Prim.Native.Nat.{ℕ, zero, suc, _+_, _*_, _≤_, _<_}
+use native.Mathlib.Omega.{arith}
+use lib.Dec.{T, eqb, lit<}
+use lib.ListN.{getD, length}
+use lib.IntN.{ℤ}
+use lib.Ieee.{Float, nan}
+use borrow.Author.Tests.{eq-eqb, ne-eqb}
+use Rattle.laws.specs.Weights.{zeroF, oneF}
+use Rattle.laws.specs.Cleared.{cleared, SameBeyond, beyond-trans, cleared-forgets}
+use Rattle.board.specs.Hits.{EdgeList, Board, size}
+use Rattle.board.specs.Sides.{periodOf}
+use Rattle.board.specs.Domain.{ListOk, BoardOk}
+use Rattle.tables.specs.Room.{used}
+use Rattle.checks.specs.declared.refusal.Refusal.{Refusal}
+use Rattle.checks.specs.Refusals.{hardRefusal}
+use Rattle.checks.specs.Accepted.{TransformsOk, HardAccepted}
+use Rattle.hard.specs.declared.scan.Candidate.{Candidate}
+use Rattle.hard.specs.declared.scan.RunnerUp.{RunnerUp}
+use Rattle.hard.specs.declared.select.Selection.{Selection}
+use Rattle.hard.specs.declared.select.Selection.the-variants as sel
+use Rattle.hard.specs.Select.{selection, SelectReady, SelectDone}
+use Rattle.hard.specs.SelectLaws.{select-beyond}
+use Rattle.hard.specs.SelectTheorems.{selected-in-range}
+use Rattle.puzzleboard.specs.declared.answer.Answer.{Answer}
+use Rattle.puzzleboard.specs.declared.answer.Answer.the-variants.{Found, Refused}
+use Rattle.puzzleboard.specs.Hard.{refusedBy, judged, afterPhysical, afterLogical, hardCore, hardAnswer, left, HardDone, CoreDone}
+
+-- ---- what a selection asks
+-- the used room of the flat board
+pub used-3006 : (B : Board) → (length (B .h) ≡ 167) × (length (B .v) ≡ 167) → used (periodOf B) 1 ≡ 3006
+used-3006 B p = ap₂ (λ (x y : ℕ). 3 * x + 3 * y + 1 * ((x + y) * 6)) (p .0) (p .1)
+
+pub ready : (B : Board) (E : EdgeList) (ts : List ℕ) (c : List ℕ) (w : List Float) → ListOk E → 0 < size E → BoardOk B → (length (B .h) ≡ 167) × (length (B .v) ≡ 167) → TransformsOk ts → 3006 ≤ length c → 3006 ≤ length w → SelectReady B E ts c w
+ready B E ts c w list some board periods t rc rw = record {
+  list = list;
+  some = some;
+  board = board;
+  transforms = (t .some, t .few);
+  small = t .small;
+  room = (omega (arith, used-3006 B periods), omega (arith, used-3006 B periods));
+}
+
+module _ (L P : EdgeList) (ts : List ℕ) (B : Board) (limit : Float) (c : List ℕ) (w : List Float) (A : HardAccepted L P ts B limit (length c) (length w)) where
+  pub ready-logical : SelectReady B L ts c w
+  ready-logical = ready B L ts c w (A .logical) (A .some-logical) (A .board) (A .periods) (A .transforms) (A .room .0) (A .room .1)
+
+  pub ready-physical : (c' : List ℕ) (w' : List Float) → length c' ≡ length c → length w' ≡ length w → SelectReady B P ts c' w'
+  ready-physical c' w' e d = ready B P ts c' w' (A .physical) (A .some-physical) (A .board) (A .periods) (A .transforms) (omega (arith, A .room .0)) (omega (arith, A .room .1))
+
+  -- ---- what the winners are known for
+  pub logical-winner : (r : Selection) (x : Candidate) (next : RunnerUp) → r ≡ selection B L ts limit → r ≡ sel.Selected x next → (x .place < length ts) × (x .hits ≤ size L) × (next .hits ≤ size L)
+  logical-winner r x next e k =
+      let i = selected-in-range B L ts limit (A .board) (A .logical) (A .transforms .few) x next (sym e ∙ k) in (i .place, i .hits, i .next-hits)
+
+  pub physical-winner : (r : Selection) (x : Candidate) (next : RunnerUp) → r ≡ selection B P ts oneF → r ≡ sel.Selected x next → x .place < length ts
+  physical-winner r x next e k = selected-in-range B P ts oneF (A .board) (A .physical) (A .transforms .few) x next (sym e ∙ k) .place
+
+  -- ---- the rooms
+  beyond : (E : EdgeList) (limit' : Float) (d d' : List ℕ) (x x' : List Float) (r : Selection) → SelectReady B E ts d x → SelectDone B E ts limit' d d' x x' r → SameBeyond 0 3006 d d' × SameBeyond nan 3006 x x'
+  beyond E limit' d d' x x' r R D =
+      let s = select-beyond B E ts limit' d x R d' x' r D in
+      let u = used-3006 B (A .periods) in
+      (record { len = s .0 .len; same = λ k h. s .0 .same k (omega arith) }, record { len = s .1 .len; same = λ k h. s .1 .same k (omega arith) })
+
+  -- ---- the three ways in which the core ends
+  module _ (c' : List ℕ) (w' : List Float) (r : Selection) (D : SelectDone B L ts limit c c' w w' r) where
+    pub core-refused : (n : ℕ) (a : Answer) → r ≡ sel.Refused n → a ≡ refusedBy n → CoreDone L P ts B limit c c' w w' a
+    unfolding hardCore
+    core-refused n a k e =
+        let s = beyond L limit c c' w w' r ready-logical D in
+        record { answer = e ∙ ap (afterLogical L P ts B) (sym k ∙ D .answer); counts = s .0; weights = s .1 }
+
+    module _ (x : Candidate) (next : RunnerUp) (k : r ≡ sel.Selected x next) (c'' : List ℕ) (w'' : List Float) (q : Selection) (F : SelectDone B P ts oneF c' c'' w' w'' q) where
+      both : SameBeyond 0 3006 c c'' × SameBeyond nan 3006 w w''
+      both =
+          let s = beyond L limit c c' w w' r ready-logical D in
+          let t = beyond P oneF c' c'' w' w'' q (ready-physical c' w' (s .0 .len) (s .1 .len)) F in
+          (beyond-trans 0 3006 c c' c'' (s .0) (t .0), beyond-trans nan 3006 w w' w'' (s .1) (t .1))
+
+      core-answer : afterPhysical L ts x next q ≡ hardCore L P ts B limit
+      unfolding hardCore
+      core-answer = ap (afterPhysical L ts x next) (F .answer) ∙ ap (afterLogical L P ts B) (sym k ∙ D .answer)
+
+      pub core-physical-refused : (n : ℕ) (a : Answer) → q ≡ sel.Refused n → a ≡ refusedBy n → CoreDone L P ts B limit c c'' w w'' a
+      core-physical-refused n a g e = record { answer = e ∙ ap (afterPhysical L ts x next) (sym g) ∙ core-answer; counts = both .0; weights = both .1 }
+
+      pub core-judged : (p : Candidate) (other : RunnerUp) (a : Answer) → q ≡ sel.Selected p other → a ≡ judged (getD ts (x .place) 0) x next (getD ts (p .place) 0) p (size L) → CoreDone L P ts B limit c c'' w w'' a
+      core-judged p other a g e = record { answer = e ∙ ap (afterPhysical L ts x next) (sym g) ∙ core-answer; counts = both .0; weights = both .1 }
+
+-- ---- the two ways in which hard decode ends
+module _ (L P : EdgeList) (ts : List ℕ) (B : Board) (limit : Float) (c : List ℕ) (w : List Float) where
+  abbrev refusal : Refusal
+  refusal = hardRefusal L P ts B limit (length c) (length w)
+
+  pub hard-refused : (r : Refusal) → r ≡ hardRefusal L P ts B limit (length c) (length w) → (r .number ≡ 0 → ⊥) → HardDone L P ts B limit c c w w (Refused r)
+  unfolding hardAnswer left
+  hard-refused r e n =
+      let f : eqb (refusal .number) 0 ≡ false = ap (λ (x : Refusal). eqb (x .number) 0) (sym e) ∙ ne-eqb (r .number) 0 n in
+      record { answer = rw f (ap Refused e); counts = rw f; weights = rw f }
+
+  pub hard-done : (r : Refusal) (c' c'' : List ℕ) (w' w'' : List Float) (a : Answer) → r ≡ hardRefusal L P ts B limit (length c) (length w) → r .number ≡ 0 → HardAccepted L P ts B limit (length c) (length w) → CoreDone L P ts B limit c c' w w' a
+      → c'' ≡ cleared 0 3006 c' → w'' ≡ cleared zeroF 3006 w' → HardDone L P ts B limit c c'' w w'' a
+  unfolding hardAnswer left
+  hard-done r c' c'' w' w'' a e z A D u v =
+      let f : eqb (refusal .number) 0 ≡ true = ap (λ (x : Refusal). eqb (x .number) 0) (sym e) ∙ eq-eqb (r .number) 0 z in
+      record {
+        answer = rw f (D .answer);
+        counts = rw f (u ∙ cleared-forgets 0 3006 0 c c' (A .room .0) (D .counts));
+        weights = rw f (v ∙ cleared-forgets nan 3006 zeroF w w' (A .room .1) (D .weights));
+      }
+
+  -- any two results that the promise allows are equal
+  pub hard-unique : (c' d' : List ℕ) (w' x' : List Float) (r s : Answer) → HardDone L P ts B limit c c' w w' r → HardDone L P ts B limit c d' w x' s → (r ≡ s) × (c' ≡ d') × (w' ≡ x')
+  hard-unique c' d' w' x' r s p q = (p .answer ∙ sym (q .answer), p .counts ∙ sym (q .counts), p .weights ∙ sym (q .weights))

@@ -1,0 +1,118 @@
+-- DEMAND 3, HARD. For accepted inputs with some confidence in each list, hard decode answers exactly when one placing of the logical list leads and agrees with
+-- the winner of the physical list; it gives that placing, and a runner-up that is another placing with hits no third exceeds. Hits are board's, edge by edge.
+use mathlib.Core.Path.{_≡_, refl, sym, ap, ap₂, subst, _∙_}
+use mathlib.Core.Bool.{Bool, true, false, _&&_}
+use mathlib.Core.List.{List}
+use Prim.Native.Nat.{ℕ, _+_, _*_, _≤_, _<_}
+use native.Mathlib.Omega.{arith}
+use lib.Dec.{eqb}
+use lib.ListN.{getD, length}
+use lib.IntN.{pos}
+use lib.Ieee.{Float, binary32, ofInt}
+use borrow.Author.Tests.{eq-eqb, eqb-true}
+use Rattle.laws.specs.Tests.{clash, and-true}
+use Rattle.laws.specs.Weights.{oneF}
+use Rattle.board.specs.Hits.{EdgeList, Board, Placing, size, hitsAt}
+use Rattle.board.specs.Sides.{periodOf}
+use Rattle.checks.specs.Accepted.{HardAccepted}
+use Rattle.hard.specs.Gate.{passed}
+use Rattle.hard.specs.Select.{noConfidence, selection}
+use Rattle.hard.specs.SelectTheorems.{sole-selected}
+use Rattle.hard.specs.declared.scan.Candidate.{Candidate}
+use Rattle.hard.specs.declared.scan.RunnerUp.{RunnerUp}
+use Rattle.hard.specs.declared.select.Selection.{Selection}
+use Rattle.hard.specs.declared.select.Selection.the-variants as sel
+use Rattle.puzzleboard.specs.declared.answer.Decoded.{Decoded}
+use Rattle.puzzleboard.specs.declared.answer.Answer.{Answer}
+use Rattle.puzzleboard.specs.declared.answer.Answer.the-variants.{Found, Refused}
+use Rattle.puzzleboard.specs.Hard.{refusedBy, agreed, decodedOf, pick, judged, afterPhysical, afterLogical, hardCore}
+use Rattle.puzzleboard.specs.Demand.{OnBoard, Same, Leads, RunsUp, Names, AgreesPhysical, Tells}
+use Rattle.puzzleboard.specs.DemandLaws.{keyOf, key-same, leads-sole}
+use Rattle.puzzleboard.specs.Winners.{placed, nextAt, winner-on, winner-leads, winner-hits, named, runner-hits, runs-up}
+
+-- ---- found or refused: no answer is both
+no-square : (d : Decoded) (n : ℕ) → refusedBy n ≡ Found d → ⊥
+no-square d n e = let z : _≡_ {A = ℕ} 0 1 = cc in omega arith
+
+module _ (L P : EdgeList) (ts : List ℕ) (B : Board) (limit : Float) (m n : ℕ) (A : HardAccepted L P ts B limit m n) where
+  -- what a found hard answer says
+  pub record Answered (d : Decoded) : Type 0 where
+    pub square : Placing
+    pub runner-up : Placing
+    pub leads : Leads B L ts limit square
+    pub agrees : AgreesPhysical B P ts square
+    pub next : RunsUp B L ts square runner-up
+    pub tells : Tells B L ts d square runner-up
+
+  -- ---- found: then a placing leads and agrees, and the answer tells it
+  module _ (d : Decoded) where
+    module _ (x : Candidate) (r : RunnerUp) (y : Candidate) (o : RunnerUp) (e : selection B L ts limit ≡ sel.Selected x r) (f : selection B P ts oneF ≡ sel.Selected y o) where
+      abbrev t : ℕ
+      t = getD ts (x .place) 0
+
+      abbrev s : ℕ
+      s = getD ts (y .place) 0
+
+      answered : agreed t x s y ≡ true → passed (size L) (x .hits) (r .hits) ≡ true → Found (decodedOf t x r (size L)) ≡ Found d → Answered d
+      unfolding agreed decodedOf
+      answered a g k =
+          let q : decodedOf t x r (size L) ≡ d = cc in
+          let u = and-true (eqb t s) _ a in
+          let v = and-true (eqb (x .row) (y .row)) (eqb (x .col) (y .col)) (u .1) in
+          let l = A .logical in
+          record {
+            square = placed x;
+            runner-up = nextAt (named B L ts limit (A .board) l (A .transforms .few) x r e g .0) r;
+            leads = winner-leads B L ts limit (A .board) l (A .transforms .few) x r e g;
+            agrees = record { winner = y; next = o; chosen = f; transform = sym (eqb-true t s (u .0)); row = sym (eqb-true (x .row) (y .row) (v .0)); col = sym (eqb-true (x .col) (y .col) (v .1)) };
+            next = runs-up B L ts limit (A .board) l (A .transforms .few) x r e g;
+            tells = subst (λ (z : Decoded). Tells B L ts z (placed x) (nextAt (named B L ts limit (A .board) l (A .transforms .few) x r e g .0) r)) q (record {
+              square = (refl, refl, refl);
+              hits = winner-hits B L ts limit (A .board) l (A .transforms .few) x r e g;
+              edges = refl;
+              runner = (named B L ts limit (A .board) l (A .transforms .few) x r e g .2, refl, refl);
+              next = ap (λ (z : ℕ). ofInt binary32 (pos z)) (sym (runner-hits B L ts limit (A .board) l (A .transforms .few) x r e g));
+            });
+          }
+
+      by-gate : (b : Bool) → passed (size L) (x .hits) (r .hits) ≡ b → agreed t x s y ≡ true → pick b (Found (decodedOf t x r (size L))) (refusedBy 13) ≡ Found d → Answered d
+      by-gate true g a k = answered a g k
+      by-gate false g a k = absurd (no-square d 13 k)
+
+      by-agreed : (b : Bool) → agreed t x s y ≡ b → pick b (pick (passed (size L) (x .hits) (r .hits)) (Found (decodedOf t x r (size L))) (refusedBy 13)) (refusedBy 12) ≡ Found d → Answered d
+      by-agreed true a k = by-gate (passed (size L) (x .hits) (r .hits)) refl a k
+      by-agreed false a k = absurd (no-square d 12 k)
+
+      from-judged : judged t x r s y (size L) ≡ Found d → Answered d
+      unfolding judged
+      from-judged h = by-agreed (agreed t x s y) refl h
+
+    from-physical : (x : Candidate) (r : RunnerUp) (q : Selection) → selection B L ts limit ≡ sel.Selected x r → selection B P ts oneF ≡ q → afterPhysical L ts x r q ≡ Found d → Answered d
+    from-physical x r (sel.Refused k) e f h = absurd (no-square d k h)
+    from-physical x r (sel.Selected y o) e f h = from-judged x r y o e f h
+
+    from-logical : (q : Selection) → selection B L ts limit ≡ q → afterLogical L P ts B q ≡ Found d → Answered d
+    from-logical (sel.Refused k) e h = absurd (no-square d k h)
+    from-logical (sel.Selected x r) e h = from-physical x r (selection B P ts oneF) e refl h
+
+    -- FOUND MEANS TRUE
+    pub hard-sound : hardCore L P ts B limit ≡ Found d → Answered d
+    unfolding hardCore
+    hard-sound h = from-logical (selection B L ts limit) refl h
+
+  -- ---- a placing leads and agrees: then hard decode finds
+  -- A TRUE SQUARE IS FOUND
+  pub hard-complete : noConfidence L ≡ false → (Q : Placing) → Leads B L ts limit Q → AgreesPhysical B P ts Q → (d : Decoded) × (hardCore L P ts B limit ≡ Found d)
+  unfolding hardCore judged agreed
+  hard-complete h Q l a =
+      let s = sole-selected B L ts limit (A .board) (A .logical) (A .transforms .few) h (Q .place) (keyOf B (A .board) Q) (leads-sole B (A .board) ts L limit Q l) in
+      let x = s .0 in
+      let r = s .1 in
+      let k = key-same B (A .board) ts Q (placed x) (l .on-board) (winner-on B L ts limit (A .board) (A .logical) (A .transforms .few) x r (s .2)) (s .4, s .5) in
+      let y = a .winner in
+      let t = getD ts (x .place) 0 in
+      let v = getD ts (y .place) 0 in
+      let p1 : eqb t v ≡ true = eq-eqb t v (ap (λ (i : ℕ). getD ts i 0) (sym (k .0)) ∙ sym (a .transform)) in
+      let p2 : eqb (x .row) (y .row) ≡ true = eq-eqb (x .row) (y .row) (sym (k .1) ∙ sym (a .row)) in
+      let p3 : eqb (x .col) (y .col) ≡ true = eq-eqb (x .col) (y .col) (sym (k .2) ∙ sym (a .col)) in
+      (decodedOf t x r (size L), rw (s .2, a .chosen, p1, p2, p3, s .3))

@@ -1,0 +1,223 @@
+// Hard decode: which square the camera faces, judged by hits, or a refusal.
+ghost use mathlib.Core.Path.{_≡_};
+ghost use Prim.Native.Nat.{_≤_, _<_};
+ghost use lib.ListN.{length};
+ghost use Rattle.board.specs.Hits.{edges, tables};
+ghost use Rattle.checks.specs.Accepted.{HardAccepted};
+ghost use Rattle.puzzleboard.specs.Hard.{refusedBy, agreed, decodedOf, judged, CoreDone, HardDone};
+use crate::answer::Answer;
+use crate::answer::Decoded;
+use crate::answer::Square;
+use checks::refusal::Refusal;
+use hard::scan::Candidate;
+use hard::scan::RunnerUp;
+use hard::select::Selection;
+
+// A refusal by its number.
+pub fn refuse(number: u32) -> Answer
+    ensures { λ r. ⌜ r ≡ refusedBy number ⌝ }
+{
+    Answer::Refused(Refusal { number })
+}
+
+// Whether two winners agree in transform and origin.
+pub fn same_square(t: u8, a: Candidate, s: u8, b: Candidate) -> bool
+    ensures { λ r. ⌜ r ≡ agreed t a s b ⌝ }
+{
+    if t == s {
+        if a.row == b.row {
+            return a.col == b.col;
+        }
+    }
+    false
+}
+
+// What a found answer says of the winner w under transform t, with its runner-up.
+pub fn decoded(t: u8, w: Candidate, next: RunnerUp, edges: u32) -> Decoded
+    requires { ⌜ (w .hits ≤ edges) × (next .hits ≤ edges) × (edges ≤ 8192) ⌝ }
+    ensures { λ r. ⌜ r ≡ decodedOf t w next edges ⌝ }
+{
+    let square = Square {
+        transform: t as u32,
+        row: w.row,
+        col: w.col,
+    };
+    let runner = Square {
+        transform: next.transform as u32,
+        row: next.row,
+        col: next.col,
+    };
+    Decoded {
+        square,
+        hits: w.hits,
+        edges,
+        weighted: w.score,
+        rate: hard::scan::rate(edges, w.hits),
+        mean: crate::stats::mean(w.hits, w.weight),
+        best: w.score,
+        next: next.hits as f32,
+        margin: hard::gate::margin(w.hits, next.hits) as f32,
+        runner,
+    }
+}
+
+// The logical winner w under transform t, with its runner-up, judged against the physical winner p under transform s: 12, 13 or found.
+pub fn judge(t: u8, w: Candidate, next: RunnerUp, s: u8, p: Candidate, edges: u32) -> Answer
+    requires { ⌜ (w .hits ≤ edges) × (next .hits ≤ edges) × (edges ≤ 8192) ⌝ }
+    ensures { λ r. ⌜ r ≡ judged t w next s p edges ⌝ }
+{
+    if !same_square(t, w, s, p) {
+        return refuse(12);
+    }
+    if !hard::gate::passes(edges, w.hits, next.hits) {
+        return refuse(13);
+    }
+    Answer::Found(decoded(t, w, next, edges))
+}
+
+// What an accepted hard call answers: the logical list with the limit, the physical list with limit 1, then both judged. The room is left as it was used.
+pub fn hard_core<'a>(
+    lrows: &[i32],
+    lcols: &[i32],
+    lorientations: &[u8],
+    lbits: &[u8],
+    lconfidences: &[f32],
+    prows: &[i32],
+    pcols: &[i32],
+    porientations: &[u8],
+    pbits: &[u8],
+    pconfidences: &[f32],
+    transforms: &[u8],
+    h: &'a [u8],
+    v: &'a [u8],
+    limit: f32,
+    counts: &mut [u32],
+    weights: &mut [f32],
+) -> Answer
+    requires { ⌜ HardAccepted
+        (edges (now lrows) (now lcols) (now lorientations) (now lbits) (now lconfidences))
+        (edges (now prows) (now pcols) (now porientations) (now pbits) (now pconfidences))
+        (now transforms) (tables (now h) (now v)) limit (length (now counts)) (length (now weights)) ⌝ }
+    ensures { λ r. ⌜ CoreDone
+        (edges (now (lrows .entry)) (now (lcols .entry)) (now (lorientations .entry)) (now (lbits .entry)) (now (lconfidences .entry)))
+        (edges (now (prows .entry)) (now (pcols .entry)) (now (porientations .entry)) (now (pbits .entry)) (now (pconfidences .entry)))
+        (now (transforms .entry)) (tables (now (h .entry)) (now (v .entry))) limit
+        (now (counts .entry)) (now (counts .exit)) (now (weights .entry)) (now (weights .exit)) r ⌝ }
+{
+    let logical = hard::select::select(
+        lrows,
+        lcols,
+        lorientations,
+        lbits,
+        lconfidences,
+        transforms,
+        h,
+        v,
+        limit,
+        counts,
+        weights,
+    );
+    match logical {
+        Selection::Refused(number) => refuse(number),
+        Selection::Selected(w, next) => {
+            let physical = hard::select::select(
+                prows,
+                pcols,
+                porientations,
+                pbits,
+                pconfidences,
+                transforms,
+                h,
+                v,
+                1.0,
+                counts,
+                weights,
+            );
+            match physical {
+                Selection::Refused(number) => refuse(number),
+                Selection::Selected(p, _) => {
+                    let at = w.place;
+                    let other = p.place;
+                    judge(
+                        transforms[at],
+                        w,
+                        next,
+                        transforms[other],
+                        p,
+                        lrows.len() as u32,
+                    )
+                }
+            }
+        }
+    }
+}
+
+// Which square the camera faces by its two edge lists, or a refusal, for all inputs. After refusals 1 to 9 the lent room is untouched; after every other call
+// its first 3,006 places are zero.
+pub fn decode_hard<'a>(
+    lrows: &[i32],
+    lcols: &[i32],
+    lorientations: &[u8],
+    lbits: &[u8],
+    lconfidences: &[f32],
+    prows: &[i32],
+    pcols: &[i32],
+    porientations: &[u8],
+    pbits: &[u8],
+    pconfidences: &[f32],
+    transforms: &[u8],
+    h: &'a [u8],
+    v: &'a [u8],
+    limit: f32,
+    counts: &mut [u32],
+    weights: &mut [f32],
+) -> Answer
+    ensures { λ r. ⌜ HardDone
+        (edges (now (lrows .entry)) (now (lcols .entry)) (now (lorientations .entry)) (now (lbits .entry)) (now (lconfidences .entry)))
+        (edges (now (prows .entry)) (now (pcols .entry)) (now (porientations .entry)) (now (pbits .entry)) (now (pconfidences .entry)))
+        (now (transforms .entry)) (tables (now (h .entry)) (now (v .entry))) limit
+        (now (counts .entry)) (now (counts .exit)) (now (weights .entry)) (now (weights .exit)) r ⌝ }
+{
+    let refusal = checks::refusal::hard_refusal(
+        lrows,
+        lcols,
+        lorientations,
+        lbits,
+        lconfidences,
+        prows,
+        pcols,
+        porientations,
+        pbits,
+        pconfidences,
+        transforms,
+        h,
+        v,
+        limit,
+        counts.len(),
+        weights.len(),
+    );
+    if refusal.number != 0 {
+        return Answer::Refused(refusal);
+    }
+    let answer = hard_core(
+        lrows,
+        lcols,
+        lorientations,
+        lbits,
+        lconfidences,
+        prows,
+        pcols,
+        porientations,
+        pbits,
+        pconfidences,
+        transforms,
+        h,
+        v,
+        limit,
+        counts,
+        weights,
+    );
+    laws::clear_u32(counts, 3006);
+    laws::clear_f32(weights, 3006);
+    answer
+}

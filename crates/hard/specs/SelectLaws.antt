@@ -69,6 +69,25 @@ tables-ok B E t board list = record {
   few = list .few;
 }
 
+-- the four tables that were built are where they are read
+module _ (B : Board) (E : EdgeList) (t : ℕ) (c c' : List ℕ) (w w' : List Float) (ready : TablesReady B E t c w) (b : TablesBuilt B E t c c' w w') where
+  pub built-cells : roomCells (periodOf B true) (periodOf B false) c' w' ≡ tablesOf B E t
+  unfolding roomCells tablesOf
+  built-cells =
+      let hc = read-counts B E t c c' w w' ready b true in
+      let vc = read-counts B E t c c' w w' ready b false in
+      let hw = read-weights B E t c c' w w' ready b true in
+      let vw = read-weights B E t c c' w w' ready b false in
+      λ i. cells (hc i) (hw i) (vc i) (vw i)
+
+  pub room-ready : RoomReady (periodOf B true) (periodOf B false) (size E) c' w'
+  room-ready = record {
+    long = period-h B (ready .board);
+    wide = period-v B (ready .board);
+    room = (omega (arith, ready .room .0, b .counts .len), omega (arith, ready .room .1, b .weights .len));
+    tables = subst (λ (X : CellTables). TablesOk (periodOf B true) (periodOf B false) (size E) X) (sym built-cells) (tables-ok B E t (ready .board) (ready .list));
+  }
+
 module _ (B : Board) (E : EdgeList) (ts : List ℕ) (c : List ℕ) (w : List Float) (R : SelectReady B E ts c w) where
   -- a room that was left by some transforms is as long as it was
   pub rooms-length : (n : ℕ) (c' : List ℕ) (w' : List Float) → Rooms B E ts n c c' w w' → (length c' ≡ length c) × (length w' ≡ length w)
@@ -99,24 +118,6 @@ module _ (B : Board) (E : EdgeList) (ts : List ℕ) (c : List ℕ) (w : List Flo
         weights = record { len = b .weights .len ∙ l .1; cells = b .weights .cells; groups = b .weights .groups; surplus = λ k h. b .weights .surplus k h ∙ s k h .1 };
       })
 
-  -- the four tables that were built are where they are read
-  pub built-cells : (t : ℕ) (c' c'' : List ℕ) (w' w'' : List Float) → TablesReady B E t c' w' → TablesBuilt B E t c' c'' w' w'' → roomCells (periodOf B true) (periodOf B false) c'' w'' ≡ tablesOf B E t
-  unfolding roomCells tablesOf
-  built-cells t c' c'' w' w'' ready b =
-      let hc = read-counts B E t c' c'' w' w'' ready b true in
-      let vc = read-counts B E t c' c'' w' w'' ready b false in
-      let hw = read-weights B E t c' c'' w' w'' ready b true in
-      let vw = read-weights B E t c' c'' w' w'' ready b false in
-      λ i. cells (hc i) (hw i) (vc i) (vw i)
-
-  pub room-ready : (t : ℕ) (c' c'' : List ℕ) (w' w'' : List Float) → TablesReady B E t c' w' → TablesBuilt B E t c' c'' w' w'' → RoomReady (periodOf B true) (periodOf B false) (size E) c'' w''
-  room-ready t c' c'' w' w'' ready b = record {
-    long = period-h B (R .board);
-    wide = period-v B (R .board);
-    room = (omega (arith, ready .room .0, b .counts .len), omega (arith, ready .room .1, b .weights .len));
-    tables = subst (λ (X : CellTables). TablesOk (periodOf B true) (periodOf B false) (size E) X) (sym (built-cells t c' c'' w' w'' ready b)) (tables-ok B E t (R .board) (R .list));
-  }
-
 -- ---- the scan
 -- after n transforms, with the total confidence conf
 abbrev pub scanBy : Board → EdgeList → List ℕ → Float → Float → ℕ → HardScan
@@ -139,7 +140,7 @@ module _ (B : Board) (E : EdgeList) (ts : List ℕ) (conf limit : Float) (c : Li
   scan-more R n c' c'' w' w'' r r' h d b e = record {
     answer =
         e
-        ∙ ap (λ (X : CellTables). foldTransform (periodOf B true) (periodOf B false) (size E) conf limit (getD ts n 0) X r) (built-cells B E ts c w R (getD ts n 0) c' c'' w' w'' (rooms-ready B E ts c w R n c' w' (d .rooms) h) b)
+        ∙ ap (λ (X : CellTables). foldTransform (periodOf B true) (periodOf B false) (size E) conf limit (getD ts n 0) X r) (built-cells B E (getD ts n 0) c' c'' w' w'' (rooms-ready B E ts c w R n c' w' (d .rooms) h) b)
         ∙ selected-more (periodOf B true) (periodOf B false) (size E) conf limit (λ p. getD ts p 0) (λ p. tablesOf B E (getD ts p 0)) n r (d .answer);
     rooms = rooms-more B E ts c w R n c' c'' w' w'' (d .rooms) b;
   }

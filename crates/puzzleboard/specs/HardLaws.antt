@@ -6,12 +6,13 @@ use Prim.Native.Nat.{ℕ, zero, suc, _+_, _*_, _≤_, _<_}
 use native.Mathlib.Omega.{arith}
 use lib.Dec.{T, eqb, lit<}
 use lib.ListN.{getD, length}
-use lib.IntN.{ℤ}
+use lib.IntN.{ℤ, pos, negsuc}
 use lib.Ieee.{Float, nan}
 use borrow.Author.Tests.{eq-eqb, ne-eqb}
 use Rattle.laws.specs.Weights.{zeroF, oneF}
 use Rattle.laws.specs.Cleared.{cleared, SameBeyond, beyond-trans, cleared-forgets}
 use Rattle.board.specs.Hits.{EdgeList, Board, size}
+use Rattle.board.specs.Transform.{mat}
 use Rattle.board.specs.Sides.{periodOf}
 use Rattle.board.specs.Domain.{ListOk, BoardOk}
 use Rattle.tables.specs.Room.{used}
@@ -28,6 +29,34 @@ use Rattle.hard.specs.SelectTheorems.{selected-in-range}
 use Rattle.puzzleboard.specs.declared.answer.Answer.{Answer}
 use Rattle.puzzleboard.specs.declared.answer.Answer.the-variants.{Found, Refused}
 use Rattle.puzzleboard.specs.Hard.{refusedBy, judged, afterPhysical, afterLogical, hardCore, hardAnswer, left, HardDone, CoreDone}
+
+-- ---- the eight matrices differ
+-- the number of the transform with a matrix, by its four entries
+abbrev numberOf : ℤ → ℤ → ℤ → ℤ → ℕ
+numberOf (pos zero) (pos b) (pos c) d = 5
+numberOf (pos zero) (pos b) (negsuc c) d = 3
+numberOf (pos zero) (negsuc b) (pos c) d = 1
+numberOf (pos zero) (negsuc b) (negsuc c) d = 7
+numberOf (pos (suc a)) b c (pos d) = 0
+numberOf (pos (suc a)) b c (negsuc d) = 6
+numberOf (negsuc a) b c (pos d) = 4
+numberOf (negsuc a) b c (negsuc d) = 2
+
+number-told : (t : ℕ) → t < 8 → numberOf (mat t 0 0) (mat t 0 1) (mat t 1 0) (mat t 1 1) ≡ t
+unfolding mat
+number-told zero h = refl
+number-told (suc zero) h = refl
+number-told (suc (suc zero)) h = refl
+number-told (suc (suc (suc zero))) h = refl
+number-told (suc (suc (suc (suc zero)))) h = refl
+number-told (suc (suc (suc (suc (suc zero))))) h = refl
+number-told (suc (suc (suc (suc (suc (suc zero)))))) h = refl
+number-told (suc (suc (suc (suc (suc (suc (suc zero))))))) h = refl
+number-told (suc (suc (suc (suc (suc (suc (suc (suc t)))))))) h = absurd (omega arith)
+
+-- equal matrices are those of one transform
+pub matrix-tells : (t s : ℕ) → t < 8 → s < 8 → ((i j : ℕ) → mat t i j ≡ mat s i j) → t ≡ s
+matrix-tells t s h k e = sym (number-told t h) ∙ (λ i. numberOf (e 0 0 i) (e 0 1 i) (e 1 0 i) (e 1 1 i)) ∙ number-told s k
 
 -- ---- what a selection asks
 -- the used room of the flat board
@@ -60,7 +89,7 @@ module _ (L P : EdgeList) (ts : List ℕ) (B : Board) (limit : Float) (c : List 
   physical-winner r x next e k = selected-in-range B P ts oneF (A .board) (A .physical) (A .transforms .few) x next (sym e ∙ k) .place
 
   -- ---- the rooms
-  beyond : (E : EdgeList) (limit' : Float) (d d' : List ℕ) (x x' : List Float) (r : Selection) → SelectReady B E ts d x → SelectDone B E ts limit' d d' x x' r → SameBeyond 0 3006 d d' × SameBeyond nan 3006 x x'
+  pub beyond : (E : EdgeList) (limit' : Float) (d d' : List ℕ) (x x' : List Float) (r : Selection) → SelectReady B E ts d x → SelectDone B E ts limit' d d' x x' r → SameBeyond 0 3006 d d' × SameBeyond nan 3006 x x'
   beyond E limit' d d' x x' r R D =
       let s = select-beyond B E ts limit' d x R d' x' r D in
       let u = used-3006 B (A .periods) in

@@ -31,7 +31,7 @@ use Rattle.puzzleboard.specs.DemandLaws.{keyOf, key-same, leads-sole}
 use Rattle.puzzleboard.specs.Winners.{placed, nextAt, winner-on, winner-leads, winner-hits, named, runner-hits, runs-up}
 
 -- ---- found or refused: no answer is both
-no-square : (d : Decoded) (n : ℕ) → refusedBy n ≡ Found d → ⊥
+pub no-square : (d : Decoded) (n : ℕ) → refusedBy n ≡ Found d → ⊥
 no-square d n e = let z : _≡_ {A = ℕ} 0 1 = cc in omega arith
 
 module _ (L P : EdgeList) (ts : List ℕ) (B : Board) (limit : Float) (m n : ℕ) (A : HardAccepted L P ts B limit m n) where

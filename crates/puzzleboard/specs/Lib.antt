@@ -6,3 +6,7 @@ pub mod Demand
 pub mod DemandLaws
 pub mod Winners
 pub mod HardTheorems
+pub mod Soft
+pub mod SoftLaws
+pub mod SoftDemand
+pub mod SoftTheorems

@@ -63,7 +63,7 @@ cast-fold-room c = let l = c .before .before .before .before .before .before .be
 fold-room-requires : tie.Need-fold-room-requires Inv-loop μ-loop
 fold-room-requires c κs =
     let l = c .before .before .before .before .before .before .before .before .before .before in (
-      room-ready (B l) (E l) (ts l) _ _ (st l .pre) (getD (ts l) (at l) 0) (l .before .loop .counts) _ (l .before .loop .weights) _ (rooms-ready (B l) (E l) (ts l) _ _ (st l .pre) (at l) _ _ (done l .rooms) (l .loop-test .taken)) (c .before .before .before .before .before .before .build-tables .ensures),
+      room-ready (B l) (E l) (getD (ts l) (at l) 0) (l .before .loop .counts) _ (l .before .loop .weights) _ (rooms-ready (B l) (E l) (ts l) _ _ (st l .pre) (at l) _ _ (done l .rooms) (l .loop-test .taken)) (c .before .before .before .before .before .before .build-tables .ensures),
       omega (arith, scan-count (B l) (E l) (ts l) (st l .args .conf) (st l .args .limit) _ _ (at l) _ _ _ (done l), l .loop-test .taken, st l .pre .transforms .1),
     )
 

@@ -1,0 +1,100 @@
+use mathlib.Core.Path.{_≡_, refl, sym, ap, _∙_}
+use mathlib.Core.List.{List}
+use Prim.Native.Nat.{ℕ, _≤_, _<_}
+use native.Mathlib.Omega.{arith}
+use denote.Ref.{now}
+use lib.ListN.{length}
+use Rattle.board.specs.Hits.{EdgeList, Board, edges, tables, size}
+use Rattle.puzzleboard.specs.HardLaws.{ready-logical, logical-winner}
+use Rattle.puzzleboard.specs.SoftLaws.{logical-refused, figures-ready, verdict-refused, own-few, verdict-found}
+use borrow.Author.Needs.{needs}
+use Rattle.puzzleboard.proofs.soft_decode.soft_logical.Statement.{statement}
+use Rattle.puzzleboard.proofs.soft_decode.soft_logical.Tie as tie
+
+-- what the function was given
+module _ (s : tie.Start) where
+  abbrev L : EdgeList
+  L = let a = s .args in edges (now (a .lrows)) (now (a .lcols)) (now (a .lorientations)) (now (a .lbits)) (now (a .lconfidences))
+
+  abbrev P : EdgeList
+  P = let a = s .args in edges (now (a .prows)) (now (a .pcols)) (now (a .porientations)) (now (a .pbits)) (now (a .pconfidences))
+
+  abbrev B : Board
+  B = tables (now (s .args .h)) (now (s .args .v))
+
+  abbrev ts : List ℕ
+  ts = now (s .args .transforms)
+
+-- the start, seen from the selection
+abbrev st : tie.After-select → tie.Start
+st c = c .before .before .before .before .before .before .before .before .before .before .before .before .before .before
+
+-- the hard winner of the logical list and its runner-up
+winner : (c : tie.After-logical2) → let d = c .before .before .before .before .before .before in let x = c .logical2 .given .0 .0 in let r = c .logical2 .given .0 .1 .0 in (x .place < length (ts (st d))) × (x .hits ≤ size (L (st d))) × (r .hits ≤ size (L (st d)))
+winner c = let d = c .before .before .before .before .before .before in let s = st d in logical-winner (L s) (P s) (ts s) (B s) (s .args .limit) (now (s .args .counts)) (now (s .args .weights)) (s .pre .0) (d .select .result) _ _ (d .select .ensures .answer) (c .logical2 .given .1)
+
+select-requires : tie.Need-select-requires
+select-requires c κs = let s = c .before .before .before .before .before .before .before .before .before .before .before .before .before in ready-logical (L s) (P s) (ts s) (B s) (s .args .limit) (now (s .args .counts)) (now (s .args .weights)) (s .pre .0)
+
+enum-known-logical : tie.Need-enum-known-logical
+enum-known-logical c = search needs
+
+refuse-requires : tie.Need-refuse-requires
+refuse-requires c κs = search needs
+
+enum-known-logical-2 : tie.Need-enum-known-logical-2
+enum-known-logical-2 c = search needs
+
+shared-slice-read-t : tie.Need-shared-slice-read-t
+shared-slice-read-t c = search needs
+
+shared-slice-read-s : tie.Need-shared-slice-read-s
+shared-slice-read-s c = winner (c .before .before .before) .0
+
+cast-soft-verdict : tie.Need-cast-soft-verdict
+cast-soft-verdict c = let d = c .before .before .before .before .before .before .before .before .before in let s = st d in omega (arith, s .pre .0 .logical .few)
+
+soft-verdict-requires : tie.Need-soft-verdict-requires
+soft-verdict-requires c κs = search needs
+
+refuse-requires-2 : tie.Need-refuse-requires-2
+refuse-requires-2 c κs = search needs
+
+same-length : tie.Need-same-length
+same-length c = search needs
+
+same-length-2 : tie.Need-same-length-2
+same-length-2 c = search needs
+
+returns : tie.Need-returns
+returns c = let d = c .before .before .before .before .before .before .before .before .before .before .before .before in let s = st d in let l = c .before .before .before .before .before .before .logical2 .given in let v = c .before .before .soft-verdict in verdict-refused (L s) (P s) (ts s) (B s) (s .args .limit) (now (s .args .counts)) (now (s .args .weights)) (s .pre .0) (s .args .first) (s .args .margin) _ _ (d .select .result) (d .select .ensures) (l .0 .0) (l .0 .1 .0) (l .1) (v .result) (v .ensures) _ (c .before .if1 .taken) (c .refuse2 .ensures)
+
+figures-requires : tie.Need-figures-requires
+figures-requires c κs = let d = c .before .before .before .before .before .before .before .before .before .before .before .before .before in let s = st d in figures-ready (L s) (P s) (ts s) (B s) (s .args .limit) (now (s .args .counts)) (now (s .args .weights)) (s .pre .0) (s .args .first) (s .args .margin) _ _ (d .select .result) (d .select .ensures) (s .pre .1)
+
+cast-soft-decoded : tie.Need-cast-soft-decoded
+cast-soft-decoded c = let d = c .before .before .before .before .before .before .before .before .before .before .before .before .before .before .before .before .before .before in let s = st d in omega (arith, s .pre .0 .physical .few)
+
+soft-decoded-requires : tie.Need-soft-decoded-requires
+soft-decoded-requires c κs = let d = c .before .before .before .before .before .before .before .before .before .before .before .before .before .before .before .before .before .before in let s = st d in let l = c .before .before .before .before .before .before .before .before .before .before .before .before .logical2 .given in let v = c .before .before .before .before .before .before .before .before .soft-verdict in let b = winner (c .before .before .before .before .before .before .before .before .before .before .before .before) .2 in (own-few (L s) (P s) (ts s) (B s) (s .args .limit) (now (s .args .counts)) (now (s .args .weights)) (s .pre .0) (s .args .first) (s .args .margin) _ _ (d .select .result) (d .select .ensures) (l .0 .0) (l .0 .1 .0) (l .1) (v .result) (v .ensures) _ _ _ (c .before .before .before .before .figures .ensures), s .pre .0 .physical .few, omega (arith, s .pre .0 .logical .few))
+
+same-length-3 : tie.Need-same-length-3
+same-length-3 c = search needs
+
+same-length-4 : tie.Need-same-length-4
+same-length-4 c = search needs
+
+returns-2 : tie.Need-returns-2
+returns-2 c = let d = c .before .before .before .before .before .before .before .before in let s = st d in let l = c .before .before .logical .given in logical-refused (L s) (P s) (ts s) (B s) (s .args .limit) (now (s .args .counts)) (now (s .args .weights)) (s .pre .0) (s .args .first) (s .args .margin) _ _ (d .select .result) (d .select .ensures) (l .0 .0) _ (l .1) (c .refuse .ensures)
+
+returns-3 : tie.Need-returns-3
+returns-3 c = let d = c .before .before .before .before .before .before .before .before .before .before .before .before .before .before .before .before .before .before .before in let s = st d in let l = c .before .before .before .before .before .before .before .before .before .before .before .before .before .logical2 .given in let v = c .before .before .before .before .before .before .before .before .before .soft-verdict in verdict-found (L s) (P s) (ts s) (B s) (s .args .limit) (now (s .args .counts)) (now (s .args .weights)) (s .pre .0) (s .args .first) (s .args .margin) _ _ (d .select .result) (d .select .ensures) (l .0 .0) (l .0 .1 .0) (l .1) (v .result) (v .ensures) _ _ _ (c .before .before .before .before .before .figures .ensures) _ (c .before .before .before .before .before .before .before .before .if1 .left) (c .soft-decoded .ensures)
+
+same-length-5 : tie.Need-same-length-5
+same-length-5 c = returns-3 c .counts .len
+
+same-length-6 : tie.Need-same-length-6
+same-length-6 c = returns-3 c .weights .len
+
+pub soft-logical-spec : {M : Type 1} → statement M
+soft-logical-spec = tie.close (tie.spec select-requires enum-known-logical refuse-requires enum-known-logical-2 shared-slice-read-t shared-slice-read-s cast-soft-verdict soft-verdict-requires refuse-requires-2 same-length same-length-2 returns figures-requires cast-soft-decoded soft-decoded-requires same-length-3 same-length-4 returns-2 same-length-5 same-length-6 returns-3)

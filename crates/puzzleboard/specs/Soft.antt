@@ -1,0 +1,126 @@
+-- Document 01, 'Soft selection', and 'Refusal numbers': "Soft: 10 physical, 14, 10 logical, 11, 15, 13."
+use mathlib.Core.Path.{_≡_}
+use mathlib.Core.Bool.{Bool, true, false, cond, _&&_}
+use mathlib.Core.List.{List}
+use Prim.Native.Nat.{ℕ, _+_, _*_, _%_}
+use lib.Dec.{eqb}
+use lib.ListN.{getD, length}
+use lib.IntN.{ℤ, pos}
+use lib.Ieee.{Float, nan, binary32, add, div, ofInt}
+use Rattle.laws.specs.Weights.{zeroF}
+use Rattle.laws.specs.Cleared.{SameBeyond}
+use Rattle.board.specs.Hits.{EdgeList, Board, size}
+use Rattle.board.specs.Sides.{periodOf}
+use Rattle.tables.specs.Room.{TablesBuilt}
+use Rattle.tables.specs.Sums.{Likelihoods}
+use Rattle.checks.specs.Refusals.{softRefusal}
+use Rattle.hard.specs.declared.scan.Candidate.{Candidate}
+use Rattle.hard.specs.declared.scan.RunnerUp.{RunnerUp}
+use Rattle.hard.specs.declared.select.Selection.{Selection}
+use Rattle.hard.specs.declared.select.Selection.the-variants as sel
+use Rattle.hard.specs.CellTables.{CellTables, cAt, wAt}
+use Rattle.hard.specs.Scan.{rateOf}
+use Rattle.hard.specs.Gate.{passed}
+use Rattle.hard.specs.Select.{noConfidence, tablesOf, selection}
+use Rattle.soft.specs.declared.scan.SoftCandidate.{SoftCandidate}
+use Rattle.soft.specs.declared.scan.SoftChoice.{SoftChoice}
+use Rattle.soft.specs.declared.scan.SoftChoice.the-variants.{Nothing, Chosen}
+use Rattle.soft.specs.Margin.{softMargin, belowMargin}
+use Rattle.soft.specs.Select.{softSelection}
+use Rattle.puzzleboard.specs.declared.stats.HitsWeight.{HitsWeight}
+use Rattle.puzzleboard.specs.declared.answer.Decoded.{Decoded}
+use Rattle.puzzleboard.specs.declared.answer.Answer.{Answer}
+use Rattle.puzzleboard.specs.declared.answer.Answer.the-variants.{Found, Refused}
+use Rattle.puzzleboard.specs.Stats.{meanOf}
+use Rattle.puzzleboard.specs.Hard.{refusedBy, pick, left}
+
+-- ---- the physical list's figures
+-- the two cells of an origin, added: counts, and weights rounded once
+unfoldable pub cellFigures : ℕ → ℕ → CellTables → ℕ → ℕ → HitsWeight
+cellFigures L M X row col = record {
+  hits = cAt (X .hc) (row % L * 3 + col % 3) + cAt (X .vc) (row % 3 * M + col % M);
+  weight = add binary32 (wAt (X .hw) (row % L * 3 + col % 3)) (wAt (X .vw) (row % 3 * M + col % M));
+}
+
+-- of the origin (row, col) under the transform t
+abbrev pub figuresOf : Board → EdgeList → ℕ → ℕ → ℕ → HitsWeight
+figuresOf B E t row col = cellFigures (periodOf B true) (periodOf B false) (tablesOf B E t) row col
+
+-- ---- the verdict
+-- "Then hard selection on the logical list must give the same origin and matrix and pass the gate": 15, 13, or 0
+unfoldable pub softVerdict : ℕ → SoftCandidate → ℕ → Candidate → RunnerUp → ℕ → ℕ
+softVerdict t first s w next edges =
+    cond (eqb t s && (eqb (first .row) (w .row) && eqb (first .col) (w .col))) (cond (passed edges (w .hits) (next .hits)) 0 13) 15
+
+-- "the runner-up fields are replaced by the hard runner-up (score = its hits); the margin stays. Best score = f32 total, weighted score = that / edges; edges,
+-- hits, rate and mean confidence are the physical list's."
+unfoldable pub softDecodedOf : ℕ → SoftCandidate → Float → HitsWeight → ℕ → RunnerUp → Decoded
+softDecodedOf t first margin figures edges next = record {
+  square = record { transform = t; row = first .row; col = first .col };
+  hits = figures .hits;
+  edges = edges;
+  weighted = div binary32 (first .total) (ofInt binary32 (pos edges));
+  rate = rateOf edges (figures .hits);
+  mean = meanOf (figures .hits) (figures .weight);
+  best = first .total;
+  next = ofInt binary32 (pos (next .hits));
+  margin = margin;
+  runner = record { transform = next .transform; row = next .row; col = next .col };
+}
+
+-- ---- the answer
+module _ (P L : EdgeList) (ts : List ℕ) (B : Board) (limit : Float) where
+  -- the soft winner `first` with its margin, where the logical list gave w with its runner-up
+  unfoldable pub softJudged : SoftCandidate → Float → Candidate → RunnerUp → Answer
+  unfolding softDecodedOf
+  softJudged first margin w next =
+      let t = getD ts (first .place) 0 in
+      let n = softVerdict t first (getD ts (w .place) 0) w next (size L) in
+      pick (eqb n 0) (Found (softDecodedOf t first margin (figuresOf B P t (first .row) (first .col)) (size P) next)) (refusedBy n)
+
+  abbrev pub afterHard : SoftCandidate → Float → Selection → Answer
+  afterHard first margin (sel.Refused n) = refusedBy n
+  afterHard first margin (sel.Selected w next) = softJudged first margin w next
+
+  -- "Margin = (first - second) / edges. Below the soft margin: refused."
+  abbrev pub afterSoft : Float → SoftChoice → Answer
+  afterSoft least Nothing = refusedBy 14
+  afterSoft least (Chosen first second) =
+      pick (belowMargin (softMargin first second (size P)) least) (refusedBy 14) (afterHard first (softMargin first second (size P)) (selection B L ts limit))
+
+-- what an accepted soft call answers, with the soft margin `least`
+unfoldable pub softCore : EdgeList → Likelihoods → EdgeList → List ℕ → Board → Float → Float → Answer
+unfolding softJudged
+softCore P X L ts B limit least = pick (noConfidence P) (refusedBy 10) (afterSoft P L ts B limit least (softSelection B P X ts))
+
+-- the answer for all inputs: refusals 1 to 9 come first
+unfoldable pub softAnswer : EdgeList → Likelihoods → EdgeList → List ℕ → Board → Float → Float → ℕ → ℕ → ℕ → Answer
+unfolding softCore
+softAnswer P X L ts B limit least m n k =
+    let r = softRefusal P (X .matches) (X .mismatches) L ts B limit least m n k in
+    pick (eqb (r .number) 0) (softCore P X L ts B limit least) (Refused r)
+
+-- what soft decode promises for all inputs: the answer, and the three room slices at exit
+pub record SoftDone (P : EdgeList) (X : Likelihoods) (L : EdgeList) (ts : List ℕ) (B : Board) (limit least : Float) (c c' : List ℕ) (w w' : List Float) (a a' : List ℤ) (r : Answer) : Type 0 where
+  pub answer : r ≡ softAnswer P X L ts B limit least (length c) (length w) (length a)
+  pub counts : c' ≡ left 0 3006 (softRefusal P (X .matches) (X .mismatches) L ts B limit least (length c) (length w) (length a)) c
+  pub weights : w' ≡ left zeroF 3006 (softRefusal P (X .matches) (X .mismatches) L ts B limit least (length c) (length w) (length a)) w
+  pub sums : a' ≡ left (pos 0) 5010 (softRefusal P (X .matches) (X .mismatches) L ts B limit least (length c) (length w) (length a)) a
+
+-- ---- what the steps between leave
+pub record FiguresDone (B : Board) (E : EdgeList) (t row col : ℕ) (c c' : List ℕ) (w w' : List Float) (r : HitsWeight) : Type 0 where
+  pub answer : r ≡ figuresOf B E t row col
+  pub rooms : TablesBuilt B E t c c' w w'
+
+-- the logical list and the figures: the u32 and the f32 room are used
+pub record LogicalDone (P L : EdgeList) (ts : List ℕ) (B : Board) (limit : Float) (first : SoftCandidate) (margin : Float) (c c' : List ℕ) (w w' : List Float) (r : Answer) : Type 0 where
+  pub answer : r ≡ afterHard P L ts B limit first margin (selection B L ts limit)
+  pub counts : SameBeyond 0 3006 c c'
+  pub weights : SameBeyond nan 3006 w w'
+
+-- the whole: all three are used
+pub record SoftCoreDone (P : EdgeList) (X : Likelihoods) (L : EdgeList) (ts : List ℕ) (B : Board) (limit least : Float) (c c' : List ℕ) (w w' : List Float) (a a' : List ℤ) (r : Answer) : Type 0 where
+  pub answer : r ≡ softCore P X L ts B limit least
+  pub counts : SameBeyond 0 3006 c c'
+  pub weights : SameBeyond nan 3006 w w'
+  pub sums : SameBeyond (pos 0) 5010 a a'

@@ -1,0 +1,56 @@
+-- What customers are promised of a soft answer, by likelihood sums and hits, both edge by edge: no table occurs here.
+use mathlib.Core.Path.{_≡_}
+use mathlib.Core.Bool.{true, false}
+use mathlib.Core.List.{List}
+use Prim.Native.Nat.{ℕ}
+use lib.ListN.{getD, length}
+use lib.IntN.{pos}
+use lib.Ieee.{Float, binary32, ofInt}
+use Rattle.laws.specs.Grid.{origins}
+use Rattle.board.specs.Hits.{EdgeList, Board, Placing, size, hitsAt}
+use Rattle.board.specs.Sides.{periodOf}
+use Rattle.likelihood.specs.Likelihood.{dequantised}
+use Rattle.tables.specs.Sums.{Likelihoods, score}
+use Rattle.hard.specs.OneList.{keyAt}
+use Rattle.soft.specs.declared.scan.SoftCandidate.{SoftCandidate}
+use Rattle.soft.specs.BestPlacing.{FirstPlace, SecondPlace}
+use Rattle.soft.specs.Margin.{softMargin, belowMargin}
+use Rattle.soft.specs.SelectLaws.{scoreAtKey}
+use Rattle.puzzleboard.specs.declared.answer.Decoded.{Decoded}
+use Rattle.puzzleboard.specs.Demand.{OnBoard, Names, Leads, RunsUp}
+
+-- the f32 total of a placing: its likelihood sum over the edges
+abbrev pub total : Board → EdgeList → Likelihoods → List ℕ → Placing → Float
+total B E X ts P = dequantised (score B E X (getD ts (P .place) 0) (P .row) (P .col))
+
+-- the placing with its total
+abbrev pub candidate : Board → EdgeList → Likelihoods → List ℕ → Placing → SoftCandidate
+candidate B E X ts P = record { place = P .place; row = P .row; col = P .col; total = total B E X ts P }
+
+-- "Margin = (first - second) / edges"
+abbrev pub marginOf : Board → EdgeList → Likelihoods → List ℕ → Placing → Placing → Float
+marginOf B E X ts P Q = softMargin (candidate B E X ts P) (candidate B E X ts Q) (size E)
+
+-- "its own best placing": P has first place by likelihood, and Q has second place after it (BestPlacing.antt of soft says what these are)
+pub record BestByLikelihood (B : Board) (E : EdgeList) (X : Likelihoods) (ts : List ℕ) (P Q : Placing) : Type 0 where
+  pub on-board : OnBoard B ts P
+  pub second-on : OnBoard B ts Q
+  pub first : FirstPlace (origins (periodOf B true) (periodOf B false)) (length ts) (scoreAtKey B E X ts) (P .place) (keyAt (periodOf B false) (P .row) (P .col))
+  pub second : SecondPlace (origins (periodOf B true) (periodOf B false)) (length ts) (scoreAtKey B E X ts) (P .place) (keyAt (periodOf B false) (P .row) (P .col)) (Q .place) (keyAt (periodOf B false) (Q .row) (Q .col))
+
+-- what a found soft answer says: the physical list E gives the square, its figures and the margin; the logical list F gives the lead and the runner-up R
+pub record SoftAnswered (E : EdgeList) (X : Likelihoods) (F : EdgeList) (ts : List ℕ) (B : Board) (limit least : Float) (d : Decoded) : Type 0 where
+  pub square : Placing
+  pub second : Placing
+  pub runner-up : Placing
+  pub best : BestByLikelihood B E X ts square second
+  pub clears : belowMargin (marginOf B E X ts square second) least ≡ false
+  pub leads : Leads B F ts limit square
+  pub next-best : RunsUp B F ts square runner-up
+  pub names : Names ts square (d .square)
+  pub hits : d .hits ≡ hitsAt B E ts square
+  pub edges : d .edges ≡ size E
+  pub score : d .best ≡ total B E X ts square
+  pub margin : d .margin ≡ marginOf B E X ts square second
+  pub runner : Names ts runner-up (d .runner)
+  pub next : d .next ≡ ofInt binary32 (pos (hitsAt B F ts runner-up))

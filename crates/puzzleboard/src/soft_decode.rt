@@ -1,0 +1,386 @@
+// Soft decode: which square the camera faces, judged by likelihoods and then by hits, or a refusal.
+ghost use mathlib.Core.Path.{_≡_};
+ghost use Prim.Native.Nat.{_≤_, _<_};
+ghost use lib.ListN.{length};
+ghost use Rattle.board.specs.Hits.{edges, tables};
+ghost use Rattle.tables.specs.Sums.{likelihoods};
+ghost use Rattle.tables.specs.Room.{TablesReady};
+ghost use Rattle.hard.specs.SelectLaws.{RoomReady, roomCells};
+ghost use Rattle.checks.specs.Accepted.{HardAccepted, SoftAccepted};
+ghost use Rattle.puzzleboard.specs.Soft.{cellFigures, softVerdict, softDecodedOf, FiguresDone, LogicalDone, SoftCoreDone, SoftDone};
+use crate::answer::Answer;
+use crate::answer::Decoded;
+use crate::answer::Square;
+use crate::hard_decode::refuse;
+use crate::stats::HitsWeight;
+use hard::scan::Candidate;
+use hard::scan::RunnerUp;
+use hard::select::Selection;
+use soft::scan::SoftCandidate;
+use soft::scan::SoftChoice;
+
+// The hits and the weight of one origin, read off the tables in the room.
+pub fn figures_at(
+    counts: &[u32],
+    weights: &[f32],
+    long: usize,
+    wide: usize,
+    edges: u32,
+    row: u32,
+    col: u32,
+) -> HitsWeight
+    requires { ⌜ RoomReady long wide edges (now counts) (now weights) ⌝ }
+    ensures { λ r. ⌜ r ≡ cellFigures long wide (roomCells long wide (now (counts .entry)) (now (weights .entry))) row col ⌝ }
+{
+    let r = row as usize;
+    let c = col as usize;
+    let a = r % long * 3 + c % 3;
+    let b = 3 * long + (r % 3 * wide + c % wide);
+    HitsWeight {
+        hits: counts[a] + counts[b],
+        weight: weights[a] + weights[b],
+    }
+}
+
+// The hits and the weight of one placing of a list: the tables of its transform are built once more, and read at its origin.
+pub fn figures<'a>(
+    rows: &[i32],
+    cols: &[i32],
+    orientations: &[u8],
+    bits: &[u8],
+    confidences: &[f32],
+    transform: u8,
+    row: u32,
+    col: u32,
+    h: &'a [u8],
+    v: &'a [u8],
+    counts: &mut [u32],
+    weights: &mut [f32],
+) -> HitsWeight
+    requires { ⌜ TablesReady (tables (now h) (now v)) (edges (now rows) (now cols) (now orientations) (now bits) (now confidences)) transform (now counts) (now weights) ⌝ }
+    ensures { λ r. ⌜ FiguresDone (tables (now (h .entry)) (now (v .entry))) (edges (now (rows .entry)) (now (cols .entry)) (now (orientations .entry)) (now (bits .entry)) (now (confidences .entry))) transform row col (now (counts .entry)) (now (counts .exit)) (now (weights .entry)) (now (weights .exit)) r ⌝ }
+{
+    tables::build::build_tables(
+        rows,
+        cols,
+        orientations,
+        bits,
+        confidences,
+        transform,
+        h,
+        v,
+        counts,
+        weights,
+    );
+    figures_at(
+        counts,
+        weights,
+        h.len(),
+        v.len(),
+        rows.len() as u32,
+        row,
+        col,
+    )
+}
+
+// The soft winner under transform t against the hard winner w of the logical list under transform s: 15, 13, or 0 where both are passed.
+pub fn soft_verdict(
+    t: u8,
+    first: SoftCandidate,
+    s: u8,
+    w: Candidate,
+    next: RunnerUp,
+    edges: u32,
+) -> u32
+    ensures { λ r. ⌜ r ≡ softVerdict t first s w next edges ⌝ }
+{
+    if t == s {
+        if first.row == w.row {
+            if first.col == w.col {
+                if hard::gate::passes(edges, w.hits, next.hits) {
+                    return 0;
+                }
+                return 13;
+            }
+        }
+    }
+    15
+}
+
+// What a found soft answer says: the soft winner with its total and margin, the physical list's figures, and the hard runner-up.
+pub fn soft_decoded(
+    t: u8,
+    first: SoftCandidate,
+    margin: f32,
+    figures: HitsWeight,
+    edges: u32,
+    next: RunnerUp,
+) -> Decoded
+    requires { ⌜ (figures .hits ≤ edges) × (edges ≤ 8192) × (next .hits ≤ 8192) ⌝ }
+    ensures { λ r. ⌜ r ≡ softDecodedOf t first margin figures edges next ⌝ }
+{
+    let square = Square {
+        transform: t as u32,
+        row: first.row,
+        col: first.col,
+    };
+    let runner = Square {
+        transform: next.transform as u32,
+        row: next.row,
+        col: next.col,
+    };
+    Decoded {
+        square,
+        hits: figures.hits,
+        edges,
+        weighted: first.total / edges as f32,
+        rate: hard::scan::rate(edges, figures.hits),
+        mean: crate::stats::mean(figures.hits, figures.weight),
+        best: first.total,
+        next: next.hits as f32,
+        margin,
+        runner,
+    }
+}
+
+// The soft winner with its margin, against hard selection on the logical list: refused by that, 15, 13, or found. The room is left as it was used.
+pub fn soft_logical<'a>(
+    first: SoftCandidate,
+    margin: f32,
+    prows: &[i32],
+    pcols: &[i32],
+    porientations: &[u8],
+    pbits: &[u8],
+    pconfidences: &[f32],
+    lrows: &[i32],
+    lcols: &[i32],
+    lorientations: &[u8],
+    lbits: &[u8],
+    lconfidences: &[f32],
+    transforms: &[u8],
+    h: &'a [u8],
+    v: &'a [u8],
+    limit: f32,
+    counts: &mut [u32],
+    weights: &mut [f32],
+) -> Answer
+    requires { ⌜ HardAccepted
+        (edges (now lrows) (now lcols) (now lorientations) (now lbits) (now lconfidences))
+        (edges (now prows) (now pcols) (now porientations) (now pbits) (now pconfidences))
+        (now transforms) (tables (now h) (now v)) limit (length (now counts)) (length (now weights)) ⌝ }
+    requires { ⌜ first .place < length (now transforms) ⌝ }
+    ensures { λ r. ⌜ LogicalDone
+        (edges (now (prows .entry)) (now (pcols .entry)) (now (porientations .entry)) (now (pbits .entry)) (now (pconfidences .entry)))
+        (edges (now (lrows .entry)) (now (lcols .entry)) (now (lorientations .entry)) (now (lbits .entry)) (now (lconfidences .entry)))
+        (now (transforms .entry)) (tables (now (h .entry)) (now (v .entry))) limit first margin
+        (now (counts .entry)) (now (counts .exit)) (now (weights .entry)) (now (weights .exit)) r ⌝ }
+{
+    let logical = hard::select::select(
+        lrows,
+        lcols,
+        lorientations,
+        lbits,
+        lconfidences,
+        transforms,
+        h,
+        v,
+        limit,
+        counts,
+        weights,
+    );
+    match logical {
+        Selection::Refused(number) => refuse(number),
+        Selection::Selected(w, next) => {
+            let at = first.place;
+            let other = w.place;
+            let t = transforms[at];
+            let s = transforms[other];
+            let number = soft_verdict(t, first, s, w, next, lrows.len() as u32);
+            if number != 0 {
+                return refuse(number);
+            }
+            let own = figures(
+                prows,
+                pcols,
+                porientations,
+                pbits,
+                pconfidences,
+                t,
+                first.row,
+                first.col,
+                h,
+                v,
+                counts,
+                weights,
+            );
+            Answer::Found(soft_decoded(t, first, margin, own, prows.len() as u32, next))
+        }
+    }
+}
+
+// What an accepted soft call answers: the physical list's best two by likelihood, their margin, then the logical list. The room is left as it was used.
+pub fn soft_core<'a>(
+    prows: &[i32],
+    pcols: &[i32],
+    porientations: &[u8],
+    pbits: &[u8],
+    pconfidences: &[f32],
+    matches: &[f32],
+    mismatches: &[f32],
+    lrows: &[i32],
+    lcols: &[i32],
+    lorientations: &[u8],
+    lbits: &[u8],
+    lconfidences: &[f32],
+    transforms: &[u8],
+    h: &'a [u8],
+    v: &'a [u8],
+    limit: f32,
+    margin: f32,
+    counts: &mut [u32],
+    weights: &mut [f32],
+    sums: &mut [i64],
+) -> Answer
+    requires { ⌜ SoftAccepted
+        (edges (now prows) (now pcols) (now porientations) (now pbits) (now pconfidences))
+        (now matches) (now mismatches)
+        (edges (now lrows) (now lcols) (now lorientations) (now lbits) (now lconfidences))
+        (now transforms) (tables (now h) (now v)) limit margin (length (now counts)) (length (now weights)) (length (now sums)) ⌝ }
+    ensures { λ r. ⌜ SoftCoreDone
+        (edges (now (prows .entry)) (now (pcols .entry)) (now (porientations .entry)) (now (pbits .entry)) (now (pconfidences .entry)))
+        (likelihoods (now (matches .entry)) (now (mismatches .entry)))
+        (edges (now (lrows .entry)) (now (lcols .entry)) (now (lorientations .entry)) (now (lbits .entry)) (now (lconfidences .entry)))
+        (now (transforms .entry)) (tables (now (h .entry)) (now (v .entry))) limit margin
+        (now (counts .entry)) (now (counts .exit)) (now (weights .entry)) (now (weights .exit)) (now (sums .entry)) (now (sums .exit)) r ⌝ }
+{
+    let conf = hard::select::total_confidence(pconfidences);
+    if conf == 0.0 {
+        return refuse(10);
+    }
+    let scan = soft::select::scan_transforms(
+        prows,
+        pcols,
+        porientations,
+        pbits,
+        pconfidences,
+        matches,
+        mismatches,
+        transforms,
+        h,
+        v,
+        sums,
+    );
+    match soft::scan::finish(scan) {
+        SoftChoice::Nothing => refuse(14),
+        SoftChoice::Chosen { first, second } => {
+            let lead = soft::margin::soft_margin(first, second, prows.len() as u32);
+            if soft::margin::below(lead, margin) {
+                return refuse(14);
+            }
+            soft_logical(
+                first,
+                lead,
+                prows,
+                pcols,
+                porientations,
+                pbits,
+                pconfidences,
+                lrows,
+                lcols,
+                lorientations,
+                lbits,
+                lconfidences,
+                transforms,
+                h,
+                v,
+                limit,
+                counts,
+                weights,
+            )
+        }
+    }
+}
+
+// Which square the camera faces by the likelihoods of the physical list, confirmed by the hits of the logical list, or a refusal, for all inputs. After
+// refusals 1 to 9 the lent room is untouched; after every other call its first 3,006, 3,006 and 5,010 places are zero.
+pub fn decode_soft<'a>(
+    prows: &[i32],
+    pcols: &[i32],
+    porientations: &[u8],
+    pbits: &[u8],
+    pconfidences: &[f32],
+    matches: &[f32],
+    mismatches: &[f32],
+    lrows: &[i32],
+    lcols: &[i32],
+    lorientations: &[u8],
+    lbits: &[u8],
+    lconfidences: &[f32],
+    transforms: &[u8],
+    h: &'a [u8],
+    v: &'a [u8],
+    limit: f32,
+    margin: f32,
+    counts: &mut [u32],
+    weights: &mut [f32],
+    sums: &mut [i64],
+) -> Answer
+    ensures { λ r. ⌜ SoftDone
+        (edges (now (prows .entry)) (now (pcols .entry)) (now (porientations .entry)) (now (pbits .entry)) (now (pconfidences .entry)))
+        (likelihoods (now (matches .entry)) (now (mismatches .entry)))
+        (edges (now (lrows .entry)) (now (lcols .entry)) (now (lorientations .entry)) (now (lbits .entry)) (now (lconfidences .entry)))
+        (now (transforms .entry)) (tables (now (h .entry)) (now (v .entry))) limit margin
+        (now (counts .entry)) (now (counts .exit)) (now (weights .entry)) (now (weights .exit)) (now (sums .entry)) (now (sums .exit)) r ⌝ }
+{
+    let refusal = checks::refusal::soft_refusal(
+        prows,
+        pcols,
+        porientations,
+        pbits,
+        pconfidences,
+        matches,
+        mismatches,
+        lrows,
+        lcols,
+        lorientations,
+        lbits,
+        lconfidences,
+        transforms,
+        h,
+        v,
+        limit,
+        margin,
+        counts.len(),
+        weights.len(),
+        sums.len(),
+    );
+    if refusal.number != 0 {
+        return Answer::Refused(refusal);
+    }
+    let answer = soft_core(
+        prows,
+        pcols,
+        porientations,
+        pbits,
+        pconfidences,
+        matches,
+        mismatches,
+        lrows,
+        lcols,
+        lorientations,
+        lbits,
+        lconfidences,
+        transforms,
+        h,
+        v,
+        limit,
+        margin,
+        counts,
+        weights,
+        sums,
+    );
+    laws::clear_u32(counts, 3006);
+    laws::clear_f32(weights, 3006);
+    laws::clear_i64(sums, 5010);
+    answer
+}

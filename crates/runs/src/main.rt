@@ -1,0 +1,24 @@
+// Runs of the library: document 01's numbers and the numbers at their edges, each refusal, and windows of a board. Each section is headed by its name. What
+// it writes is held to the file `stdout`.
+mod print; // numbers, floats and answers as text
+mod part; // the front of a list
+mod cut; // boards of our own, and windows cut from them
+mod room; // what a call left in the lent room
+mod likelihoods; // a likelihood as a whole number, and a sum back to a float
+mod refusals; // refusals 1 to 9, alone and by pairs
+mod class_tables; // the class tables of one list for two transforms
+mod windows; // hard decode of windows and of lists that it must refuse
+mod soft_windows; // soft decode of noisy windows
+
+fn main() {
+    print::print(b"== likelihoods ==\n");
+    likelihoods::show_all();
+    print::print(b"== refusals ==\n");
+    refusals::show_all();
+    print::print(b"== class tables ==\n");
+    class_tables::show_all();
+    print::print(b"== windows ==\n");
+    windows::show_all();
+    print::print(b"== soft windows ==\n");
+    soft_windows::show_all();
+}

@@ -1,0 +1,157 @@
+-- What Samburext promises, in one place. Each claim speaks of what a call gave: `HardDone ..`, `SoftDone ..` and `r ≡ statsAnswer ..` are the contracts of
+-- `decode_hard`, `decode_soft` and `match_stats`, which have no `requires`, so the claims hold for all inputs and every pair of pattern tables.
+use mathlib.Core.Path.{_≡_, refl, sym, ap, subst, _∙_}
+use mathlib.Core.Bool.{Bool, true, false, cond}
+use mathlib.Core.List.{List}
+use Prim.Native.Nat.{ℕ, _+_, _*_, _≤_, _<_}
+use native.Mathlib.Omega.{arith}
+use lib.Dec.{eqb}
+use lib.ListN.{getD, length}
+use lib.IntN.{ℤ, pos}
+use lib.Ieee.{Float, nan}
+use borrow.Author.Tests.{eq-eqb, ne-eqb, eqb-true}
+use Rattle.laws.specs.Weights.{zeroF}
+use Rattle.laws.specs.Cleared.{cleared, cleared-written}
+use Rattle.board.specs.Hits.{EdgeList, Board, Placing, size, hits}
+use Rattle.tables.specs.Sums.{Likelihoods}
+use Rattle.checks.specs.declared.refusal.Refusal.{Refusal}
+use Rattle.checks.specs.Refusals.{hardRefusal, softRefusal, statsRefusal}
+use Rattle.checks.specs.Accepted.{HardAccepted, hard-accepted, SoftAccepted, soft-accepted}
+use Rattle.hard.specs.Select.{noConfidence}
+use Rattle.soft.specs.Margin.{belowMargin}
+use Rattle.puzzleboard.specs.declared.answer.Decoded.{Decoded}
+use Rattle.puzzleboard.specs.declared.answer.Answer.{Answer}
+use Rattle.puzzleboard.specs.declared.answer.Answer.the-variants.{Found, Refused}
+use Rattle.puzzleboard.specs.declared.answer.MatchStats.{MatchStats}
+use Rattle.puzzleboard.specs.declared.answer.StatsAnswer.{StatsAnswer}
+use Rattle.puzzleboard.specs.declared.answer.StatsAnswer.the-variants as stats
+use Rattle.puzzleboard.specs.Hard.{pick, hardCore, hardAnswer, left, HardDone}
+use Rattle.puzzleboard.specs.Soft.{softCore, softAnswer, SoftDone}
+use Rattle.puzzleboard.specs.Stats.{statsAnswer, statsOf, orCounted}
+use Rattle.puzzleboard.specs.Demand.{Leads, AgreesPhysical}
+use Rattle.puzzleboard.specs.SoftDemand.{marginOf, BestByLikelihood, SoftAnswered}
+use Rattle.puzzleboard.specs.HardTheorems.{Answered, hard-sound, hard-complete}
+use Rattle.puzzleboard.specs.SoftTheorems.{soft-sound, soft-complete}
+
+-- ---- DEMAND 1: refusals and rooms
+-- "A refusal carries no square": it is its number and nothing else
+pub refusal-is-number : (a b : Refusal) → a .number ≡ b .number → a ≡ b
+refusal-is-number a b e = λ i. record { number = e i }
+
+-- a room slice of which n places are used: zero there, and beyond as it was
+pub record Emptied {A : Type 0} (d zero : A) (n : ℕ) (old new : List A) : Type 0 where
+  pub len : length new ≡ length old
+  pub used : (k : ℕ) → k < n → getD new k d ≡ zero
+  pub surplus : (k : ℕ) → n ≤ k → getD new k d ≡ getD old k d
+
+module _ {A : Type 0} (d zero : A) (n : ℕ) (r : Refusal) (old : List A) where
+  -- "After refusals 1 to 9 the lent room is untouched"
+  left-untouched : (r .number ≡ 0 → ⊥) → left zero n r old ≡ old
+  unfolding left
+  left-untouched h = rw (ne-eqb (r .number) 0 h)
+
+  -- "after every other call the used room is zero"
+  left-emptied : r .number ≡ 0 → n ≤ length old → Emptied d zero n old (left zero n r old)
+  unfolding left
+  left-emptied h room = rw (eq-eqb (r .number) 0 h) (let w = cleared-written d zero n old room in record { len = w .len; used = w .front; surplus = w .back })
+
+found-only : (b : Bool) (x : Answer) (r : Refusal) (d : Decoded) → Found d ≡ pick b x (Refused r) → (b ≡ true) × (x ≡ Found d)
+found-only true x r d e = (refl, sym e)
+found-only false x r d e = let z : _≡_ {A = ℕ} 0 1 = cc in absurd (omega arith)
+
+-- ---- HARD DECODE
+module _ (L P : EdgeList) (ts : List ℕ) (B : Board) (limit : Float) (c c' : List ℕ) (w w' : List Float) (r : Answer) (done : HardDone L P ts B limit c c' w w' r) where
+  abbrev hardNumber : ℕ
+  hardNumber = hardRefusal L P ts B limit (length c) (length w) .number
+
+  -- refusals 1 to 9: the number of document 01, and both slices as they were
+  pub hard-refused-early : (hardNumber ≡ 0 → ⊥) → (r ≡ Refused (hardRefusal L P ts B limit (length c) (length w))) × (c' ≡ c) × (w' ≡ w)
+  unfolding hardAnswer
+  hard-refused-early h = (
+    done .answer ∙ rw (ne-eqb hardNumber 0 h),
+    done .counts ∙ left-untouched 0 0 3006 (hardRefusal L P ts B limit (length c) (length w)) c h,
+    done .weights ∙ left-untouched nan zeroF 3006 (hardRefusal L P ts B limit (length c) (length w)) w h,
+  )
+
+  accepted : hardNumber ≡ 0 → HardAccepted L P ts B limit (length c) (length w)
+  accepted h = hard-accepted L P ts B limit (length c) (length w) h
+
+  -- every other call: the first 3,006 places are zero, the surplus as it was
+  pub hard-room-zero : hardNumber ≡ 0 → Emptied 0 0 3006 c c' × Emptied nan zeroF 3006 w w'
+  hard-room-zero h = (
+    subst (λ (l : List ℕ). Emptied 0 0 3006 c l) (sym (done .counts)) (left-emptied 0 0 3006 (hardRefusal L P ts B limit (length c) (length w)) c h (accepted h .room .0)),
+    subst (λ (l : List Float). Emptied nan zeroF 3006 w l) (sym (done .weights)) (left-emptied nan zeroF 3006 (hardRefusal L P ts B limit (length c) (length w)) w h (accepted h .room .1)),
+  )
+
+  -- DEMAND 2: the answer is document 01's
+  pub hard-by-the-rules : r ≡ hardAnswer L P ts B limit (length c) (length w)
+  hard-by-the-rules = done .answer
+
+  -- DEMAND 3, found means true: some placing of the logical list leads and agrees, and the answer tells it
+  pub hard-found : (d : Decoded) → r ≡ Found d → (h : hardNumber ≡ 0) × Answered L P ts B limit (length c) (length w) (hard-accepted L P ts B limit (length c) (length w) h) d
+  unfolding hardAnswer
+  hard-found d e =
+      let f = found-only (eqb hardNumber 0) (hardCore L P ts B limit) (hardRefusal L P ts B limit (length c) (length w)) d (sym e ∙ done .answer) in
+      let h = eqb-true hardNumber 0 (f .0) in
+      (h, hard-sound L P ts B limit (length c) (length w) (hard-accepted L P ts B limit (length c) (length w) h) d (f .1))
+
+  -- DEMAND 3, a true square is found
+  pub hard-finds : hardNumber ≡ 0 → noConfidence L ≡ false → (Q : Placing) → Leads B L ts limit Q → AgreesPhysical B P ts Q → (d : Decoded) × (r ≡ Found d)
+  unfolding hardAnswer
+  hard-finds h k Q l a =
+      let f = hard-complete L P ts B limit (length c) (length w) (accepted h) k Q l a in (f .0, done .answer ∙ rw (eq-eqb hardNumber 0 h) (f .1))
+
+-- ---- SOFT DECODE
+module _ (P : EdgeList) (X : Likelihoods) (L : EdgeList) (ts : List ℕ) (B : Board) (limit least : Float) (c c' : List ℕ) (w w' : List Float) (a a' : List ℤ) (r : Answer) (done : SoftDone P X L ts B limit least c c' w w' a a' r) where
+  abbrev softRefused : Refusal
+  softRefused = softRefusal P (X .matches) (X .mismatches) L ts B limit least (length c) (length w) (length a)
+
+  -- refusals 1 to 9: the number of document 01, and all three slices as they were
+  pub soft-refused-early : (softRefusal P (X .matches) (X .mismatches) L ts B limit least (length c) (length w) (length a) .number ≡ 0 → ⊥)
+      → (r ≡ Refused (softRefusal P (X .matches) (X .mismatches) L ts B limit least (length c) (length w) (length a))) × (c' ≡ c) × (w' ≡ w) × (a' ≡ a)
+  unfolding softAnswer
+  soft-refused-early h = (
+    done .answer ∙ rw (ne-eqb (softRefused .number) 0 h),
+    done .counts ∙ left-untouched 0 0 3006 softRefused c h,
+    done .weights ∙ left-untouched nan zeroF 3006 softRefused w h,
+    done .sums ∙ left-untouched (pos 0) (pos 0) 5010 softRefused a h,
+  )
+
+  taken : softRefused .number ≡ 0 → SoftAccepted P (X .matches) (X .mismatches) L ts B limit least (length c) (length w) (length a)
+  taken h = soft-accepted P (X .matches) (X .mismatches) L ts B limit least (length c) (length w) (length a) h
+
+  -- every other call: the first 3,006, 3,006 and 5,010 places are zero, the surplus as it was
+  pub soft-room-zero : softRefusal P (X .matches) (X .mismatches) L ts B limit least (length c) (length w) (length a) .number ≡ 0 → Emptied 0 0 3006 c c' × Emptied nan zeroF 3006 w w' × Emptied (pos 0) (pos 0) 5010 a a'
+  soft-room-zero h = (
+    subst (λ (l : List ℕ). Emptied 0 0 3006 c l) (sym (done .counts)) (left-emptied 0 0 3006 softRefused c h (taken h .room .0)),
+    subst (λ (l : List Float). Emptied nan zeroF 3006 w l) (sym (done .weights)) (left-emptied nan zeroF 3006 softRefused w h (taken h .room .1)),
+    subst (λ (l : List ℤ). Emptied (pos 0) (pos 0) 5010 a l) (sym (done .sums)) (left-emptied (pos 0) (pos 0) 5010 softRefused a h (taken h .room .2)),
+  )
+
+  -- DEMAND 2: the answer is document 01's
+  pub soft-by-the-rules : r ≡ softAnswer P X L ts B limit least (length c) (length w) (length a)
+  soft-by-the-rules = done .answer
+
+  -- DEMAND 3, found means true: its own best placing clears the margin and leads on the logical list
+  pub soft-found : (d : Decoded) → r ≡ Found d → SoftAnswered P X L ts B limit least d
+  unfolding softAnswer
+  soft-found d e =
+      let f = found-only (eqb (softRefused .number) 0) (softCore P X L ts B limit least) softRefused d (sym e ∙ done .answer) in
+      soft-sound P X L ts B limit least (length c) (length w) (length a) (taken (eqb-true (softRefused .number) 0 (f .0))) d (f .1)
+
+  -- DEMAND 3, a true square is found
+  pub soft-finds : softRefusal P (X .matches) (X .mismatches) L ts B limit least (length c) (length w) (length a) .number ≡ 0 → noConfidence P ≡ false → noConfidence L ≡ false → (Q R : Placing) → BestByLikelihood B P X ts Q R
+      → belowMargin (marginOf B P X ts Q R) least ≡ false → Leads B L ts limit Q → (d : Decoded) × (r ≡ Found d)
+  unfolding softAnswer
+  soft-finds h k g Q R b m l =
+      let f = soft-complete P X L ts B limit least (length c) (length w) (length a) (taken h) k g Q R b m l in (f .0, done .answer ∙ rw (eq-eqb (softRefused .number) 0 h) (f .1))
+
+-- ---- MATCH STATISTICS
+-- counted means: the hits are board's, edge by edge, of all the edges
+pub stats-hits : (E : EdgeList) (t row col : ℕ) (B : Board) (r : StatsAnswer) (s : MatchStats) → r ≡ statsAnswer E t row col B → r ≡ stats.Counted s → (s .hits ≡ hits B E t row col) × (s .edges ≡ size E)
+unfolding statsAnswer statsOf
+stats-hits E t row col B r s e k = go (eqb (statsRefusal E t row col B .number) 0) (sym k ∙ e)
+  where
+    go : (b : Bool) → stats.Counted s ≡ orCounted (statsRefusal E t row col B) b (statsOf E t row col B) → (s .hits ≡ hits B E t row col) × (s .edges ≡ size E)
+    go true q = let z : s ≡ statsOf E t row col B = cc in (ap (λ (x : MatchStats). x .hits) z, ap (λ (x : MatchStats). x .edges) z)
+    go false q = let z : _≡_ {A = ℕ} 0 1 = cc in absurd (omega arith)

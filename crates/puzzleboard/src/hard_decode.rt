@@ -21,7 +21,7 @@ pub fn refuse(number: u32) -> Answer
 }
 
 // Whether two winners agree in transform and origin.
-pub fn same_square(t: u8, a: Candidate, s: u8, b: Candidate) -> bool
+fn same_square(t: u8, a: Candidate, s: u8, b: Candidate) -> bool
     ensures { λ r. ⌜ r ≡ agreed t a s b ⌝ }
 {
     if t == s {
@@ -33,7 +33,7 @@ pub fn same_square(t: u8, a: Candidate, s: u8, b: Candidate) -> bool
 }
 
 // What a found answer says of the winner w under transform t, with its runner-up.
-pub fn decoded(t: u8, w: Candidate, next: RunnerUp, edges: u32) -> Decoded
+fn decoded(t: u8, w: Candidate, next: RunnerUp, edges: u32) -> Decoded
     requires { ⌜ (w .hits ≤ edges) × (next .hits ≤ edges) × (edges ≤ 8192) ⌝ }
     ensures { λ r. ⌜ r ≡ decodedOf t w next edges ⌝ }
 {
@@ -62,7 +62,7 @@ pub fn decoded(t: u8, w: Candidate, next: RunnerUp, edges: u32) -> Decoded
 }
 
 // The logical winner w under transform t, with its runner-up, judged against the physical winner p under transform s: 12, 13 or found.
-pub fn judge(t: u8, w: Candidate, next: RunnerUp, s: u8, p: Candidate, edges: u32) -> Answer
+fn judge(t: u8, w: Candidate, next: RunnerUp, s: u8, p: Candidate, edges: u32) -> Answer
     requires { ⌜ (w .hits ≤ edges) × (next .hits ≤ edges) × (edges ≤ 8192) ⌝ }
     ensures { λ r. ⌜ r ≡ judged t w next s p edges ⌝ }
 {
@@ -76,7 +76,7 @@ pub fn judge(t: u8, w: Candidate, next: RunnerUp, s: u8, p: Candidate, edges: u3
 }
 
 // What an accepted hard call answers: the logical list with the limit, the physical list with limit 1, then both judged. The room is left as it was used.
-pub fn hard_core<'a>(
+fn hard_core<'a>(
     lrows: &[i32],
     lcols: &[i32],
     lorientations: &[u8],

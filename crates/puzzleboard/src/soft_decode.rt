@@ -20,7 +20,7 @@ use soft::scan::SoftCandidate;
 use soft::scan::SoftChoice;
 
 // The hits and the weight of one origin, read off the tables in the room.
-pub fn figures_at(
+fn figures_at(
     counts: &[u32],
     weights: &[f32],
     long: usize,
@@ -43,7 +43,7 @@ pub fn figures_at(
 }
 
 // The hits and the weight of one placing of a list: the tables of its transform are built once more, and read at its origin.
-pub fn figures<'a>(
+fn figures<'a>(
     rows: &[i32],
     cols: &[i32],
     orientations: &[u8],
@@ -84,14 +84,7 @@ pub fn figures<'a>(
 }
 
 // The soft winner under transform t against the hard winner w of the logical list under transform s: 15, 13, or 0 where both are passed.
-pub fn soft_verdict(
-    t: u8,
-    first: SoftCandidate,
-    s: u8,
-    w: Candidate,
-    next: RunnerUp,
-    edges: u32,
-) -> u32
+fn soft_verdict(t: u8, first: SoftCandidate, s: u8, w: Candidate, next: RunnerUp, edges: u32) -> u32
     ensures { λ r. ⌜ r ≡ softVerdict t first s w next edges ⌝ }
 {
     if t == s {
@@ -108,7 +101,7 @@ pub fn soft_verdict(
 }
 
 // What a found soft answer says: the soft winner with its total and margin, the physical list's figures, and the hard runner-up.
-pub fn soft_decoded(
+fn soft_decoded(
     t: u8,
     first: SoftCandidate,
     margin: f32,
@@ -144,7 +137,7 @@ pub fn soft_decoded(
 }
 
 // The soft winner with its margin, against hard selection on the logical list: refused by that, 15, 13, or found. The room is left as it was used.
-pub fn soft_logical<'a>(
+fn soft_logical<'a>(
     first: SoftCandidate,
     margin: f32,
     prows: &[i32],
@@ -219,7 +212,7 @@ pub fn soft_logical<'a>(
 }
 
 // What an accepted soft call answers: the physical list's best two by likelihood, their margin, then the logical list. The room is left as it was used.
-pub fn soft_core<'a>(
+fn soft_core<'a>(
     prows: &[i32],
     pcols: &[i32],
     porientations: &[u8],

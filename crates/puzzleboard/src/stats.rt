@@ -14,7 +14,7 @@ pub struct HitsWeight {
 }
 
 // One edge more: a hit adds one and its confidence.
-pub fn add_edge(sum: HitsWeight, hit: bool, confidence: f32) -> HitsWeight
+fn add_edge(sum: HitsWeight, hit: bool, confidence: f32) -> HitsWeight
     requires { ⌜ sum .hits < 8192 ⌝ }
     ensures { λ r. ⌜ r ≡ added sum hit confidence ⌝ }
 {
@@ -28,7 +28,7 @@ pub fn add_edge(sum: HitsWeight, hit: bool, confidence: f32) -> HitsWeight
 }
 
 // The hits of a list at one placing, and their confidences added in list order.
-pub fn count_hits(
+fn count_hits(
     rows: &[i32],
     cols: &[i32],
     orientations: &[u8],
@@ -69,7 +69,7 @@ pub fn count_hits(
 }
 
 // Misses over edges, one f32 division; 1 for no edges.
-pub fn rate(edges: u32, hits: u32) -> f32
+fn rate(edges: u32, hits: u32) -> f32
     requires { ⌜ (hits ≤ edges) × (edges ≤ 8192) ⌝ }
     ensures { λ r. ⌜ r ≡ statsRate edges hits ⌝ }
 {

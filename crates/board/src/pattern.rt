@@ -30,7 +30,7 @@ pub fn patterns_from<'a>(h: &'a [u8], v: &'a [u8], orientation: u8, family: usiz
 }
 
 // The bit that the board predicts of an edge that was looked up, at the origin (r, c).
-pub fn predicted_bit(h: &[u8], v: &[u8], l: EdgeLookup, r: u32, c: u32) -> u8
+fn predicted_bit(h: &[u8], v: &[u8], l: EdgeLookup, r: u32, c: u32) -> u8
     requires { ⌜ BoardOk (tables (now h) (now v)) ⌝ }
     requires { ⌜ (r ≤ 1500) × (c ≤ 1500) ⌝ }
     ensures { λ p. ⌜ p ≡ predicted (tables (now (h .entry)) (now (v .entry))) l r c ⌝ }

@@ -24,7 +24,7 @@ pub struct EdgeLookup {
 }
 
 // One entry of a transform's matrix.
-pub fn entry(t: usize, i: usize, j: usize) -> i32
+fn entry(t: usize, i: usize, j: usize) -> i32
     requires { ⌜ (t < 8) × (i < 2) × (j < 2) ⌝ }
     ensures { λ r. ⌜ r ≡ mat t i j ⌝ }
 {
@@ -32,7 +32,7 @@ pub fn entry(t: usize, i: usize, j: usize) -> i32
 }
 
 // The column (i = 0) or row (i = 1) that transform t maps (col, row) to.
-pub fn apply(t: usize, i: usize, col: i32, row: i32) -> i32
+fn apply(t: usize, i: usize, col: i32, row: i32) -> i32
     requires { ⌜ (t < 8) × (i < 2) × (natAbs col ≤ 1000001) × (natAbs row ≤ 1000001) ⌝ }
     ensures { λ r. ⌜ r ≡ mapped t i col row ⌝ }
 {
@@ -40,7 +40,7 @@ pub fn apply(t: usize, i: usize, col: i32, row: i32) -> i32
 }
 
 // The lookup of an edge whose ends were mapped to (c, r) and (d, s).
-pub fn lookup_of_ends(c: i32, r: i32, d: i32, s: i32) -> EdgeLookup
+fn lookup_of_ends(c: i32, r: i32, d: i32, s: i32) -> EdgeLookup
     requires { ⌜ (natAbs c ≤ 2000002) × (natAbs r ≤ 2000002) × (natAbs d ≤ 2000002) × (natAbs s ≤ 2000002) ⌝ }
     ensures { λ x. ⌜ x ≡ lookupOfEnds c r d s ⌝ }
 {
@@ -67,7 +67,7 @@ pub fn lookup_of_ends(c: i32, r: i32, d: i32, s: i32) -> EdgeLookup
 }
 
 // Both ends of the edge from (c, r) to (d, s) mapped by transform t, and looked up.
-pub fn map_ends(t: usize, c: i32, r: i32, d: i32, s: i32) -> EdgeLookup
+fn map_ends(t: usize, c: i32, r: i32, d: i32, s: i32) -> EdgeLookup
     requires { ⌜ (t < 8) × (natAbs c ≤ 1000001) × (natAbs r ≤ 1000001) × (natAbs d ≤ 1000001) × (natAbs s ≤ 1000001) ⌝ }
     ensures { λ x. ⌜ x ≡ joined t c r d s ⌝ }
 {

@@ -5,21 +5,21 @@ ghost use Rattle.board.specs.Hits.{edges};
 ghost use Rattle.checks.specs.Checks.{far, farAt, badCoordinate, badLikelihood, inRange, unlikelyAt, firstBadCoordinate, firstBadByte, firstBadConfidence, firstBadLikelihood, lengthsDiffer, sizeBad, fieldBad, confidenceBad, transformsBad, tableBad};
 
 // Whether a coordinate is outside -1,000,000 to 1,000,000.
-pub fn is_far(x: i32) -> bool
+fn is_far(x: i32) -> bool
     ensures { λ r. ⌜ r ≡ far x ⌝ }
 {
     x < -1000000 || 1000000 < x
 }
 
 // Whether the coordinate at index i is outside; past the end there is none.
-pub fn far_at(xs: &[i32], i: usize) -> bool
+fn far_at(xs: &[i32], i: usize) -> bool
     ensures { λ r. ⌜ r ≡ farAt (now (xs .entry)) i ⌝ }
 {
     if i < xs.len() { is_far(xs[i]) } else { false }
 }
 
 // Whether edge i has a row or column out of range.
-pub fn bad_coordinate_at(rows: &[i32], cols: &[i32], i: usize) -> bool
+fn bad_coordinate_at(rows: &[i32], cols: &[i32], i: usize) -> bool
     ensures { λ r. ⌜ r ≡ badCoordinate (now (rows .entry)) (now (cols .entry)) i ⌝ }
 {
     far_at(rows, i) || far_at(cols, i)
@@ -75,7 +75,7 @@ pub fn first_bad_confidence(xs: &[f32]) -> usize
 }
 
 // Whether there is no acceptable likelihood at index i.
-pub fn unlikely_at(xs: &[f32], i: usize) -> bool
+fn unlikely_at(xs: &[f32], i: usize) -> bool
     ensures { λ r. ⌜ r ≡ unlikelyAt (now (xs .entry)) i ⌝ }
 {
     if i < xs.len() {
@@ -86,7 +86,7 @@ pub fn unlikely_at(xs: &[f32], i: usize) -> bool
 }
 
 // Whether edge i lacks an acceptable match or mismatch likelihood.
-pub fn bad_likelihood_at(matches: &[f32], mismatches: &[f32], i: usize) -> bool
+fn bad_likelihood_at(matches: &[f32], mismatches: &[f32], i: usize) -> bool
     ensures { λ r. ⌜ r ≡ badLikelihood (now (matches .entry)) (now (mismatches .entry)) i ⌝ }
 {
     unlikely_at(matches, i) || unlikely_at(mismatches, i)

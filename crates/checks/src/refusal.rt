@@ -12,7 +12,7 @@ pub struct Refusal {
 }
 
 // The refusal that comes first of two.
-pub fn first_of(a: Refusal, b: Refusal) -> Refusal
+fn first_of(a: Refusal, b: Refusal) -> Refusal
     ensures { λ r. ⌜ r ≡ earlier a b ⌝ }
 {
     if a.number == 0 {
@@ -28,7 +28,7 @@ pub fn first_of(a: Refusal, b: Refusal) -> Refusal
 }
 
 // The given number where it applies, else 0.
-pub fn refused_if(bad: bool, number: u32) -> Refusal
+fn refused_if(bad: bool, number: u32) -> Refusal
     ensures { λ r. ⌜ r ≡ refusedIf bad number ⌝ }
 {
     if bad {
@@ -38,28 +38,28 @@ pub fn refused_if(bad: bool, number: u32) -> Refusal
 }
 
 // Whether the room of a hard call is too short: 3,006 u32 and 3,006 f32 are needed.
-pub fn room_short(counts: usize, weights: usize) -> bool
+fn room_short(counts: usize, weights: usize) -> bool
     ensures { λ r. ⌜ r ≡ roomShort counts weights ⌝ }
 {
     counts < 3006 || weights < 3006
 }
 
 // Whether the room of a soft call is too short: 5,010 i64 besides.
-pub fn soft_room_short(counts: usize, weights: usize, sums: usize) -> bool
+fn soft_room_short(counts: usize, weights: usize, sums: usize) -> bool
     ensures { λ r. ⌜ r ≡ softRoomShort counts weights sums ⌝ }
 {
     room_short(counts, weights) || sums < 5010
 }
 
 // Whether one of the two pattern tables is wrong.
-pub fn tables_bad(h: &[u8], v: &[u8]) -> bool
+fn tables_bad(h: &[u8], v: &[u8]) -> bool
     ensures { λ r. ⌜ r ≡ tablesBad (tables (now (h .entry)) (now (v .entry))) ⌝ }
 {
     crate::check::table_bad(h) || crate::check::table_bad(v)
 }
 
 // Numbers 2 to 5 of one list that must have at least `least` edges.
-pub fn list_refusal(
+fn list_refusal(
     least: usize,
     rows: &[i32],
     cols: &[i32],
@@ -82,7 +82,7 @@ pub fn list_refusal(
 }
 
 // Whether the likelihood slices of a list of n edges differ from it in length.
-pub fn likelihoods_differ(n: usize, matches: &[f32], mismatches: &[f32]) -> bool
+fn likelihoods_differ(n: usize, matches: &[f32], mismatches: &[f32]) -> bool
     ensures { λ r. ⌜ r ≡ likelihoodsDiffer n (now (matches .entry)) (now (mismatches .entry)) ⌝ }
 {
     if n == matches.len() {
@@ -92,7 +92,7 @@ pub fn likelihoods_differ(n: usize, matches: &[f32], mismatches: &[f32]) -> bool
 }
 
 // Numbers 2 and 6 of the likelihoods of a list of n edges.
-pub fn likelihood_refusal(n: usize, matches: &[f32], mismatches: &[f32]) -> Refusal
+fn likelihood_refusal(n: usize, matches: &[f32], mismatches: &[f32]) -> Refusal
     ensures { λ r. ⌜ r ≡ likelihoodRefusal n (now (matches .entry)) (now (mismatches .entry)) ⌝ }
 {
     if likelihoods_differ(n, matches, mismatches) {
@@ -105,7 +105,7 @@ pub fn likelihood_refusal(n: usize, matches: &[f32], mismatches: &[f32]) -> Refu
 }
 
 // Numbers 7 to 9: transforms, tables, and what else the call was given.
-pub fn settings_refusal(transforms: bool, tables: bool, rest: bool) -> Refusal
+fn settings_refusal(transforms: bool, tables: bool, rest: bool) -> Refusal
     ensures { λ r. ⌜ r ≡ settingsRefusal transforms tables rest ⌝ }
 {
     if transforms {
@@ -118,7 +118,7 @@ pub fn settings_refusal(transforms: bool, tables: bool, rest: bool) -> Refusal
 }
 
 // Whether an origin given to match statistics is off the board.
-pub fn origin_bad(row: u32, col: u32) -> bool
+fn origin_bad(row: u32, col: u32) -> bool
     ensures { λ r. ⌜ r ≡ originBad row col ⌝ }
 {
     500 < row || 500 < col
@@ -160,7 +160,7 @@ pub fn hard_refusal(
 }
 
 // Whether the error limit or the soft margin is out of range.
-pub fn limits_bad(limit: f32, margin: f32) -> bool
+fn limits_bad(limit: f32, margin: f32) -> bool
     ensures { λ r. ⌜ r ≡ not (inRange oneF limit) || not (inRange marginTop margin) ⌝ }
 {
     if crate::check::in_range(limit, 1.0f32) {

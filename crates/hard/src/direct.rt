@@ -4,9 +4,9 @@ ghost use Prim.Native.Nat.{_+_, _*_, _%_, _≤_, _<_};
 ghost use Rattle.hard.specs.CellTables.{Period, TablesOk, cells};
 ghost use Rattle.hard.specs.Scan.{offeredWithin, behind};
 ghost use Rattle.hard.specs.Direct.{candidate, tried};
+use crate::record::offer_within;
 use crate::scan::Candidate;
 use crate::scan::Kept;
-use crate::scan::offer_within;
 
 // The next class by n: past the last one it starts again, so no remainder is taken.
 fn next_class(k: usize, n: usize) -> usize
@@ -28,7 +28,7 @@ fn is_behind(kept: Kept, hits: u32) -> bool
 }
 
 // One origin tried. One with fewer hits than the kept candidate is passed over before any division.
-pub fn try_origin(
+fn try_origin(
     kept: Kept,
     hits: u32,
     weight: f32,
@@ -60,7 +60,7 @@ pub fn try_origin(
 }
 
 // The origins of one row, whose class by `long` is ha and by 3 is va.
-pub fn scan_row(
+fn scan_row(
     hc: &[u32],
     hw: &[f32],
     vc: &[u32],

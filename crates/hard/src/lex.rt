@@ -18,14 +18,14 @@ pub struct LexMax {
 }
 
 // Whether (c, w) beats (d, v): a larger count, or the same count and a larger weight.
-pub fn beats(c: u32, w: f32, d: u32, v: f32) -> bool
+fn beats(c: u32, w: f32, d: u32, v: f32) -> bool
     ensures { λ r. ⌜ r ≡ wins c w d v ⌝ }
 {
     c > d || (c == d && w > v)
 }
 
 // The first cell of largest count and, of those, largest weight.
-pub fn lex_best(counts: &[u32], weights: &[f32]) -> usize
+fn lex_best(counts: &[u32], weights: &[f32]) -> usize
     requires { ⌜ TableOk (now counts) (now weights) ⌝ }
     ensures { λ r. ⌜ (r ≡ lexBest (now (counts .entry)) (now (weights .entry))) × (r < length (now (counts .entry))) ⌝ }
 {
@@ -41,7 +41,7 @@ pub fn lex_best(counts: &[u32], weights: &[f32]) -> usize
 }
 
 // How many cells have the count.
-pub fn level_number(counts: &[u32], top: u32) -> usize
+fn level_number(counts: &[u32], top: u32) -> usize
     ensures { λ r. ⌜ r ≡ count (length (now (counts .entry))) (level (now (counts .entry)) top) ⌝ }
 {
     let mut n: usize = 0;
@@ -63,7 +63,7 @@ pub fn is_optimal(c: u32, w: f32, top: u32, heavy: f32) -> bool
 }
 
 // How many cells have both the count and the weight.
-pub fn optimal_number(counts: &[u32], weights: &[f32], top: u32, heavy: f32) -> usize
+fn optimal_number(counts: &[u32], weights: &[f32], top: u32, heavy: f32) -> usize
     requires { ⌜ length (now weights) ≡ length (now counts) ⌝ }
     ensures { λ r. ⌜ r ≡ count (length (now (counts .entry))) (optimal (now (counts .entry)) (now (weights .entry)) top heavy) ⌝ }
 {
@@ -79,7 +79,7 @@ pub fn optimal_number(counts: &[u32], weights: &[f32], top: u32, heavy: f32) -> 
 }
 
 // The first cell of largest count, of all cells but one.
-pub fn second_cell(counts: &[u32], skip: usize) -> usize
+fn second_cell(counts: &[u32], skip: usize) -> usize
     requires { ⌜ (1 < length (now counts)) × (skip < length (now counts)) ⌝ }
     ensures { λ r. ⌜ (r ≡ secondCell (now (counts .entry)) skip) × (r < length (now (counts .entry))) ⌝ }
 {

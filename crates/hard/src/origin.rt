@@ -10,7 +10,7 @@ ghost use Rattle.hard.specs.RowMajor.{lowest, rowMajor};
 use crate::lex::is_optimal;
 
 // The number below 3 · long with the residue s by 3 and l by long: document 01's (334·s + 168·l) mod 501 where long is 167.
-pub fn joint_of(long: usize, s: usize, l: usize) -> usize
+fn joint_of(long: usize, s: usize, l: usize) -> usize
     requires { ⌜ Period long × (s < 3) × (l < long) ⌝ }
     ensures { λ r. ⌜ (r ≡ joint long s l) × (r < 3 * long) ⌝ }
 {
@@ -29,7 +29,7 @@ pub fn key_of(h: usize, v: usize, long: usize, wide: usize) -> usize
 }
 
 // The least of start and the keys of the horizontal cell h with each vertical cell of that count and weight.
-pub fn lowest_key(
+fn lowest_key(
     counts: &[u32],
     weights: &[f32],
     top: u32,

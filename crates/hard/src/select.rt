@@ -31,7 +31,7 @@ pub fn total_confidence(confidences: &[f32]) -> f32
 }
 
 // One transform's tables, where they were built in the room, folded into the scan.
-pub fn fold_room(
+fn fold_room(
     scan: HardScan,
     counts: &[u32],
     weights: &[f32],
@@ -64,7 +64,7 @@ pub fn fold_room(
 }
 
 // The scan of a list over all its transforms, in order: the tables are built anew for each.
-pub fn scan_transforms<'a>(
+fn scan_transforms<'a>(
     rows: &[i32],
     cols: &[i32],
     orientations: &[u8],
@@ -81,7 +81,7 @@ pub fn scan_transforms<'a>(
     requires { ⌜ SelectReady (tables (now h) (now v)) (edges (now rows) (now cols) (now orientations) (now bits) (now confidences)) (now transforms) (now counts) (now weights) ⌝ }
     ensures { λ r. ⌜ ScanDone (tables (now (h .entry)) (now (v .entry))) (edges (now (rows .entry)) (now (cols .entry)) (now (orientations .entry)) (now (bits .entry)) (now (confidences .entry))) (now (transforms .entry)) conf limit (length (now (transforms .entry))) (now (counts .entry)) (now (counts .exit)) (now (weights .entry)) (now (weights .exit)) r ⌝ }
 {
-    let mut scan = crate::scan::empty();
+    let mut scan = crate::record::empty();
     for i in 0..transforms.len() {
         let t = transforms[i];
         tables::build::build_tables(
@@ -146,7 +146,7 @@ pub fn select<'a>(
         counts,
         weights,
     );
-    match crate::scan::finish(scan) {
+    match crate::record::finish(scan) {
         Choice::Nothing => Selection::Refused(11),
         Choice::Chosen { winner, next } => Selection::Selected(winner, next),
     }

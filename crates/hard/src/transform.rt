@@ -8,13 +8,13 @@ use crate::lex::LexMax;
 use crate::lex::lex_max;
 use crate::origin::key_of;
 use crate::origin::row_major_first;
+use crate::record::offer;
+use crate::record::over_limit;
+use crate::record::push;
 use crate::scan::Candidate;
 use crate::scan::HardScan;
 use crate::scan::Kept;
 use crate::scan::TransformSummary;
-use crate::scan::offer;
-use crate::scan::over_limit;
-use crate::scan::push;
 
 // An origin by its key, with its hits.
 pub struct Ranked {
@@ -23,7 +23,7 @@ pub struct Ranked {
 }
 
 // The runner-up inside a transform whose best origin is `first`, from what its horizontal table a and its vertical table b say.
-pub fn next_origin(a: LexMax, b: LexMax, first: usize, long: usize, wide: usize) -> Ranked
+fn next_origin(a: LexMax, b: LexMax, first: usize, long: usize, wide: usize) -> Ranked
     requires { ⌜ Period long × Period wide × BestOk long wide a b ⌝ }
     ensures { λ r. ⌜ r ≡ nextOrigin long wide a b first ⌝ }
 {
@@ -44,7 +44,7 @@ pub fn next_origin(a: LexMax, b: LexMax, first: usize, long: usize, wide: usize)
 }
 
 // The summary of a transform from its best origin and the runner-up inside it.
-pub fn summary(best: Ranked, next: Ranked, wide: usize, transform: u8) -> TransformSummary
+fn summary(best: Ranked, next: Ranked, wide: usize, transform: u8) -> TransformSummary
     requires { ⌜ Period wide × (best .key ≤ 2250000) × (next .key ≤ 2250000) ⌝ }
     ensures { λ r. ⌜ r ≡ summaryOf wide best next transform ⌝ }
 {
@@ -65,7 +65,7 @@ pub fn summary(best: Ranked, next: Ranked, wide: usize, transform: u8) -> Transf
 }
 
 // What is kept after the transform at a list position: no candidate over the limit, the best origin up to 1,024 optimal pairs, else all origins.
-pub fn offer_transform(
+fn offer_transform(
     kept: Kept,
     a: LexMax,
     b: LexMax,

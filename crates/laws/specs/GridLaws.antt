@@ -9,6 +9,14 @@ use lib.Dec.{lit<}
 use Rattle.laws.specs.Residues.{joint, joint-long, joint-short, joint-below, joint-back}
 use Rattle.laws.specs.Grid.{Grid, Laws, rowOf, colOf, origins}
 
+-- every origin's horizontal cell stands in the table of 3L cells
+pub h-below : (L : ℕ) → 0 < L → (row col : ℕ) → row % L * 3 + col % 3 < 3 * L
+h-below L p row col = let a = mod-lt row p in let b : col % 3 < 3 = mod-lt col (lit< tt) in omega arith
+
+-- and its vertical cell in the table of 3M
+pub v-below : (M : ℕ) → 0 < M → (row col : ℕ) → row % 3 * M + col % M < 3 * M
+v-below M q row col = digits-lt (mod-lt row (lit< tt)) (mod-lt col q)
+
 module _ (L M : ℕ) (p : 0 < L) (q : 0 < M) (n : L % 3 ≢ 0) (m : M % 3 ≢ 0) where
   wide : 0 < 3 * M
   wide = omega arith
@@ -48,17 +56,11 @@ module _ (L M : ℕ) (p : 0 < L) (q : 0 < M) (n : L % 3 ≢ 0) (m : M % 3 ≢ 0)
   three : 0 < 3
   three = lit< tt
 
-  h-below : (k : ℕ) → long-h k * 3 + short-h k < 3 * L
-  h-below k = let a = mod-lt (k / (3 * M)) p in let b = mod-lt (k % (3 * M)) three in omega arith
-
-  v-below : (k : ℕ) → short-v k * M + long-v k < 3 * M
-  v-below k = digits-lt (mod-lt (k / (3 * M)) three) (mod-lt (k % (3 * M)) q)
-
   pub origins-laws : Laws (origins L M) (3 * L) (3 * M)
   origins-laws = record {
     under = λ h v l k. digits-lt (row-in h v) (col-in h v);
-    h-in = h-below;
-    v-in = v-below;
+    h-in = λ k. h-below L p (k / (3 * M)) (k % (3 * M));
+    v-in = λ k. v-below M q (k / (3 * M)) (k % (3 * M));
     h-key = λ h v l k.
         ap₂ (λ (x y : ℕ). x % L * 3 + y % 3) (key-row h v) (key-col h v)
         ∙ ap₂ (λ (x y : ℕ). x * 3 + y) (joint-long L p n (v / M) (h / 3) (third h l)) (joint-short M q m (h % 3) (v % M) (mod-lt h three))

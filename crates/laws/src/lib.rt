@@ -22,8 +22,8 @@ pub fn clear_f32(room: &mut [f32], n: usize)
     requires { ⌜ n ≤ length (now room) ⌝ }
     ensures { λ _. ⌜ now (room .exit) ≡ cleared zeroF n (now (room .entry)) ⌝ }
 {
-    for i in 0..n {
-        room[i] = 0.0;
+    for j in 0..n {
+        room[j] = 0.0;
     }
 }
 
@@ -32,8 +32,8 @@ pub fn clear_i64(room: &mut [i64], n: usize)
     requires { ⌜ n ≤ length (now room) ⌝ }
     ensures { λ _. ⌜ now (room .exit) ≡ cleared (pos 0) n (now (room .entry)) ⌝ }
 {
-    for i in 0..n {
-        room[i] = 0;
+    for k in 0..n {
+        room[k] = 0;
     }
 }
 

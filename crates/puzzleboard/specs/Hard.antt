@@ -16,13 +16,12 @@ use Rattle.hard.specs.declared.scan.Candidate.{Candidate}
 use Rattle.hard.specs.declared.scan.RunnerUp.{RunnerUp}
 use Rattle.hard.specs.declared.select.Selection.{Selection}
 use Rattle.hard.specs.declared.select.Selection.the-variants as sel
-use Rattle.hard.specs.Scan.{rateOf}
+use Rattle.hard.specs.Scan.{rateOf, meanOf}
 use Rattle.hard.specs.Gate.{passed}
 use Rattle.hard.specs.Select.{selection}
 use Rattle.puzzleboard.specs.declared.answer.Decoded.{Decoded}
 use Rattle.puzzleboard.specs.declared.answer.Answer.{Answer}
 use Rattle.puzzleboard.specs.declared.answer.Answer.the-variants.{Found, Refused}
-use Rattle.puzzleboard.specs.Stats.{meanOf}
 
 -- a refusal by its number, and nothing else
 abbrev pub refusedBy : ℕ → Answer

@@ -60,8 +60,8 @@ matrix-tells t s h k e = sym (number-told t h) ∙ (λ i. numberOf (e 0 0 i) (e 
 
 -- ---- what a selection asks
 -- the used room of the flat board
-pub used-3006 : (B : Board) → (length (B .h) ≡ 167) × (length (B .v) ≡ 167) → used (periodOf B) 1 ≡ 3006
-used-3006 B p = ap₂ (λ (x y : ℕ). 3 * x + 3 * y + 1 * ((x + y) * 6)) (p .0) (p .1)
+pub used-flat : (B : Board) (m : ℕ) → (length (B .h) ≡ 167) × (length (B .v) ≡ 167) → used (periodOf B) m ≡ 1002 + m * 2004
+used-flat B m p = ap₂ (λ (x y : ℕ). 3 * x + 3 * y + m * ((x + y) * 6)) (p .0) (p .1)
 
 pub ready : (B : Board) (E : EdgeList) (ts : List ℕ) (c : List ℕ) (w : List Float) → ListOk E → 0 < size E → BoardOk B → (length (B .h) ≡ 167) × (length (B .v) ≡ 167) → TransformsOk ts → 3006 ≤ length c → 3006 ≤ length w → SelectReady B E ts c w
 ready B E ts c w list some board periods t rc rw = record {
@@ -70,7 +70,7 @@ ready B E ts c w list some board periods t rc rw = record {
   board = board;
   transforms = (t .some, t .few);
   small = t .small;
-  room = (omega (arith, used-3006 B periods), omega (arith, used-3006 B periods));
+  room = (omega (arith, used-flat B 1 periods), omega (arith, used-flat B 1 periods));
 }
 
 module _ (L P : EdgeList) (ts : List ℕ) (B : Board) (limit : Float) (c : List ℕ) (w : List Float) (A : HardAccepted L P ts B limit (length c) (length w)) where
@@ -92,7 +92,7 @@ module _ (L P : EdgeList) (ts : List ℕ) (B : Board) (limit : Float) (c : List 
   pub beyond : (E : EdgeList) (limit' : Float) (d d' : List ℕ) (x x' : List Float) (r : Selection) → SelectReady B E ts d x → SelectDone B E ts limit' d d' x x' r → SameBeyond 0 3006 d d' × SameBeyond nan 3006 x x'
   beyond E limit' d d' x x' r R D =
       let s = select-beyond B E ts limit' d x R d' x' r D in
-      let u = used-3006 B (A .periods) in
+      let u = used-flat B 1 (A .periods) in
       (record { len = s .0 .len; same = λ k h. s .0 .same k (omega arith) }, record { len = s .1 .len; same = λ k h. s .1 .same k (omega arith) })
 
   -- ---- the three ways in which the core ends

@@ -19,7 +19,7 @@ use Rattle.hard.specs.declared.scan.RunnerUp.{RunnerUp}
 use Rattle.hard.specs.declared.select.Selection.{Selection}
 use Rattle.hard.specs.declared.select.Selection.the-variants as sel
 use Rattle.hard.specs.CellTables.{CellTables, cAt, wAt}
-use Rattle.hard.specs.Scan.{rateOf}
+use Rattle.hard.specs.Scan.{rateOf, meanOf}
 use Rattle.hard.specs.Gate.{passed}
 use Rattle.hard.specs.Select.{noConfidence, tablesOf, selection}
 use Rattle.soft.specs.declared.scan.SoftCandidate.{SoftCandidate}
@@ -28,10 +28,10 @@ use Rattle.soft.specs.declared.scan.SoftChoice.the-variants.{Nothing, Chosen}
 use Rattle.soft.specs.Margin.{softMargin, belowMargin}
 use Rattle.soft.specs.Select.{softSelection}
 use Rattle.puzzleboard.specs.declared.stats.HitsWeight.{HitsWeight}
+use Rattle.puzzleboard.specs.declared.soft_decode.SoftBest.{SoftBest}
 use Rattle.puzzleboard.specs.declared.answer.Decoded.{Decoded}
 use Rattle.puzzleboard.specs.declared.answer.Answer.{Answer}
 use Rattle.puzzleboard.specs.declared.answer.Answer.the-variants.{Found, Refused}
-use Rattle.puzzleboard.specs.Stats.{meanOf}
 use Rattle.puzzleboard.specs.Hard.{refusedBy, pick, left}
 
 -- ---- the physical list's figures
@@ -54,39 +54,43 @@ softVerdict t first s w next edges =
 
 -- "the runner-up fields are replaced by the hard runner-up (score = its hits); the margin stays. Best score = f32 total, weighted score = that / edges; edges,
 -- hits, rate and mean confidence are the physical list's."
-unfoldable pub softDecodedOf : ℕ → SoftCandidate → Float → HitsWeight → ℕ → RunnerUp → Decoded
-softDecodedOf t first margin figures edges next = record {
-  square = record { transform = t; row = first .row; col = first .col };
+unfoldable pub softDecodedOf : ℕ → SoftBest → HitsWeight → ℕ → RunnerUp → Decoded
+softDecodedOf t best figures edges next = record {
+  square = record { transform = t; row = best .first .row; col = best .first .col };
   hits = figures .hits;
   edges = edges;
-  weighted = div binary32 (first .total) (ofInt binary32 (pos edges));
+  weighted = div binary32 (best .first .total) (ofInt binary32 (pos edges));
   rate = rateOf edges (figures .hits);
   mean = meanOf (figures .hits) (figures .weight);
-  best = first .total;
+  best = best .first .total;
   next = ofInt binary32 (pos (next .hits));
-  margin = margin;
+  margin = best .margin;
   runner = record { transform = next .transform; row = next .row; col = next .col };
 }
 
 -- ---- the answer
-module _ (P L : EdgeList) (ts : List ℕ) (B : Board) (limit : Float) where
-  -- the soft winner `first` with its margin, where the logical list gave w with its runner-up
-  unfoldable pub softJudged : SoftCandidate → Float → Candidate → RunnerUp → Answer
-  unfolding softDecodedOf
-  softJudged first margin w next =
-      let t = getD ts (first .place) 0 in
-      let n = softVerdict t first (getD ts (w .place) 0) w next (size L) in
-      pick (eqb n 0) (Found (softDecodedOf t first margin (figuresOf B P t (first .row) (first .col)) (size P) next)) (refusedBy n)
+-- the two best candidates of a list of so many edges, with their margin
+abbrev pub bestOf : SoftCandidate → SoftCandidate → ℕ → SoftBest
+bestOf first second edges = record { first = first; second = second; margin = softMargin first second edges }
 
-  abbrev pub afterHard : SoftCandidate → Float → Selection → Answer
-  afterHard first margin (sel.Refused n) = refusedBy n
-  afterHard first margin (sel.Selected w next) = softJudged first margin w next
+module _ (P L : EdgeList) (ts : List ℕ) (B : Board) (limit : Float) where
+  -- the two best by likelihood, where the logical list gave w with its runner-up
+  unfoldable pub softJudged : SoftBest → Candidate → RunnerUp → Answer
+  unfolding softDecodedOf
+  softJudged best w next =
+      let t = getD ts (best .first .place) 0 in
+      let n = softVerdict t (best .first) (getD ts (w .place) 0) w next (size L) in
+      pick (eqb n 0) (Found (softDecodedOf t best (figuresOf B P t (best .first .row) (best .first .col)) (size P) next)) (refusedBy n)
+
+  abbrev pub afterHard : SoftBest → Selection → Answer
+  afterHard best (sel.Refused n) = refusedBy n
+  afterHard best (sel.Selected w next) = softJudged best w next
 
   -- "Margin = (first - second) / edges. Below the soft margin: refused."
   abbrev pub afterSoft : Float → SoftChoice → Answer
   afterSoft least Nothing = refusedBy 14
   afterSoft least (Chosen first second) =
-      pick (belowMargin (softMargin first second (size P)) least) (refusedBy 14) (afterHard first (softMargin first second (size P)) (selection B L ts limit))
+      pick (belowMargin (softMargin first second (size P)) least) (refusedBy 14) (afterHard (bestOf first second (size P)) (selection B L ts limit))
 
 -- what an accepted soft call answers, with the soft margin `least`
 unfoldable pub softCore : EdgeList → Likelihoods → EdgeList → List ℕ → Board → Float → Float → Answer
@@ -113,8 +117,8 @@ pub record FiguresDone (B : Board) (E : EdgeList) (t row col : ℕ) (c c' : List
   pub rooms : TablesBuilt B E t c c' w w'
 
 -- the logical list and the figures: the u32 and the f32 room are used
-pub record LogicalDone (P L : EdgeList) (ts : List ℕ) (B : Board) (limit : Float) (first : SoftCandidate) (margin : Float) (c c' : List ℕ) (w w' : List Float) (r : Answer) : Type 0 where
-  pub answer : r ≡ afterHard P L ts B limit first margin (selection B L ts limit)
+pub record LogicalDone (P L : EdgeList) (ts : List ℕ) (B : Board) (limit : Float) (best : SoftBest) (c c' : List ℕ) (w w' : List Float) (r : Answer) : Type 0 where
+  pub answer : r ≡ afterHard P L ts B limit best (selection B L ts limit)
   pub counts : SameBeyond 0 3006 c c'
   pub weights : SameBeyond nan 3006 w w'
 

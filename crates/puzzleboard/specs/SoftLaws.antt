@@ -14,6 +14,7 @@ use lib.Ieee.{Float, nan, binary32, add, eq}
 use borrow.Author.Tests.{eq-eqb, ne-eqb}
 use Rattle.laws.specs.Weights.{zeroF}
 use Rattle.laws.specs.Part.{view}
+use Rattle.laws.specs.GridLaws.{h-below, v-below}
 use Rattle.laws.specs.Cleared.{cleared, SameBeyond, beyond-refl, beyond-trans, cleared-forgets}
 use Rattle.board.specs.Hits.{EdgeList, Board, size}
 use Rattle.board.specs.Sides.{periodOf}
@@ -39,19 +40,17 @@ use Rattle.soft.specs.Margin.{softMargin, belowMargin}
 use Rattle.soft.specs.Select.{softSelection, SoftReady, SoftScanned}
 use Rattle.soft.specs.SelectLaws.{room-beyond, soft-best-edges}
 use Rattle.puzzleboard.specs.declared.stats.HitsWeight.{HitsWeight}
+use Rattle.puzzleboard.specs.declared.soft_decode.SoftBest.{SoftBest}
 use Rattle.puzzleboard.specs.declared.answer.Decoded.{Decoded}
 use Rattle.puzzleboard.specs.declared.answer.Answer.{Answer}
 use Rattle.puzzleboard.specs.declared.answer.Answer.the-variants.{Found, Refused}
 use Rattle.puzzleboard.specs.Hard.{refusedBy, left}
-use Rattle.puzzleboard.specs.HardLaws.{used-3006, ready-logical, beyond}
+use Rattle.puzzleboard.specs.HardLaws.{used-flat, ready-logical, beyond}
 use Rattle.puzzleboard.specs.Soft.{cellFigures, figuresOf, softVerdict, softDecodedOf, softJudged, afterHard, afterSoft, softCore, softAnswer, FiguresDone, LogicalDone, SoftCoreDone, SoftDone}
 
 -- ---- the cells of an origin
-pub h-below : (L : ℕ) → Period L → (row col : ℕ) → row % L * 3 + col % 3 < 3 * L
-h-below L p row col = let a = mod-lt row {m = L} (omega (arith, p .more)) in let b = mod-lt col {m = 3} (omega arith) in omega arith
-
-pub v-below : (M : ℕ) → Period M → (row col : ℕ) → row % 3 * M + col % M < 3 * M
-v-below M p row col = digits-lt (mod-lt row {m = 3} (omega arith)) (mod-lt col {m = M} (omega (arith, p .more)))
+pub positive : {n : ℕ} → Period n → 0 < n
+positive p = omega (arith, p .more)
 
 -- place k of a view is place a + k of the whole
 pub view-at : {A : Type 0} (a n : ℕ) (l : List A) (k : ℕ) (d : A) → k < n → getD (view a n l) k d ≡ getD l (a + k) d
@@ -61,8 +60,8 @@ module _ (L M edges : ℕ) (c : List ℕ) (w : List Float) (R : RoomReady L M ed
   pub cells-few : getD c (row % L * 3 + col % 3) 0 + getD c (3 * L + (row % 3 * M + col % M)) 0 ≤ 8192
   unfolding roomCells
   cells-few =
-      let i = h-below L (R .long) row col in
-      let j = v-below M (R .wide) row col in
+      let i = h-below L (positive (R .long)) row col in
+      let j = v-below M (positive (R .wide)) row col in
       let b = R .tables .bounded _ _ i j in
       let f = R .tables .few in
       let x = getD-take (3 * L) c _ 0 i in
@@ -72,8 +71,8 @@ module _ (L M edges : ℕ) (c : List ℕ) (w : List Float) (R : RoomReady L M ed
   pub figures-read : record { hits = getD c (row % L * 3 + col % 3) 0 + getD c (3 * L + (row % 3 * M + col % M)) 0; weight = add binary32 (getD w (row % L * 3 + col % 3) nan) (getD w (3 * L + (row % 3 * M + col % M)) nan) } ≡ cellFigures L M (roomCells L M c w) row col
   unfolding roomCells cellFigures
   figures-read =
-      let i = h-below L (R .long) row col in
-      let j = v-below M (R .wide) row col in
+      let i = h-below L (positive (R .long)) row col in
+      let j = v-below M (positive (R .wide)) row col in
       let x = getD-take (3 * L) c _ 0 i in
       let y = view-at (3 * L) (3 * M) c _ 0 j in
       let z = getD-take (3 * L) w _ nan i in
@@ -88,58 +87,54 @@ module _ (B : Board) (E : EdgeList) (t row col : ℕ) (c c' : List ℕ) (w w' : 
 -- no more hits than edges
 pub figures-few : (B : Board) (E : EdgeList) (t row col : ℕ) → BoardOk B → ListOk E → figuresOf B E t row col .hits ≤ size E
 unfolding cellFigures
-figures-few B E t row col board list = tables-ok B E t board list .bounded _ _ (h-below (periodOf B true) (period-h B board) row col) (v-below (periodOf B false) (period-v B board) row col)
+figures-few B E t row col board list = tables-ok B E t board list .bounded _ _ (h-below (periodOf B true) (positive (period-h B board)) row col) (v-below (periodOf B false) (positive (period-v B board)) row col)
 
 -- ---- the soft winner against the logical list
-module _ (L P : EdgeList) (ts : List ℕ) (B : Board) (limit : Float) (c : List ℕ) (w : List Float) (A : HardAccepted L P ts B limit (length c) (length w)) (first : SoftCandidate) (margin : Float) (c' : List ℕ) (w' : List Float) (r : Selection) (D : SelectDone B L ts limit c c' w w' r) where
+module _ (L P : EdgeList) (ts : List ℕ) (B : Board) (limit : Float) (c : List ℕ) (w : List Float) (A : HardAccepted L P ts B limit (length c) (length w)) (best : SoftBest) (c' : List ℕ) (w' : List Float) (r : Selection) (D : SelectDone B L ts limit c c' w w' r) where
   pub logical-rooms : SameBeyond 0 3006 c c' × SameBeyond nan 3006 w w'
   logical-rooms = beyond L P ts B limit c w A L limit c c' w w' r (ready-logical L P ts B limit c w A) D
 
-  pub logical-refused : (n : ℕ) (a : Answer) → r ≡ sel.Refused n → a ≡ refusedBy n → LogicalDone P L ts B limit first margin c c' w w' a
+  pub logical-refused : (n : ℕ) (a : Answer) → r ≡ sel.Refused n → a ≡ refusedBy n → LogicalDone P L ts B limit best c c' w w' a
   unfolding softJudged
-  logical-refused n a k e = record { answer = e ∙ ap (afterHard P L ts B limit first margin) (sym k ∙ D .answer); counts = logical-rooms .0; weights = logical-rooms .1 }
+  logical-refused n a k e = record { answer = e ∙ ap (afterHard P L ts B limit best) (sym k ∙ D .answer); counts = logical-rooms .0; weights = logical-rooms .1 }
 
   -- the tables of its transform can be built
-  pub figures-ready : first .place < length ts → TablesReady B P (getD ts (first .place) 0) c' w'
+  pub figures-ready : best .first .place < length ts → TablesReady B P (getD ts (best .first .place) 0) c' w'
   figures-ready h =
-      let u = used-3006 B (A .periods) in
+      let u = used-flat B 1 (A .periods) in
       record {
         list = A .physical;
         board = A .board;
-        transform = A .transforms .small (first .place) h;
+        transform = A .transforms .small (best .first .place) h;
         room = (omega (arith, A .room .0, logical-rooms .0 .len), omega (arith, A .room .1, logical-rooms .1 .len));
       }
 
-  module _ (x : Candidate) (next : RunnerUp) (k : r ≡ sel.Selected x next) (n : ℕ) (v : n ≡ softVerdict (getD ts (first .place) 0) first (getD ts (x .place) 0) x next (size L)) where
-    logical-answer : softJudged P L ts B limit first margin x next ≡ afterHard P L ts B limit first margin (selection B L ts limit)
-    logical-answer = ap (afterHard P L ts B limit first margin) (sym k ∙ D .answer)
+  module _ (x : Candidate) (next : RunnerUp) (k : r ≡ sel.Selected x next) (n : ℕ) (v : n ≡ softVerdict (getD ts (best .first .place) 0) (best .first) (getD ts (x .place) 0) x next (size L)) where
+    logical-answer : softJudged P L ts B limit best x next ≡ afterHard P L ts B limit best (selection B L ts limit)
+    logical-answer = ap (afterHard P L ts B limit best) (sym k ∙ D .answer)
 
-    pub verdict-refused : (a : Answer) → (n ≡ 0 → ⊥) → a ≡ refusedBy n → LogicalDone P L ts B limit first margin c c' w w' a
+    pub verdict-refused : (a : Answer) → (n ≡ 0 → ⊥) → a ≡ refusedBy n → LogicalDone P L ts B limit best c c' w w' a
     unfolding softJudged
     verdict-refused a o e =
-        let f : eqb (softVerdict (getD ts (first .place) 0) first (getD ts (x .place) 0) x next (size L)) 0 ≡ false = ap (λ (m : ℕ). eqb m 0) (sym v) ∙ ne-eqb n 0 o in
+        let f : eqb (softVerdict (getD ts (best .first .place) 0) (best .first) (getD ts (x .place) 0) x next (size L)) 0 ≡ false = ap (λ (m : ℕ). eqb m 0) (sym v) ∙ ne-eqb n 0 o in
         record { answer = e ∙ ap refusedBy v ∙ sym (rw f) ∙ logical-answer; counts = logical-rooms .0; weights = logical-rooms .1 }
 
-    module _ (c'' : List ℕ) (w'' : List Float) (own : HitsWeight) (F : FiguresDone B P (getD ts (first .place) 0) (first .row) (first .col) c' c'' w' w'' own) where
+    module _ (c'' : List ℕ) (w'' : List Float) (own : HitsWeight) (F : FiguresDone B P (getD ts (best .first .place) 0) (best .first .row) (best .first .col) c' c'' w' w'' own) where
       pub own-few : own .hits ≤ size P
-      own-few = subst (λ (z : HitsWeight). z .hits ≤ size P) (sym (F .answer)) (figures-few B P (getD ts (first .place) 0) (first .row) (first .col) (A .board) (A .physical))
+      own-few = subst (λ (z : HitsWeight). z .hits ≤ size P) (sym (F .answer)) (figures-few B P (getD ts (best .first .place) 0) (best .first .row) (best .first .col) (A .board) (A .physical))
 
-      pub verdict-found : (a : Decoded) → n ≡ 0 → a ≡ softDecodedOf (getD ts (first .place) 0) first margin own (size P) next → LogicalDone P L ts B limit first margin c c'' w w'' (Found a)
+      pub verdict-found : (a : Decoded) → n ≡ 0 → a ≡ softDecodedOf (getD ts (best .first .place) 0) best own (size P) next → LogicalDone P L ts B limit best c c'' w w'' (Found a)
       unfolding softJudged
       verdict-found a o e =
-          let f : eqb (softVerdict (getD ts (first .place) 0) first (getD ts (x .place) 0) x next (size L)) 0 ≡ true = ap (λ (m : ℕ). eqb m 0) (sym v) ∙ eq-eqb n 0 o in
-          let u = used-3006 B (A .periods) in
+          let f : eqb (softVerdict (getD ts (best .first .place) 0) (best .first) (getD ts (x .place) 0) x next (size L)) 0 ≡ true = ap (λ (m : ℕ). eqb m 0) (sym v) ∙ eq-eqb n 0 o in
+          let u = used-flat B 1 (A .periods) in
           record {
-            answer = ap Found (e ∙ ap (λ (z : HitsWeight). softDecodedOf (getD ts (first .place) 0) first margin z (size P) next) (F .answer)) ∙ sym (rw f) ∙ logical-answer;
+            answer = ap Found (e ∙ ap (λ (z : HitsWeight). softDecodedOf (getD ts (best .first .place) 0) best z (size P) next) (F .answer)) ∙ sym (rw f) ∙ logical-answer;
             counts = beyond-trans 0 3006 c c' c'' (logical-rooms .0) (record { len = F .rooms .counts .len; same = λ i h. F .rooms .counts .surplus i (omega arith) });
             weights = beyond-trans nan 3006 w w' w'' (logical-rooms .1) (record { len = F .rooms .weights .len; same = λ i h. F .rooms .weights .surplus i (omega arith) });
           }
 
 -- ---- the accepted call
--- the used room of the sums
-pub used-5010 : (B : Board) → (length (B .h) ≡ 167) × (length (B .v) ≡ 167) → used (periodOf B) 2 ≡ 5010
-used-5010 B p = ap₂ (λ (x y : ℕ). 3 * x + 3 * y + 2 * ((x + y) * 6)) (p .0) (p .1)
-
 -- the list position that a choice holds in first place
 abbrev firstPlaceOf : SoftChoice → ℕ
 firstPlaceOf Nothing = 0
@@ -177,7 +172,7 @@ module _ (P : EdgeList) (X : Likelihoods) (L : EdgeList) (ts : List ℕ) (B : Bo
     board = A .board;
     transforms = (A .transforms .some, A .transforms .few);
     small = A .transforms .small;
-    room = omega (arith, used-5010 B (A .periods), A .room .2);
+    room = omega (arith, used-flat B 2 (A .periods), A .room .2);
   }
 
   -- no confidence
@@ -189,7 +184,7 @@ module _ (P : EdgeList) (X : Likelihoods) (L : EdgeList) (ts : List ℕ) (B : Bo
     sums-beyond : SameBeyond (pos 0) 5010 a a'
     sums-beyond =
         let b = room-beyond B P X ts a ready-soft (length ts) a' (S .room) in
-        let u = used-5010 B (A .periods) in
+        let u = used-flat B 2 (A .periods) in
         record { len = b .len; same = λ k l. b .same k (omega arith) }
 
     pub choice-told : x ≡ softSelection B P X ts
@@ -211,11 +206,11 @@ module _ (P : EdgeList) (X : Likelihoods) (L : EdgeList) (ts : List ℕ) (B : Bo
           record { answer = e ∙ sym (rw q) ∙ core-answer (Chosen first second) k; counts = beyond-refl 0 3006 c; weights = beyond-refl nan 3006 w; sums = sums-beyond }
 
       -- else the logical list decides
-      pub core-logical : (b : Bool) (c' : List ℕ) (w' : List Float) (r : Answer) → b ≡ belowMargin m least → b ≡ false → LogicalDone P L ts B limit first m c c' w w' r → SoftCoreDone P X L ts B limit least c c' w w' a a' r
+      pub core-logical : (b : Bool) (c' : List ℕ) (w' : List Float) (r : Answer) → b ≡ belowMargin m least → b ≡ false → LogicalDone P L ts B limit (record { first = first; second = second; margin = m }) c c' w w' r → SoftCoreDone P X L ts B limit least c c' w w' a a' r
       core-logical b c' w' r d t D =
           let q : belowMargin (softMargin first second (size P)) least ≡ false = ap (λ (z : Float). belowMargin z least) (sym f) ∙ sym d ∙ t in
           record {
-            answer = D .answer ∙ ap (λ (z : Float). afterHard P L ts B limit first z (selection B L ts limit)) f ∙ sym (rw q) ∙ core-answer (Chosen first second) k;
+            answer = D .answer ∙ ap (λ (z : Float). afterHard P L ts B limit (record { first = first; second = second; margin = z }) (selection B L ts limit)) f ∙ sym (rw q) ∙ core-answer (Chosen first second) k;
             counts = D .counts;
             weights = D .weights;
             sums = sums-beyond;

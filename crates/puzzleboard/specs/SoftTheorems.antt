@@ -41,7 +41,7 @@ use Rattle.puzzleboard.specs.declared.answer.Decoded.{Decoded}
 use Rattle.puzzleboard.specs.declared.answer.Answer.{Answer}
 use Rattle.puzzleboard.specs.declared.answer.Answer.the-variants.{Found, Refused}
 use Rattle.puzzleboard.specs.Hard.{refusedBy, pick}
-use Rattle.puzzleboard.specs.Soft.{cellFigures, figuresOf, softVerdict, softDecodedOf, softJudged, afterHard, afterSoft, softCore}
+use Rattle.puzzleboard.specs.Soft.{cellFigures, figuresOf, softVerdict, softDecodedOf, softJudged, bestOf, afterHard, afterSoft, softCore}
 use Rattle.puzzleboard.specs.SoftLaws.{likelihoods-ok}
 use Rattle.puzzleboard.specs.Demand.{OnBoard, Same, Leads, RunsUp, Names}
 use Rattle.puzzleboard.specs.DemandLaws.{keyOf, placing, placing-on, key-same, key-back, row-back, col-back, leads-sole}
@@ -120,7 +120,7 @@ module _ (P : EdgeList) (X : Likelihoods) (L : EdgeList) (ts : List ℕ) (B : Bo
     t = getD ts (Q .place) 0
 
     abbrev answer : RunnerUp → Decoded
-    answer r = softDecodedOf t (candidate B P X ts Q) (marginOf B P X ts Q R) (figuresOf B P t (Q .row) (Q .col)) (size P) r
+    answer r = softDecodedOf t (bestOf (candidate B P X ts Q) (candidate B P X ts R) (size P)) (figuresOf B P t (Q .row) (Q .col)) (size P) r
 
     module _ (x : Candidate) (r : RunnerUp) (e : selection B L ts limit ≡ sel.Selected x r) (p : (t ≡ getD ts (x .place) 0) × (Q .row ≡ x .row) × (Q .col ≡ x .col) × (passed (size L) (x .hits) (r .hits) ≡ true)) where
       lead : Leads B L ts limit (placed x)
@@ -166,13 +166,13 @@ module _ (P : EdgeList) (X : Likelihoods) (L : EdgeList) (ts : List ℕ) (B : Bo
     by-verdict x r true e h k = soft-answered x r e (verdict-passed t (candidate B P X ts Q) (getD ts (x .place) 0) x r (size L) (eqb-true (verdict x r) 0 h)) k
     by-verdict x r false e h k = absurd (no-square d (verdict x r) k)
 
-    by-logical : (q : Selection) → selection B L ts limit ≡ q → afterHard P L ts B limit (candidate B P X ts Q) (marginOf B P X ts Q R) q ≡ Found d → SoftAnswered P X L ts B limit least d
+    by-logical : (q : Selection) → selection B L ts limit ≡ q → afterHard P L ts B limit (bestOf (candidate B P X ts Q) (candidate B P X ts R) (size P)) q ≡ Found d → SoftAnswered P X L ts B limit least d
     unfolding softJudged
     by-logical (sel.Refused j) e h = absurd (no-square d j h)
     by-logical (sel.Selected x r) e h = by-verdict x r (eqb (verdict x r) 0) e refl h
 
   by-margin : (d : Decoded) (Q R : Placing) → BestByLikelihood B P X ts Q R → (v : Bool) → belowMargin (marginOf B P X ts Q R) least ≡ v
-      → pick v (refusedBy 14) (afterHard P L ts B limit (candidate B P X ts Q) (marginOf B P X ts Q R) (selection B L ts limit)) ≡ Found d → SoftAnswered P X L ts B limit least d
+      → pick v (refusedBy 14) (afterHard P L ts B limit (bestOf (candidate B P X ts Q) (candidate B P X ts R) (size P)) (selection B L ts limit)) ≡ Found d → SoftAnswered P X L ts B limit least d
   by-margin d Q R b true e h = absurd (no-square d 14 h)
   by-margin d Q R b false e h = by-logical d Q R b e (selection B L ts limit) refl h
 
@@ -202,4 +202,4 @@ module _ (P : EdgeList) (X : Likelihoods) (L : EdgeList) (ts : List ℕ) (B : Bo
       let p1 : eqb t (getD ts (x .place) 0) ≡ true = eq-eqb t (getD ts (x .place) 0) (ap (λ (i : ℕ). getD ts i 0) (k .0)) in
       let p2 : eqb (Q .row) (x .row) ≡ true = eq-eqb (Q .row) (x .row) (k .1) in
       let p3 : eqb (Q .col) (x .col) ≡ true = eq-eqb (Q .col) (x .col) (k .2) in
-      (softDecodedOf t (candidate B P X ts Q) (marginOf B P X ts Q R) (figuresOf B P t (Q .row) (Q .col)) (size P) r, rw (h, own-best Q R b, clear, s .2, p1, p2, p3, s .3))
+      (softDecodedOf t (bestOf (candidate B P X ts Q) (candidate B P X ts R) (size P)) (figuresOf B P t (Q .row) (Q .col)) (size P) r, rw (h, own-best Q R b, clear, s .2, p1, p2, p3, s .3))

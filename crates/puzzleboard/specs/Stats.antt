@@ -4,12 +4,11 @@ use mathlib.Core.List.{List}
 use Prim.Native.Nat.{ℕ, _+_}
 use lib.Dec.{eqb}
 use lib.ListN.{getD}
-use lib.IntN.{pos}
-use lib.Ieee.{Float, nan, binary32, add, div, ofInt}
+use lib.Ieee.{Float, nan, binary32, add}
 use Rattle.laws.specs.Fold.{fold, put}
 use Rattle.laws.specs.Weights.{zeroF, oneF}
 use Rattle.board.specs.Hits.{EdgeList, Board, size, hit, hits}
-use Rattle.hard.specs.Scan.{rateOf}
+use Rattle.hard.specs.Scan.{rateOf, meanOf}
 use Rattle.checks.specs.declared.refusal.Refusal.{Refusal}
 use Rattle.puzzleboard.specs.declared.answer.MatchStats.{MatchStats}
 use Rattle.puzzleboard.specs.declared.answer.StatsAnswer.{StatsAnswer}
@@ -20,10 +19,6 @@ use Rattle.checks.specs.Refusals.{statsRefusal}
 -- hard selection's rate; no edges: 1
 unfoldable pub statsRate : ℕ → ℕ → Float
 statsRate edges hits = cond (eqb edges 0) oneF (rateOf edges hits)
-
--- "Mean confidence = weight / hits, 0 for no hits"
-unfoldable pub meanOf : ℕ → Float → Float
-meanOf hits weight = cond (eqb hits 0) zeroF (div binary32 weight (ofInt binary32 (pos hits)))
 
 -- the confidences of the hits among the first n edges, added in list order from 0
 unfoldable pub hitWeight : Board → EdgeList → ℕ → ℕ → ℕ → ℕ → Float

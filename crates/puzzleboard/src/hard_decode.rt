@@ -4,21 +4,14 @@ ghost use Prim.Native.Nat.{_≤_, _<_};
 ghost use lib.ListN.{length};
 ghost use Rattle.board.specs.Hits.{edges, tables};
 ghost use Rattle.checks.specs.Accepted.{HardAccepted};
-ghost use Rattle.puzzleboard.specs.Hard.{refusedBy, agreed, decodedOf, judged, CoreDone, HardDone};
+ghost use Rattle.puzzleboard.specs.Hard.{agreed, decodedOf, judged, CoreDone, HardDone};
 use crate::answer::Answer;
 use crate::answer::Decoded;
 use crate::answer::Square;
-use checks::refusal::Refusal;
+use crate::refuse::refuse;
 use hard::scan::Candidate;
 use hard::scan::RunnerUp;
 use hard::select::Selection;
-
-// A refusal by its number.
-pub fn refuse(number: u32) -> Answer
-    ensures { λ r. ⌜ r ≡ refusedBy number ⌝ }
-{
-    Answer::Refused(Refusal { number })
-}
 
 // Whether two winners agree in transform and origin.
 fn same_square(t: u8, a: Candidate, s: u8, b: Candidate) -> bool
@@ -53,7 +46,7 @@ fn decoded(t: u8, w: Candidate, next: RunnerUp, edges: u32) -> Decoded
         edges,
         weighted: w.score,
         rate: hard::scan::rate(edges, w.hits),
-        mean: crate::stats::mean(w.hits, w.weight),
+        mean: hard::scan::mean(w.hits, w.weight),
         best: w.score,
         next: next.hits as f32,
         margin: hard::gate::margin(w.hits, next.hits) as f32,

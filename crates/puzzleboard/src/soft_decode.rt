@@ -11,13 +11,20 @@ ghost use Rattle.puzzleboard.specs.Soft.{cellFigures, softVerdict, softD
 use crate::answer::Answer;
 use crate::answer::Decoded;
 use crate::answer::Square;
-use crate::hard_decode::refuse;
+use crate::refuse::refuse;
 use crate::stats::HitsWeight;
 use hard::scan::Candidate;
 use hard::scan::RunnerUp;
 use hard::select::Selection;
 use soft::scan::SoftCandidate;
 use soft::scan::SoftChoice;
+
+// The two best placings by likelihood, and how far the first is ahead per edge: kept together until the answer is assembled.
+pub struct SoftBest {
+    pub first: SoftCandidate,
+    pub second: SoftCandidate,
+    pub margin: f32,
+}
 
 // The hits and the weight of one origin, read off the tables in the room.
 fn figures_at(
@@ -84,12 +91,12 @@ fn figures<'a>(
 }
 
 // The soft winner under transform t against the hard winner w of the logical list under transform s: 15, 13, or 0 where both are passed.
-fn soft_verdict(t: u8, first: SoftCandidate, s: u8, w: Candidate, next: RunnerUp, edges: u32) -> u32
-    ensures { λ r. ⌜ r ≡ softVerdict t first s w next edges ⌝ }
+fn soft_verdict(t: u8, best: SoftBest, s: u8, w: Candidate, next: RunnerUp, edges: u32) -> u32
+    ensures { λ r. ⌜ r ≡ softVerdict t (best .first) s w next edges ⌝ }
 {
     if t == s {
-        if first.row == w.row {
-            if first.col == w.col {
+        if best.first.row == w.row {
+            if best.first.col == w.col {
                 if hard::gate::passes(edges, w.hits, next.hits) {
                     return 0;
                 }
@@ -101,21 +108,14 @@ fn soft_verdict(t: u8, first: SoftCandidate, s: u8, w: Candidate, next: RunnerUp
 }
 
 // What a found soft answer says: the soft winner with its total and margin, the physical list's figures, and the hard runner-up.
-fn soft_decoded(
-    t: u8,
-    first: SoftCandidate,
-    margin: f32,
-    figures: HitsWeight,
-    edges: u32,
-    next: RunnerUp,
-) -> Decoded
+fn soft_decoded(t: u8, best: SoftBest, figures: HitsWeight, edges: u32, next: RunnerUp) -> Decoded
     requires { ⌜ (figures .hits ≤ edges) × (edges ≤ 8192) × (next .hits ≤ 8192) ⌝ }
-    ensures { λ r. ⌜ r ≡ softDecodedOf t first margin figures edges next ⌝ }
+    ensures { λ r. ⌜ r ≡ softDecodedOf t best figures edges next ⌝ }
 {
     let square = Square {
         transform: t as u32,
-        row: first.row,
-        col: first.col,
+        row: best.first.row,
+        col: best.first.col,
     };
     let runner = Square {
         transform: next.transform as u32,
@@ -126,20 +126,19 @@ fn soft_decoded(
         square,
         hits: figures.hits,
         edges,
-        weighted: first.total / edges as f32,
+        weighted: best.first.total / edges as f32,
         rate: hard::scan::rate(edges, figures.hits),
-        mean: crate::stats::mean(figures.hits, figures.weight),
-        best: first.total,
+        mean: hard::scan::mean(figures.hits, figures.weight),
+        best: best.first.total,
         next: next.hits as f32,
-        margin,
+        margin: best.margin,
         runner,
     }
 }
 
 // The soft winner with its margin, against hard selection on the logical list: refused by that, 15, 13, or found. The room is left as it was used.
 fn soft_logical<'a>(
-    first: SoftCandidate,
-    margin: f32,
+    best: SoftBest,
     prows: &[i32],
     pcols: &[i32],
     porientations: &[u8],
@@ -161,11 +160,11 @@ fn soft_logical<'a>(
         (edges (now lrows) (now lcols) (now lorientations) (now lbits) (now lconfidences))
         (edges (now prows) (now pcols) (now porientations) (now pbits) (now pconfidences))
         (now transforms) (tables (now h) (now v)) limit (length (now counts)) (length (now weights)) ⌝ }
-    requires { ⌜ first .place < length (now transforms) ⌝ }
+    requires { ⌜ best .first .place < length (now transforms) ⌝ }
     ensures { λ r. ⌜ LogicalDone
         (edges (now (prows .entry)) (now (pcols .entry)) (now (porientations .entry)) (now (pbits .entry)) (now (pconfidences .entry)))
         (edges (now (lrows .entry)) (now (lcols .entry)) (now (lorientations .entry)) (now (lbits .entry)) (now (lconfidences .entry)))
-        (now (transforms .entry)) (tables (now (h .entry)) (now (v .entry))) limit first margin
+        (now (transforms .entry)) (tables (now (h .entry)) (now (v .entry))) limit best
         (now (counts .entry)) (now (counts .exit)) (now (weights .entry)) (now (weights .exit)) r ⌝ }
 {
     let logical = hard::select::select(
@@ -184,11 +183,11 @@ fn soft_logical<'a>(
     match logical {
         Selection::Refused(number) => refuse(number),
         Selection::Selected(w, next) => {
-            let at = first.place;
+            let at = best.first.place;
             let other = w.place;
             let t = transforms[at];
             let s = transforms[other];
-            let number = soft_verdict(t, first, s, w, next, lrows.len() as u32);
+            let number = soft_verdict(t, best, s, w, next, lrows.len() as u32);
             if number != 0 {
                 return refuse(number);
             }
@@ -199,14 +198,14 @@ fn soft_logical<'a>(
                 pbits,
                 pconfidences,
                 t,
-                first.row,
-                first.col,
+                best.first.row,
+                best.first.col,
                 h,
                 v,
                 counts,
                 weights,
             );
-            Answer::Found(soft_decoded(t, first, margin, own, prows.len() as u32, next))
+            Answer::Found(soft_decoded(t, best, own, prows.len() as u32, next))
         }
     }
 }
@@ -270,9 +269,13 @@ fn soft_core<'a>(
             if soft::margin::below(lead, margin) {
                 return refuse(14);
             }
-            soft_logical(
+            let best = SoftBest {
                 first,
-                lead,
+                second,
+                margin: lead,
+            };
+            soft_logical(
+                best,
                 prows,
                 pcols,
                 porientations,

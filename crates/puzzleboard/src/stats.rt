@@ -3,7 +3,7 @@ ghost use mathlib.Core.Path.{_≡_};
 ghost use Prim.Native.Nat.{_≤_, _<_};
 ghost use Rattle.board.specs.Hits.{edges, tables};
 ghost use Rattle.checks.specs.Accepted.{StatsAccepted};
-ghost use Rattle.puzzleboard.specs.Stats.{added, hitsAndWeight, statsRate, meanOf, statsOf, statsAnswer};
+ghost use Rattle.puzzleboard.specs.Stats.{added, hitsAndWeight, statsRate, statsOf, statsAnswer};
 use crate::answer::MatchStats;
 use crate::answer::StatsAnswer;
 
@@ -79,17 +79,6 @@ fn rate(edges: u32, hits: u32) -> f32
     hard::scan::rate(edges, hits)
 }
 
-// The sum of the hits' confidences over the hits; 0 for no hits.
-pub fn mean(hits: u32, weight: f32) -> f32
-    requires { ⌜ hits ≤ 8192 ⌝ }
-    ensures { λ r. ⌜ r ≡ meanOf hits weight ⌝ }
-{
-    if hits == 0 {
-        return 0.0;
-    }
-    weight / hits as f32
-}
-
 // Edges, hits, rate and mean of one list at one known transform and origin, for all inputs.
 pub fn match_stats(
     rows: &[i32],
@@ -140,6 +129,6 @@ pub fn match_stats(
         edges,
         hits,
         rate: rate(edges, hits),
-        mean: mean(hits, counted.weight),
+        mean: hard::scan::mean(hits, counted.weight),
     })
 }

@@ -16,7 +16,7 @@ pub struct LevelMax {
 }
 
 // The first cell of largest sum.
-pub fn level_best(sums: &[i64]) -> usize
+fn level_best(sums: &[i64]) -> usize
     requires { ⌜ 1 < length (now sums) ⌝ }
     ensures { λ r. ⌜ (r ≡ levelBest (now (sums .entry))) × (r < length (now (sums .entry))) ⌝ }
 {
@@ -39,7 +39,7 @@ pub fn is_level(sum: i64, top: i64) -> bool
 }
 
 // How many cells have the sum.
-pub fn level_number(sums: &[i64], top: i64) -> usize
+fn level_number(sums: &[i64], top: i64) -> usize
     ensures { λ r. ⌜ r ≡ count (length (now (sums .entry))) (level (now (sums .entry)) top) ⌝ }
 {
     let mut n: usize = 0;
@@ -54,7 +54,7 @@ pub fn level_number(sums: &[i64], top: i64) -> usize
 }
 
 // The first cell of largest sum, of all cells but one.
-pub fn second_cell(sums: &[i64], skip: usize) -> usize
+fn second_cell(sums: &[i64], skip: usize) -> usize
     requires { ⌜ (1 < length (now sums)) × (skip < length (now sums)) ⌝ }
     ensures { λ r. ⌜ (r ≡ secondCell (now (sums .entry)) skip) × (r < length (now (sums .entry))) ⌝ }
 {

@@ -21,7 +21,7 @@ pub struct TwoBest {
 }
 
 // The least of start and the keys of the horizontal cell h with each vertical cell of that sum.
-pub fn lowest_key(sums: &[i64], top: i64, h: usize, start: usize, long: usize, wide: usize) -> usize
+fn lowest_key(sums: &[i64], top: i64, h: usize, start: usize, long: usize, wide: usize) -> usize
     requires { ⌜ Period long × Period wide × (length (now sums) ≡ 3 * wide) × (h < 3 * long) ⌝ }
     ensures { λ r. ⌜ r ≡ lowest (level (now (sums .entry)) top) (origins long wide .key h) start (length (now (sums .entry))) ⌝ }
 {
@@ -40,7 +40,7 @@ pub fn lowest_key(sums: &[i64], top: i64, h: usize, start: usize, long: usize, w
 }
 
 // The row-major first origin over the pairs of a horizontal cell of sum ht and a vertical cell of sum vt.
-pub fn row_major_first(hs: &[i64], ht: i64, vs: &[i64], vt: i64, long: usize, wide: usize) -> usize
+fn row_major_first(hs: &[i64], ht: i64, vs: &[i64], vt: i64, long: usize, wide: usize) -> usize
     requires { ⌜ Period long × Period wide × (length (now hs) ≡ 3 * long) × (length (now vs) ≡ 3 * wide) ⌝ }
     ensures { λ r. ⌜ r ≡ rowMajor (origins long wide) (length (now (vs .entry))) (level (now (hs .entry)) ht) (level (now (vs .entry)) vt) (length (now (hs .entry))) ⌝ }
 {
@@ -56,7 +56,7 @@ pub fn row_major_first(hs: &[i64], ht: i64, vs: &[i64], vt: i64, long: usize, wi
 }
 
 // One pair more in the search for another pair than the winner: it is taken where none was found before it, its cells are level and it is not the winner.
-pub fn fill(found: usize, none: usize, level: bool, key: usize, winner: usize) -> usize
+fn fill(found: usize, none: usize, level: bool, key: usize, winner: usize) -> usize
     ensures { λ r. ⌜ r ≡ filled none found (level && not (eqb key winner)) key ⌝ }
 {
     if found == none {
@@ -70,7 +70,7 @@ pub fn fill(found: usize, none: usize, level: bool, key: usize, winner: usize) -
 }
 
 // The same search over all vertical cells of sum top with the horizontal cell h.
-pub fn other_in(
+fn other_in(
     sums: &[i64],
     top: i64,
     h: usize,
@@ -95,7 +95,7 @@ pub fn other_in(
 }
 
 // The first pair of a horizontal cell of sum ht and a vertical cell of sum vt, by horizontal then vertical position, that is not the winner.
-pub fn other_pair(
+fn other_pair(
     hs: &[i64],
     ht: i64,
     vs: &[i64],
@@ -119,7 +119,7 @@ pub fn other_pair(
 }
 
 // The better of the two pairs with one second-best cell, horizontal on a tie.
-pub fn next_pair(a: LevelMax, b: LevelMax, long: usize, wide: usize) -> usize
+fn next_pair(a: LevelMax, b: LevelMax, long: usize, wide: usize) -> usize
     requires { ⌜ Period long × Period wide × LevelsOk long wide a b ⌝ }
     ensures { λ r. ⌜ r ≡ nextPair (origins long wide) a b ⌝ }
 {

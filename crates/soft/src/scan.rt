@@ -1,10 +1,6 @@
-// The scan record, by value: the two best candidates of the transforms so far, with place, origin and total.
+// What a selection keeps by value: the two best candidates of the transforms so far, with place, origin and total.
 ghost use mathlib.Core.Path.{_≡_};
-ghost use Prim.Native.Nat.{_≤_, _<_};
-ghost use Rattle.hard.specs.CellTables.{Period};
-ghost use Rattle.soft.specs.Sums.{SumsOk, sums};
-ghost use Rattle.soft.specs.Scan.{yields, softCandidate, softEmpty, softOffered, softFolded, softChosen};
-use crate::pair::two_best;
+ghost use Rattle.soft.specs.Scan.{softChosen};
 
 // An origin at a place of the transform list, with its total.
 pub struct SoftCandidate {
@@ -34,105 +30,6 @@ pub enum SoftChoice {
         first: SoftCandidate,
         second: SoftCandidate,
     },
-}
-
-// A scan of no transforms.
-pub fn empty() -> SoftScan
-    ensures { λ r. ⌜ r ≡ softEmpty ⌝ }
-{
-    let first = Slot::Free;
-    let second = Slot::Free;
-    SoftScan {
-        first,
-        second,
-        count: 0,
-    }
-}
-
-// Whether a candidate of that total takes a place: it is free, or its holder's total is strictly smaller.
-pub fn takes(slot: Slot, total: f32) -> bool
-    ensures { λ r. ⌜ r ≡ yields slot total ⌝ }
-{
-    match slot {
-        Slot::Free => true,
-        Slot::Held(c) => total > c.total,
-    }
-}
-
-// The scan after one candidate more: strictly greater takes first place and moves the old first to second, else strictly greater than second takes second.
-pub fn offer(scan: SoftScan, c: SoftCandidate) -> SoftScan
-    ensures { λ r. ⌜ r ≡ softOffered scan c ⌝ }
-{
-    let first = scan.first;
-    let second = scan.second;
-    let count = scan.count;
-    if takes(first, c.total) {
-        let best = Slot::Held(c);
-        return SoftScan {
-            first: best,
-            second: first,
-            count,
-        };
-    }
-    if takes(second, c.total) {
-        let next = Slot::Held(c);
-        return SoftScan {
-            first,
-            second: next,
-            count,
-        };
-    }
-    scan
-}
-
-// The origin of a key at a list position, with the sum of its two cells as its total.
-pub fn candidate_of(
-    hs: &[i64],
-    vs: &[i64],
-    key: usize,
-    place: usize,
-    long: usize,
-    wide: usize,
-) -> SoftCandidate
-    requires { ⌜ Period long × Period wide × SumsOk long wide (now hs) (now vs) × (key ≤ 2250000) ⌝ }
-    ensures { λ r. ⌜ r ≡ softCandidate long wide (sums (now (hs .entry)) (now (vs .entry))) place key ⌝ }
-{
-    let row = key / (3 * wide);
-    let col = key % (3 * wide);
-    let h = (row % long) * 3 + col % 3;
-    let v = (row % 3) * wide + col % wide;
-    let sum = hs[h] + vs[v];
-    let total = likelihood::dequantize_ll(sum);
-    let r = row as u32;
-    let c = col as u32;
-    SoftCandidate {
-        place,
-        row: r,
-        col: c,
-        total,
-    }
-}
-
-// The transform at the next list position: its winner is offered, then its runner-up.
-pub fn fold_transform(scan: SoftScan, hs: &[i64], vs: &[i64], long: usize, wide: usize) -> SoftScan
-    requires { ⌜ Period long × Period wide × SumsOk long wide (now hs) (now vs) ⌝ }
-    requires { ⌜ scan .count < 8 ⌝ }
-    ensures { λ r. ⌜ r ≡ softFolded long wide (sums (now (hs .entry)) (now (vs .entry))) scan ⌝ }
-{
-    let place = scan.count;
-    let two = two_best(hs, vs, long, wide);
-    let winner = candidate_of(hs, vs, two.winner, place, long, wide);
-    let runner = candidate_of(hs, vs, two.runner, place, long, wide);
-    let one = offer(scan, winner);
-    let both = offer(one, runner);
-    let first = both.first;
-    let second = both.second;
-    let count = place + 1;
-    SoftScan {
-        first,
-        second,
-        count,
-    }
 }
 
 // What the scan comes to: both candidates, once there was a transform.

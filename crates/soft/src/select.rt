@@ -10,14 +10,14 @@ ghost use Rattle.soft.specs.SelectLaws.{roomSums, RoomReady};
 use crate::scan::SoftScan;
 
 // One transform's sums, where they were built in the room, folded into the scan.
-pub fn fold_room(scan: SoftScan, sums: &[i64], long: usize, wide: usize) -> SoftScan
+fn fold_room(scan: SoftScan, sums: &[i64], long: usize, wide: usize) -> SoftScan
     requires { ⌜ RoomReady long wide (now sums) ⌝ }
     requires { ⌜ scan .count < 8 ⌝ }
     ensures { λ r. ⌜ r ≡ softFolded long wide (roomSums long wide (now (sums .entry))) scan ⌝ }
 {
     let a = 3 * long;
     let e = a + 3 * wide;
-    crate::scan::fold_transform(scan, &sums[0..a], &sums[a..e], long, wide)
+    crate::record::fold_transform(scan, &sums[0..a], &sums[a..e], long, wide)
 }
 
 // The scan of a list over all its transforms, in order: the sums are built anew for each.
@@ -37,7 +37,7 @@ pub fn scan_transforms<'a>(
     requires { ⌜ SoftReady (tables (now h) (now v)) (edges (now rows) (now cols) (now orientations) (now bits) (now confidences)) (likelihoods (now matches) (now mismatches)) (now transforms) (now sums) ⌝ }
     ensures { λ r. ⌜ SoftScanned (tables (now (h .entry)) (now (v .entry))) (edges (now (rows .entry)) (now (cols .entry)) (now (orientations .entry)) (now (bits .entry)) (now (confidences .entry))) (likelihoods (now (matches .entry)) (now (mismatches .entry))) (now (transforms .entry)) (length (now (transforms .entry))) (now (sums .entry)) (now (sums .exit)) r ⌝ }
 {
-    let mut scan = crate::scan::empty();
+    let mut scan = crate::record::empty();
     for i in 0..transforms.len() {
         let t = transforms[i];
         tables::sums::build_sums(

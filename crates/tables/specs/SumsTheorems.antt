@@ -12,6 +12,7 @@ use lib.ListN.{getD, length}
 use Rattle.laws.specs.Cleared.{cleared}
 use Rattle.laws.specs.Grid.{rowOf, colOf, origins}
 use Rattle.laws.specs.Part.{view}
+use Rattle.laws.specs.GridLaws.{h-below, v-below}
 use Rattle.laws.specs.Residues.{joint-long, joint-short}
 use Rattle.board.specs.Hits.{EdgeList, Board, size, look, horizontal, hit}
 use Rattle.board.specs.Sides.{is, onSide, periodOf}
@@ -22,7 +23,7 @@ use Rattle.tables.specs.Listed.{length-listed, getD-listed, view-listed}
 use Rattle.tables.specs.Cells.{width}
 use Rattle.tables.specs.Room.{cellsAt, used}
 use Rattle.tables.specs.RoomLaws.{cells-in, laid-again, laid-cleared, laid-used, laid-same}
-use Rattle.tables.specs.TablesTheorems.{hCell, vCell, h-below, v-below}
+use Rattle.tables.specs.TablesTheorems.{hCell, vCell}
 use Rattle.tables.specs.Sums.{Likelihoods, gain, score, sideScore, cellScore, sumsOf, LikelihoodsOk}
 use Rattle.tables.specs.SumsLaws.{score-by-class, gain-small}
 use Rattle.tables.specs.SumsRoom.{SumsReady, SumsBuilt}
@@ -65,8 +66,8 @@ pub cell-pair-sum : (B : Board) (E : EdgeList) (X : Likelihoods) (t : ℕ) → B
 cell-pair-sum B E X t ok r c =
     score-by-class B E X t (side-some B ok) r c
     ∙ sym (ap₂ _+ℤ_
-    (class-sum B E X t ok true (r % periodOf B true) (c % 3) (mod-lt c (lit< tt)) (h-below B E t ok r c))
-    (class-sum B E X t ok false (r % 3) (c % periodOf B false) (mod-lt c (side-some B ok false)) (v-below B E t ok r c)))
+    (class-sum B E X t ok true (r % periodOf B true) (c % 3) (mod-lt c (lit< tt)) (h-below (periodOf B true) (side-some B ok true) r c))
+    (class-sum B E X t ok false (r % 3) (c % periodOf B false) (mod-lt c (side-some B ok false)) (v-below (periodOf B false) (side-some B ok false) r c)))
 
 -- the same by an origin's key
 pub key-sum : (B : Board) (E : EdgeList) (X : Likelihoods) (t : ℕ) → BoardOk B → (k : ℕ) → let L = periodOf B true in let M = periodOf B false in

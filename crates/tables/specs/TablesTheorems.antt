@@ -11,6 +11,7 @@ use lib.ListN.{getD, length}
 use lib.Ieee.{Float, nan}
 use Rattle.laws.specs.Cleared.{cleared}
 use Rattle.laws.specs.Grid.{rowOf, colOf, origins}
+use Rattle.laws.specs.GridLaws.{h-below, v-below}
 use Rattle.laws.specs.Part.{view}
 use Rattle.laws.specs.Weights.{zeroF, Upto, weightlike}
 use Rattle.laws.specs.WeightLaws.{upto-weight, upto-weightlike}
@@ -58,12 +59,6 @@ module _ (B : Board) (E : EdgeList) (t : ℕ) (ok : BoardOk B) where
   unfolding cellCount
   class-count s a b h l = count-at B E t s (a * width B s + b) l ∙ ap₂ (sideHits B E t s) (digits-div a h) (digits-mod a h)
 
-  pub h-below : (r c : ℕ) → hCell B r c < 3 * periodOf B true
-  h-below r c = let a = mod-lt r (side-some B ok true) in let b : c % 3 < 3 = mod-lt c (lit< tt) in omega arith
-
-  pub v-below : (r c : ℕ) → vCell B r c < 3 * periodOf B false
-  v-below r c = digits-lt (mod-lt r (lit< tt)) (mod-lt c (side-some B ok false))
-
   -- and of any pair of cells, at the origin that it names
   pub pair-origin-hits : (h v : ℕ) → h < 3 * periodOf B true → v < 3 * periodOf B false → let L = periodOf B true in let M = periodOf B false in
       hits B E t (rowOf L M h v) (colOf M h v) ≡ getD (countsOf B E t true) h 0 + getD (countsOf B E t false) v 0
@@ -80,8 +75,8 @@ pub cell-pair-hits : (B : Board) (E : EdgeList) (t : ℕ) → BoardOk B → (r c
 cell-pair-hits B E t ok r c =
     hits-by-class B E t (side-some B ok) r c
     ∙ sym (ap₂ _+_
-    (class-count B E t ok true (r % periodOf B true) (c % 3) (mod-lt c (lit< tt)) (h-below B E t ok r c))
-    (class-count B E t ok false (r % 3) (c % periodOf B false) (mod-lt c (side-some B ok false)) (v-below B E t ok r c)))
+    (class-count B E t ok true (r % periodOf B true) (c % 3) (mod-lt c (lit< tt)) (h-below (periodOf B true) (side-some B ok true) r c))
+    (class-count B E t ok false (r % 3) (c % periodOf B false) (mod-lt c (side-some B ok false)) (v-below (periodOf B false) (side-some B ok false) r c)))
 
 -- the same by an origin's key
 pub key-hits : (B : Board) (E : EdgeList) (t : ℕ) → BoardOk B → (k : ℕ) → let L = periodOf B true in let M = periodOf B false in

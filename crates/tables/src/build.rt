@@ -5,7 +5,7 @@ ghost use Rattle.tables.specs.Side.{SideReady, SideBuilt};
 ghost use Rattle.tables.specs.Room.{TablesReady, TablesBuilt};
 
 // Adds all families of one side to its cells, by rising long residue. The cells were cleared, and the groups stand.
-pub fn build_side<'a>(
+fn build_side<'a>(
     h: &'a [u8],
     v: &'a [u8],
     orientation: u8,

@@ -7,7 +7,7 @@ ghost use Rattle.tables.specs.Credit.{CellCredited, RunReady, RunCredite
 use crate::terms::FamilyTerm;
 
 // Adds a term to the cell at place k.
-pub fn credit_cell(counts: &mut [u32], weights: &mut [f32], k: usize, term: FamilyTerm)
+fn credit_cell(counts: &mut [u32], weights: &mut [f32], k: usize, term: FamilyTerm)
     requires { ⌜ (k < length (now counts)) × (k < length (now weights)) × (getD (now counts) k 0 + term .count < 2 ^ 32) ⌝ }
     ensures { λ _. ⌜ CellCredited k term (now (counts .entry)) (now (counts .exit)) (now (weights .entry)) (now (weights .exit)) ⌝ }
 {
@@ -17,7 +17,7 @@ pub fn credit_cell(counts: &mut [u32], weights: &mut [f32], k: usize, term: Fami
 
 // Credits a run of n classes: class i reads pattern i of the part. The first class's cells stand at `at` and every `short` places, the next
 // class's `long` places further on.
-pub fn credit_run(
+fn credit_run(
     counts: &mut [u32],
     weights: &mut [f32],
     terms: [[FamilyTerm; 3]; 8],

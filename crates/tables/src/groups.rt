@@ -9,7 +9,7 @@ ghost use Rattle.tables.specs.Groups.{group, placeOf, Periods};
 ghost use Rattle.tables.specs.Fill.{FillReady, Filled};
 
 // The group of an edge by its long and short coordinate and its bit.
-pub fn group_of(long: i32, short: i32, bit: u8, period: u32) -> u32
+fn group_of(long: i32, short: i32, bit: u8, period: u32) -> u32
     requires { ⌜ (0 < period) × (period ≤ 500) × (bit < 2) ⌝ }
     ensures { λ r. ⌜ (r ≡ group period long short bit) × (r < period * 6) ⌝ }
 {

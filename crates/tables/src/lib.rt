@@ -1,7 +1,7 @@
 // The class tables of one transform, in room that the caller lends: edges are gathered into groups, each family of six groups is folded into
 // terms, and the terms are credited to the cells of both sides.
 pub mod build; // the tables of one transform: cleared, groups filled, both sides built
-pub mod credit; // a family's terms added to the cells of one side
-pub mod groups; // the group of an edge, and the groups of a list
+mod credit; // a family's terms added to the cells of one side
+mod groups; // the group of an edge, and the groups of a list
 pub mod sums; // the likelihood sums of one transform
-pub mod terms; // the 8 by 3 table of terms of a family
+mod terms; // the 8 by 3 table of terms of a family

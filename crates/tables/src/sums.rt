@@ -11,7 +11,7 @@ ghost use Rattle.tables.specs.SumParts.{placesZ, termZ, rowZ, Twelve, Te
 ghost use Rattle.tables.specs.SumsRoom.{SumsReady, SumsBuilt};
 
 // Adds x to place k.
-pub fn add_at(sums: &mut [i64], k: usize, x: i64)
+fn add_at(sums: &mut [i64], k: usize, x: i64)
     requires { ⌜ (k < length (now sums)) × (natAbs (getD (now sums) k (pos 0) +ℤ x) < 2 ^ 63) ⌝ }
     ensures { λ _. ⌜ now (sums .exit) ≡ set (now (sums .entry)) k (getD (now (sums .entry)) k (pos 0) +ℤ x) ⌝ }
 {
@@ -19,7 +19,7 @@ pub fn add_at(sums: &mut [i64], k: usize, x: i64)
 }
 
 // Adds each edge's quantised likelihoods to its groups: the match to the row of groups from `base` on, the mismatch to the next row.
-pub fn fill_sums(
+fn fill_sums(
     rows: &[i32],
     cols: &[i32],
     orientations: &[u8],
@@ -57,7 +57,7 @@ pub fn fill_sums(
 
 // What the six groups of a family add at short class s of a class that reads the pattern: the match sum of a group that agrees, the mismatch sum of
 // one that does not. The match groups stand from `from` on, the mismatch groups from `also` on.
-pub fn fold_sum(sums: &[i64], from: usize, also: usize, pattern: u8, s: u32) -> i64
+fn fold_sum(sums: &[i64], from: usize, also: usize, pattern: u8, s: u32) -> i64
     requires { ⌜ Twelve from also (now sums) ⌝ }
     requires { ⌜ s < 3 ⌝ }
     ensures { λ r. ⌜ r ≡ termZ 6 (placesZ from (now (sums .entry))) (placesZ also (now (sums .entry))) pattern s ⌝ }
@@ -76,7 +76,7 @@ pub fn fold_sum(sums: &[i64], from: usize, also: usize, pattern: u8, s: u32) -> 
 }
 
 // The row of one pattern: the term of each short class.
-pub fn fold_sum_row(sums: &[i64], from: usize, also: usize, pattern: u8) -> [i64; 3]
+fn fold_sum_row(sums: &[i64], from: usize, also: usize, pattern: u8) -> [i64; 3]
     requires { ⌜ Twelve from also (now sums) ⌝ }
     ensures { λ r. ⌜ r ≡ rowZ (placesZ from (now (sums .entry))) (placesZ also (now (sums .entry))) pattern ⌝ }
 {
@@ -87,7 +87,7 @@ pub fn fold_sum_row(sums: &[i64], from: usize, also: usize, pattern: u8) -> [i64
 }
 
 // The table of terms of a family, a row for each pattern.
-pub fn fold_sums(sums: &[i64], from: usize, also: usize) -> [[i64; 3]; 8]
+fn fold_sums(sums: &[i64], from: usize, also: usize) -> [[i64; 3]; 8]
     requires { ⌜ Twelve from also (now sums) ⌝ }
     ensures { λ r. ⌜ TermsZ (placesZ from (now (sums .entry))) (placesZ also (now (sums .entry))) r ⌝ }
 {
@@ -99,7 +99,7 @@ pub fn fold_sums(sums: &[i64], from: usize, also: usize) -> [[i64; 3]; 8]
 }
 
 // Credits a run of n classes, as `credit_run` does counts.
-pub fn credit_sum_run(
+fn credit_sum_run(
     sums: &mut [i64],
     terms: [[i64; 3]; 8],
     part: &[u8],
@@ -125,7 +125,7 @@ pub fn credit_sum_run(
 }
 
 // Folds one family of a side and credits it to the side's cells, in two runs, as `credit_family` does counts.
-pub fn credit_sum_family<'a>(
+fn credit_sum_family<'a>(
     h: &'a [u8],
     v: &'a [u8],
     orientation: u8,
@@ -149,7 +149,7 @@ pub fn credit_sum_family<'a>(
 }
 
 // Adds all families of one side to its cells. The cells were cleared, and the groups stand.
-pub fn build_sum_side<'a>(
+fn build_sum_side<'a>(
     h: &'a [u8],
     v: &'a [u8],
     orientation: u8,

@@ -10,7 +10,7 @@ pub struct FamilyTerm {
 }
 
 // What the six groups from `from` on add at short class s of a class that reads the pattern: non-empty groups, in order.
-pub fn fold_term(counts: &[u32], weights: &[f32], from: usize, pattern: u8, s: u32) -> FamilyTerm
+fn fold_term(counts: &[u32], weights: &[f32], from: usize, pattern: u8, s: u32) -> FamilyTerm
     requires { ⌜ Six from (now counts) (now weights) ⌝ }
     requires { ⌜ s < 3 ⌝ }
     ensures { λ r. ⌜ r ≡ term (placesN from (now (counts .entry))) (placesF from (now (weights .entry))) pattern s ⌝ }
@@ -32,7 +32,7 @@ pub fn fold_term(counts: &[u32], weights: &[f32], from: usize, pattern: u8, s: u
 }
 
 // The row of one pattern: the term of each short class.
-pub fn fold_row(counts: &[u32], weights: &[f32], from: usize, pattern: u8) -> [FamilyTerm; 3]
+fn fold_row(counts: &[u32], weights: &[f32], from: usize, pattern: u8) -> [FamilyTerm; 3]
     requires { ⌜ Six from (now counts) (now weights) ⌝ }
     ensures { λ r. ⌜ r ≡ row (placesN from (now (counts .entry))) (placesF from (now (weights .entry))) pattern ⌝ }
 {

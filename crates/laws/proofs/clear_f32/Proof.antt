@@ -21,8 +21,8 @@ mul-room c = omega (arith, c .before .loop .inv .len)
 slice-write-room : tie.Need-slice-write-room Inv-loop μ-loop
 slice-write-room c = omega (arith, c .before .loop .inv .len)
 
-add-i : tie.Need-add-i Inv-loop μ-loop
-add-i c = omega arith
+add-j : tie.Need-add-j Inv-loop μ-loop
+add-j c = omega arith
 
 loop-less : tie.Need-loop-less Inv-loop μ-loop
 loop-less c = omega arith
@@ -46,7 +46,7 @@ clear-f32-spec =
     loop-holds
     mul-room
     slice-write-room
-    add-i
+    add-j
     loop-less
     loop-again
     same-length

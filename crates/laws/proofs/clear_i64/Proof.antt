@@ -20,8 +20,8 @@ mul-room c = omega (arith, c .before .loop .inv .len)
 slice-set-of-room : tie.Need-slice-set-of-room Inv-loop μ-loop
 slice-set-of-room c = omega (arith, c .before .loop .inv .len)
 
-add-i : tie.Need-add-i Inv-loop μ-loop
-add-i c = omega arith
+add-k : tie.Need-add-k Inv-loop μ-loop
+add-k c = omega arith
 
 loop-less : tie.Need-loop-less Inv-loop μ-loop
 loop-less c = omega arith
@@ -44,7 +44,7 @@ clear-i64-spec =
     loop-holds
     mul-room
     slice-set-of-room
-    add-i
+    add-k
     loop-less
     loop-again
     same-length

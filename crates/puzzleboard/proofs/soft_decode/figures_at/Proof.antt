@@ -1,7 +1,8 @@
 use Prim.Native.Nat.{ℕ, _+_, _*_, _%_, _≤_, _<_}
 use native.Mathlib.Omega.{arith}
 use denote.Ref.{now}
-use Rattle.puzzleboard.specs.SoftLaws.{h-below, v-below, cells-few, figures-read}
+use Rattle.laws.specs.GridLaws.{h-below, v-below}
+use Rattle.puzzleboard.specs.SoftLaws.{positive, cells-few, figures-read}
 use borrow.Author.Needs.{needs}
 use Rattle.puzzleboard.proofs.soft_decode.figures_at.Statement.{statement}
 use Rattle.puzzleboard.proofs.soft_decode.figures_at.Tie as tie
@@ -9,10 +10,10 @@ use Rattle.puzzleboard.proofs.soft_decode.figures_at.Tie as tie
 -- the two cells are inside
 module _ (c : tie.Start) where
   h-cell : c .args .row % c .args .long * 3 + c .args .col % 3 < 3 * c .args .long
-  h-cell = h-below (c .args .long) (c .pre .long) (c .args .row) (c .args .col)
+  h-cell = h-below (c .args .long) (positive (c .pre .long)) (c .args .row) (c .args .col)
 
   v-cell : c .args .row % 3 * c .args .wide + c .args .col % c .args .wide < 3 * c .args .wide
-  v-cell = v-below (c .args .wide) (c .pre .wide) (c .args .row) (c .args .col)
+  v-cell = v-below (c .args .wide) (positive (c .pre .wide)) (c .args .row) (c .args .col)
 
 rem-a : tie.Need-rem-a
 rem-a c = search needs

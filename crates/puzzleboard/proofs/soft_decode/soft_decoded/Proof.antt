@@ -9,12 +9,12 @@ use borrow.Author.Needs.{needs}
 use Rattle.puzzleboard.proofs.soft_decode.soft_decoded.Statement.{statement}
 use Rattle.puzzleboard.proofs.soft_decode.soft_decoded.Tie as tie
 
-cast-t9 : tie.Need-cast-t9
-cast-t9 c = search needs
+cast-t8 : tie.Need-cast-t8
+cast-t8 c = search needs
 
-int-to-float-t10 : tie.Need-int-to-float-t10
+int-to-float-t9 : tie.Need-int-to-float-t9
 unfolding inFloat
-int-to-float-t10 c = le→leb (c .before .before .args .edges) (2 ^ 24) (omega (arith, c .before .before .pre .1))
+int-to-float-t9 c = le→leb (c .before .before .args .edges) (2 ^ 24) (omega (arith, c .before .before .pre .1))
 
 rate-requires : tie.Need-rate-requires
 rate-requires c κs = search needs
@@ -22,26 +22,26 @@ rate-requires c κs = search needs
 mean-requires : tie.Need-mean-requires
 mean-requires c κs = search needs
 
-int-to-float-t14 : tie.Need-int-to-float-t14
+int-to-float-t13 : tie.Need-int-to-float-t13
 unfolding inFloat
-int-to-float-t14 c = le→leb (c .before .before .before .before .before .before .args .next .hits) (2 ^ 24) (omega (arith, c .before .before .before .before .before .before .pre .2))
+int-to-float-t13 c = le→leb (c .before .before .before .before .before .before .args .next .hits) (2 ^ 24) (omega (arith, c .before .before .before .before .before .before .pre .2))
 
 returns : tie.Need-returns
 unfolding softDecodedOf
 returns c =
     let a = c .before .before .before .before .before .before .args in
     λ i. record {
-      square = record { transform = a .t; row = a .first .row; col = a .first .col };
+      square = record { transform = a .t; row = a .best .first .row; col = a .best .first .col };
       hits = a .figures .hits;
       edges = a .edges;
-      weighted = div binary32 (a .first .total) (ofInt binary32 (pos (a .edges)));
+      weighted = div binary32 (a .best .first .total) (ofInt binary32 (pos (a .edges)));
       rate = c .before .before .rate .ensures i;
       mean = c .before .mean .ensures i;
-      best = a .first .total;
+      best = a .best .first .total;
       next = ofInt binary32 (pos (a .next .hits));
-      margin = a .margin;
+      margin = a .best .margin;
       runner = record { transform = a .next .transform; row = a .next .row; col = a .next .col };
     }
 
 pub soft-decoded-spec : {M : Type 1} → statement M
-soft-decoded-spec = tie.close (tie.spec cast-t9 int-to-float-t10 rate-requires mean-requires int-to-float-t14 returns)
+soft-decoded-spec = tie.close (tie.spec cast-t8 int-to-float-t9 rate-requires mean-requires int-to-float-t13 returns)

@@ -67,16 +67,16 @@ same-length-2 : tie.Need-same-length-2
 same-length-2 c = search needs
 
 returns : tie.Need-returns
-returns c = let d = c .before .before .before .before .before .before .before .before .before .before .before .before in let s = st d in let l = c .before .before .before .before .before .before .logical2 .given in let v = c .before .before .soft-verdict in verdict-refused (L s) (P s) (ts s) (B s) (s .args .limit) (now (s .args .counts)) (now (s .args .weights)) (s .pre .0) (s .args .first) (s .args .margin) _ _ (d .select .result) (d .select .ensures) (l .0 .0) (l .0 .1 .0) (l .1) (v .result) (v .ensures) _ (c .before .if1 .taken) (c .refuse2 .ensures)
+returns c = let d = c .before .before .before .before .before .before .before .before .before .before .before .before in let s = st d in let l = c .before .before .before .before .before .before .logical2 .given in let v = c .before .before .soft-verdict in verdict-refused (L s) (P s) (ts s) (B s) (s .args .limit) (now (s .args .counts)) (now (s .args .weights)) (s .pre .0) (s .args .best) _ _ (d .select .result) (d .select .ensures) (l .0 .0) (l .0 .1 .0) (l .1) (v .result) (v .ensures) _ (c .before .if1 .taken) (c .refuse2 .ensures)
 
 figures-requires : tie.Need-figures-requires
-figures-requires c κs = let d = c .before .before .before .before .before .before .before .before .before .before .before .before .before in let s = st d in figures-ready (L s) (P s) (ts s) (B s) (s .args .limit) (now (s .args .counts)) (now (s .args .weights)) (s .pre .0) (s .args .first) (s .args .margin) _ _ (d .select .result) (d .select .ensures) (s .pre .1)
+figures-requires c κs = let d = c .before .before .before .before .before .before .before .before .before .before .before .before .before in let s = st d in figures-ready (L s) (P s) (ts s) (B s) (s .args .limit) (now (s .args .counts)) (now (s .args .weights)) (s .pre .0) (s .args .best) _ _ (d .select .result) (d .select .ensures) (s .pre .1)
 
 cast-soft-decoded : tie.Need-cast-soft-decoded
 cast-soft-decoded c = let d = c .before .before .before .before .before .before .before .before .before .before .before .before .before .before .before .before .before .before in let s = st d in omega (arith, s .pre .0 .physical .few)
 
 soft-decoded-requires : tie.Need-soft-decoded-requires
-soft-decoded-requires c κs = let d = c .before .before .before .before .before .before .before .before .before .before .before .before .before .before .before .before .before .before in let s = st d in let l = c .before .before .before .before .before .before .before .before .before .before .before .before .logical2 .given in let v = c .before .before .before .before .before .before .before .before .soft-verdict in let b = winner (c .before .before .before .before .before .before .before .before .before .before .before .before) .2 in (own-few (L s) (P s) (ts s) (B s) (s .args .limit) (now (s .args .counts)) (now (s .args .weights)) (s .pre .0) (s .args .first) (s .args .margin) _ _ (d .select .result) (d .select .ensures) (l .0 .0) (l .0 .1 .0) (l .1) (v .result) (v .ensures) _ _ _ (c .before .before .before .before .figures .ensures), s .pre .0 .physical .few, omega (arith, s .pre .0 .logical .few))
+soft-decoded-requires c κs = let d = c .before .before .before .before .before .before .before .before .before .before .before .before .before .before .before .before .before .before in let s = st d in let l = c .before .before .before .before .before .before .before .before .before .before .before .before .logical2 .given in let v = c .before .before .before .before .before .before .before .before .soft-verdict in let b = winner (c .before .before .before .before .before .before .before .before .before .before .before .before) .2 in (own-few (L s) (P s) (ts s) (B s) (s .args .limit) (now (s .args .counts)) (now (s .args .weights)) (s .pre .0) (s .args .best) _ _ (d .select .result) (d .select .ensures) (l .0 .0) (l .0 .1 .0) (l .1) (v .result) (v .ensures) _ _ _ (c .before .before .before .before .figures .ensures), s .pre .0 .physical .few, omega (arith, s .pre .0 .logical .few))
 
 same-length-3 : tie.Need-same-length-3
 same-length-3 c = search needs
@@ -85,10 +85,10 @@ same-length-4 : tie.Need-same-length-4
 same-length-4 c = search needs
 
 returns-2 : tie.Need-returns-2
-returns-2 c = let d = c .before .before .before .before .before .before .before .before in let s = st d in let l = c .before .before .logical .given in logical-refused (L s) (P s) (ts s) (B s) (s .args .limit) (now (s .args .counts)) (now (s .args .weights)) (s .pre .0) (s .args .first) (s .args .margin) _ _ (d .select .result) (d .select .ensures) (l .0 .0) _ (l .1) (c .refuse .ensures)
+returns-2 c = let d = c .before .before .before .before .before .before .before .before in let s = st d in let l = c .before .before .logical .given in logical-refused (L s) (P s) (ts s) (B s) (s .args .limit) (now (s .args .counts)) (now (s .args .weights)) (s .pre .0) (s .args .best) _ _ (d .select .result) (d .select .ensures) (l .0 .0) _ (l .1) (c .refuse .ensures)
 
 returns-3 : tie.Need-returns-3
-returns-3 c = let d = c .before .before .before .before .before .before .before .before .before .before .before .before .before .before .before .before .before .before .before in let s = st d in let l = c .before .before .before .before .before .before .before .before .before .before .before .before .before .logical2 .given in let v = c .before .before .before .before .before .before .before .before .before .soft-verdict in verdict-found (L s) (P s) (ts s) (B s) (s .args .limit) (now (s .args .counts)) (now (s .args .weights)) (s .pre .0) (s .args .first) (s .args .margin) _ _ (d .select .result) (d .select .ensures) (l .0 .0) (l .0 .1 .0) (l .1) (v .result) (v .ensures) _ _ _ (c .before .before .before .before .before .figures .ensures) _ (c .before .before .before .before .before .before .before .before .if1 .left) (c .soft-decoded .ensures)
+returns-3 c = let d = c .before .before .before .before .before .before .before .before .before .before .before .before .before .before .before .before .before .before .before in let s = st d in let l = c .before .before .before .before .before .before .before .before .before .before .before .before .before .logical2 .given in let v = c .before .before .before .before .before .before .before .before .before .soft-verdict in verdict-found (L s) (P s) (ts s) (B s) (s .args .limit) (now (s .args .counts)) (now (s .args .weights)) (s .pre .0) (s .args .best) _ _ (d .select .result) (d .select .ensures) (l .0 .0) (l .0 .1 .0) (l .1) (v .result) (v .ensures) _ _ _ (c .before .before .before .before .before .figures .ensures) _ (c .before .before .before .before .before .before .before .before .if1 .left) (c .soft-decoded .ensures)
 
 same-length-5 : tie.Need-same-length-5
 same-length-5 c = returns-3 c .counts .len

@@ -9,6 +9,7 @@ pub mod ScanLaws
 pub mod Direct
 pub mod DirectLaws
 pub mod Transform
+pub mod View
 pub mod TransformLaws
 pub mod KeptLaws
 pub mod RateLaws

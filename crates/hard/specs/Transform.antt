@@ -5,7 +5,7 @@ use lib.Dec.{ltb}
 use lib.ListN.{length}
 use lib.Ieee.{Float, add, binary32}
 use Rattle.laws.specs.Grid.{Grid, origins}
-use Rattle.hard.specs.CellTables.{CellTables}
+use Rattle.hard.specs.CellTables.{Period, CellTables, TablesOk}
 use Rattle.hard.specs.Lex.{optimal, lexOf}
 use Rattle.hard.specs.RowMajor.{rowMajor}
 use Rattle.hard.specs.Scan.{overLimit, replaced, emptyScan, pushed}
@@ -108,3 +108,7 @@ module _ (L M edges : ℕ) (conf limit : Float) where
   unfolding foldTransform
   selected ts tab zero = emptyScan
   selected ts tab (suc p) = foldTransform (ts p) (tab p) (selected ts tab p)
+
+-- what folding a transform asks: tables of a list over two periods, and a place left in the scan
+abbrev pub FoldReady : ℕ → ℕ → ℕ → CellTables → HardScan → Type 0
+FoldReady L M edges X scan = (Period L × Period M × TablesOk L M edges X) × (scan .count < 8)

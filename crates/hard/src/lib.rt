@@ -7,3 +7,4 @@ mod record; // the steps of the scan record: a candidate offered, a transform ad
 pub mod scan; // what the scan record holds: summaries, the kept candidate, the runner-up and the choice; a candidate's rate and mean
 pub mod select; // the selection on one list: tables built and folded for each transform
 mod transform; // one transform's tables folded into the scan
+mod view; // the four tables of a transform as one view

@@ -31,10 +31,10 @@ pub fn total_confidence(confidences: &[f32]) -> f32
 }
 
 // One transform's tables, where they were built in the room, folded into the scan.
-fn fold_room(
+fn fold_room<'a>(
     scan: HardScan,
-    counts: &[u32],
-    weights: &[f32],
+    counts: &'a [u32],
+    weights: &'a [f32],
     long: usize,
     wide: usize,
     transform: u8,
@@ -48,7 +48,7 @@ fn fold_room(
 {
     let a = 3 * long;
     let e = a + 3 * wide;
-    crate::transform::fold_transform(
+    crate::view::fold_tables(
         scan,
         &counts[0..a],
         &weights[0..a],

@@ -2,7 +2,7 @@
 ghost use mathlib.Core.Path.{_≡_};
 ghost use Prim.Native.Nat.{_+_, _≤_, _<_};
 ghost use Rattle.hard.specs.CellTables.{Period, TablesOk, cells};
-ghost use Rattle.hard.specs.Transform.{BestOk, nextOrigin, summaryOf, offeredBy, foldTransform};
+ghost use Rattle.hard.specs.Transform.{BestOk, nextOrigin, summaryOf, offeredBy, foldTransform, FoldReady};
 use crate::direct::scan_direct;
 use crate::lex::LexMax;
 use crate::lex::lex_max;
@@ -109,12 +109,12 @@ fn offer_transform(
 }
 
 // The transform at the next list position: its summary is stored, over the limit or not, and its candidate is offered.
-pub fn fold_transform(
+pub fn fold_transform<'a>(
     scan: HardScan,
-    hc: &[u32],
-    hw: &[f32],
-    vc: &[u32],
-    vw: &[f32],
+    hc: &'a [u32],
+    hw: &'a [f32],
+    vc: &'a [u32],
+    vw: &'a [f32],
     long: usize,
     wide: usize,
     transform: u8,
@@ -122,8 +122,7 @@ pub fn fold_transform(
     conf: f32,
     limit: f32,
 ) -> HardScan
-    requires { ⌜ Period long × Period wide × TablesOk long wide edges (cells (now hc) (now hw) (now vc) (now vw)) ⌝ }
-    requires { ⌜ scan .count < 8 ⌝ }
+    requires { ⌜ FoldReady long wide edges (cells (now hc) (now hw) (now vc) (now vw)) scan ⌝ }
     ensures { λ r. ⌜ r ≡ foldTransform long wide edges conf limit transform (cells (now (hc .entry)) (now (hw .entry)) (now (vc .entry)) (now (vw .entry))) scan ⌝ }
 {
     let a = lex_max(hc, hw);

@@ -28,50 +28,50 @@ mul-e c = search needs
 add-e : tie.Need-add-e
 add-e c = search needs
 
-sub-fold-transform : tie.Need-sub-fold-transform
-sub-fold-transform c = search needs
+sub-fold-tables : tie.Need-sub-fold-tables
+sub-fold-tables c = search needs
 
-part-fold-transform-start : tie.Need-part-fold-transform-start
-part-fold-transform-start c = search needs
+part-fold-tables-start : tie.Need-part-fold-tables-start
+part-fold-tables-start c = search needs
 
-part-fold-transform-end : tie.Need-part-fold-transform-end
-part-fold-transform-end c = search needs
+part-fold-tables-end : tie.Need-part-fold-tables-end
+part-fold-tables-end c = search needs
 
-sub-fold-transform-2 : tie.Need-sub-fold-transform-2
-sub-fold-transform-2 c = search needs
+sub-fold-tables-2 : tie.Need-sub-fold-tables-2
+sub-fold-tables-2 c = search needs
 
-part-fold-transform-start-2 : tie.Need-part-fold-transform-start-2
-part-fold-transform-start-2 c = search needs
+part-fold-tables-start-2 : tie.Need-part-fold-tables-start-2
+part-fold-tables-start-2 c = search needs
 
-part-fold-transform-end-2 : tie.Need-part-fold-transform-end-2
-part-fold-transform-end-2 c = search needs
+part-fold-tables-end-2 : tie.Need-part-fold-tables-end-2
+part-fold-tables-end-2 c = search needs
 
-mul-fold-transform : tie.Need-mul-fold-transform
-mul-fold-transform c = search needs
+mul-fold-tables : tie.Need-mul-fold-tables
+mul-fold-tables c = search needs
 
-sub-fold-transform-3 : tie.Need-sub-fold-transform-3
-sub-fold-transform-3 c = search needs
+sub-fold-tables-3 : tie.Need-sub-fold-tables-3
+sub-fold-tables-3 c = search needs
 
-part-fold-transform-start-3 : tie.Need-part-fold-transform-start-3
-part-fold-transform-start-3 c = search needs
+part-fold-tables-start-3 : tie.Need-part-fold-tables-start-3
+part-fold-tables-start-3 c = search needs
 
-part-fold-transform-end-3 : tie.Need-part-fold-transform-end-3
-part-fold-transform-end-3 c = search needs
+part-fold-tables-end-3 : tie.Need-part-fold-tables-end-3
+part-fold-tables-end-3 c = search needs
 
-mul-fold-transform-2 : tie.Need-mul-fold-transform-2
-mul-fold-transform-2 c = search needs
+mul-fold-tables-2 : tie.Need-mul-fold-tables-2
+mul-fold-tables-2 c = search needs
 
-sub-fold-transform-4 : tie.Need-sub-fold-transform-4
-sub-fold-transform-4 c = search needs
+sub-fold-tables-4 : tie.Need-sub-fold-tables-4
+sub-fold-tables-4 c = search needs
 
-part-fold-transform-start-4 : tie.Need-part-fold-transform-start-4
-part-fold-transform-start-4 c = search needs
+part-fold-tables-start-4 : tie.Need-part-fold-tables-start-4
+part-fold-tables-start-4 c = search needs
 
-part-fold-transform-end-4 : tie.Need-part-fold-transform-end-4
-part-fold-transform-end-4 c = search needs
+part-fold-tables-end-4 : tie.Need-part-fold-tables-end-4
+part-fold-tables-end-4 c = search needs
 
-fold-transform-requires : tie.Need-fold-transform-requires
-fold-transform-requires c κs =
+fold-tables-requires : tie.Need-fold-tables-requires
+fold-tables-requires c κs =
     let s = c .before .before .before .before .before .before in
     let p = s .pre .0 in
     let a = s .args in
@@ -81,7 +81,7 @@ returns : tie.Need-returns
 returns c =
     let s = c .before .before .before .before .before .before .before in
     let a = s .args in
-    c .fold-transform .ensures ∙ ap (λ (X : CellTables). foldTransform (a .long) (a .wide) (a .edges) (a .conf) (a .limit) (a .transform) X (a .scan)) (parts (a .long) (a .wide) (a .counts .now) (a .weights .now))
+    c .fold-tables .ensures ∙ ap (λ (X : CellTables). foldTransform (a .long) (a .wide) (a .edges) (a .conf) (a .limit) (a .transform) X (a .scan)) (parts (a .long) (a .wide) (a .counts .now) (a .weights .now))
 
 pub fold-room-spec : {M : Type 1} → statement M
 fold-room-spec =
@@ -90,19 +90,19 @@ fold-room-spec =
     mul-a
     mul-e
     add-e
-    sub-fold-transform
-    part-fold-transform-start
-    part-fold-transform-end
-    sub-fold-transform-2
-    part-fold-transform-start-2
-    part-fold-transform-end-2
-    mul-fold-transform
-    sub-fold-transform-3
-    part-fold-transform-start-3
-    part-fold-transform-end-3
-    mul-fold-transform-2
-    sub-fold-transform-4
-    part-fold-transform-start-4
-    part-fold-transform-end-4
-    fold-transform-requires
+    sub-fold-tables
+    part-fold-tables-start
+    part-fold-tables-end
+    sub-fold-tables-2
+    part-fold-tables-start-2
+    part-fold-tables-end-2
+    mul-fold-tables
+    sub-fold-tables-3
+    part-fold-tables-start-3
+    part-fold-tables-end-3
+    mul-fold-tables-2
+    sub-fold-tables-4
+    part-fold-tables-start-4
+    part-fold-tables-end-4
+    fold-tables-requires
     returns)

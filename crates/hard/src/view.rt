@@ -1,0 +1,84 @@
+// The four tables of one transform as one view, which the scan reads through. The core below stays on plain slices.
+ghost use mathlib.Core.Path.{_≡_};
+ghost use Rattle.hard.specs.CellTables.{cells};
+ghost use Rattle.hard.specs.Transform.{foldTransform, FoldReady};
+ghost use Rattle.hard.specs.View.{viewOf, viewed};
+use crate::scan::HardScan;
+
+// Counts and weights by horizontal cell, counts and weights by vertical cell.
+pub struct TransformTables<'a> {
+    pub h_count: &'a [u32],
+    pub h_weight: &'a [f32],
+    pub v_count: &'a [u32],
+    pub v_weight: &'a [f32],
+}
+
+// The view of four tables.
+fn view_of<'a>(hc: &'a [u32], hw: &'a [f32], vc: &'a [u32], vw: &'a [f32]) -> TransformTables<'a>
+    ensures { λ r. ⌜ r ≡ viewOf (hc .entry) (hw .entry) (vc .entry) (vw .entry) ⌝ }
+{
+    TransformTables {
+        h_count: hc,
+        h_weight: hw,
+        v_count: vc,
+        v_weight: vw,
+    }
+}
+
+// The transform at the next list position, read through the view.
+fn fold_view<'a>(
+    scan: HardScan,
+    t: TransformTables<'a>,
+    long: usize,
+    wide: usize,
+    transform: u8,
+    edges: u32,
+    conf: f32,
+    limit: f32,
+) -> HardScan
+    requires { ⌜ FoldReady long wide edges (viewed t) scan ⌝ }
+    ensures { λ r. ⌜ r ≡ foldTransform long wide edges conf limit transform (viewed (t .entry)) scan ⌝ }
+{
+    crate::transform::fold_transform(
+        scan,
+        t.h_count,
+        t.h_weight,
+        t.v_count,
+        t.v_weight,
+        long,
+        wide,
+        transform,
+        edges,
+        conf,
+        limit,
+    )
+}
+
+// The same from four plain slices, so that callers need no view of their own.
+pub fn fold_tables<'a>(
+    scan: HardScan,
+    hc: &'a [u32],
+    hw: &'a [f32],
+    vc: &'a [u32],
+    vw: &'a [f32],
+    long: usize,
+    wide: usize,
+    transform: u8,
+    edges: u32,
+    conf: f32,
+    limit: f32,
+) -> HardScan
+    requires { ⌜ FoldReady long wide edges (cells (now hc) (now hw) (now vc) (now vw)) scan ⌝ }
+    ensures { λ r. ⌜ r ≡ foldTransform long wide edges conf limit transform (cells (now (hc .entry)) (now (hw .entry)) (now (vc .entry)) (now (vw .entry))) scan ⌝ }
+{
+    fold_view(
+        scan,
+        view_of(hc, hw, vc, vw),
+        long,
+        wide,
+        transform,
+        edges,
+        conf,
+        limit,
+    )
+}

@@ -17,7 +17,7 @@ use Rattle.tables.specs.Sums.{Likelihoods}
 use Rattle.checks.specs.declared.refusal.Refusal.{Refusal}
 use Rattle.checks.specs.Refusals.{hardRefusal, softRefusal, statsRefusal}
 use Rattle.checks.specs.Accepted.{HardAccepted, hard-accepted, SoftAccepted, soft-accepted}
-use Rattle.hard.specs.Select.{noConfidence}
+use Rattle.figures.specs.Figures.{noConfidence}
 use Rattle.soft.specs.Margin.{belowMargin}
 use Rattle.puzzleboard.specs.declared.answer.Decoded.{Decoded}
 use Rattle.puzzleboard.specs.declared.answer.Answer.{Answer}

@@ -7,7 +7,7 @@ use Rattle.laws.specs.Remainder.{emod}
 use Rattle.laws.specs.Residues.{joint, numer}
 use Rattle.board.specs.Transform.{lookupOf, mat, matrices}
 use Rattle.likelihood.specs.Likelihood.{quantised, dequantised}
-use Rattle.hard.specs.Gate.{passed}
+use Rattle.figures.specs.Gate.{passed}
 
 pub record NumbersToTry : Type 0 where
   -- "(va,ha)=(1,0) gives row 334; (2,166) gives 500"

@@ -3,7 +3,6 @@ pub mod Lex
 pub mod LexLaws
 pub mod RowMajor
 pub mod RowMajorLaws
-pub mod Gate
 pub mod Scan
 pub mod ScanLaws
 pub mod Direct

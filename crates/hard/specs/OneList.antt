@@ -5,7 +5,7 @@ use Prim.Native.Nat.{ℕ, _+_, _*_, _≤_, _<_}
 use lib.Ieee.{Float}
 use Rattle.laws.specs.Grid.{origins}
 use Rattle.hard.specs.CellTables.{CellTables}
-use Rattle.hard.specs.Gate.{passed}
+use Rattle.figures.specs.Gate.{passed}
 use Rattle.hard.specs.Scan.{chosen}
 use Rattle.hard.specs.Direct.{pairHits}
 use Rattle.hard.specs.Transform.{selected}

@@ -7,7 +7,7 @@ use lib.Ieee.{Float}
 use Rattle.laws.specs.Tests.{clash, not-so}
 use Rattle.laws.specs.Grid.{origins}
 use Rattle.hard.specs.CellTables.{CellTables, Period, TablesOk}
-use Rattle.hard.specs.Gate.{passed}
+use Rattle.figures.specs.Gate.{passed}
 use Rattle.hard.specs.Scan.{overLimit, runnerUp}
 use Rattle.hard.specs.Transform.{bestOrigin, bestAt, selected}
 use Rattle.hard.specs.TransformLaws.{best-under}

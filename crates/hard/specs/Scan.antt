@@ -4,9 +4,8 @@ use mathlib.Core.List.{List}
 use Prim.Native.Nat.{ℕ, zero, suc, _+_, _-_, _≤_, _<_}
 use lib.Dec.{ltb, eqb}
 use lib.ListN.{getD, set, replicate}
-use lib.IntN.{pos}
-use lib.Ieee.{Float, lt, div, ofInt, binary32}
-use Rattle.laws.specs.Weights.{zeroF}
+use lib.Ieee.{Float, lt}
+use Rattle.figures.specs.Figures.{rateOf}
 use Rattle.hard.specs.declared.scan.TransformSummary.{TransformSummary}
 use Rattle.hard.specs.declared.scan.HardScan.{HardScan}
 use Rattle.hard.specs.declared.scan.RunnerUp.{RunnerUp}
@@ -15,14 +14,6 @@ use Rattle.hard.specs.declared.scan.Kept.{Kept}
 use Rattle.hard.specs.declared.scan.Kept.the-variants.{Nobody, One}
 use Rattle.hard.specs.declared.scan.Choice.{Choice}
 use Rattle.hard.specs.declared.scan.Choice.the-variants.{Nothing, Chosen}
-
--- "Rate = misses / edges, one f32 division"
-unfoldable pub rateOf : ℕ → ℕ → Float
-rateOf edges hits = div binary32 (ofInt binary32 (pos (edges - hits))) (ofInt binary32 (pos edges))
-
--- "Mean confidence = weight / hits, 0 for no hits"
-unfoldable pub meanOf : ℕ → Float → Float
-meanOf hits weight = cond (eqb hits 0) zeroF (div binary32 weight (ofInt binary32 (pos hits)))
 
 -- "rate over the limit": so many hits are not within it
 unfoldable pub overLimit : ℕ → Float → ℕ → Bool

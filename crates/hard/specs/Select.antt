@@ -8,6 +8,7 @@ use lib.Ieee.{Float, nan, binary32, add, eq}
 use Rattle.laws.specs.Fold.{fold, all}
 use Rattle.laws.specs.Weights.{zeroF}
 use Rattle.board.specs.Hits.{EdgeList, Board, size}
+use Rattle.figures.specs.Figures.{totalConfidence, noConfidence}
 use Rattle.board.specs.Sides.{periodOf}
 use Rattle.board.specs.Domain.{ListOk, BoardOk}
 use Rattle.tables.specs.Cells.{countsOf, weightsOf}
@@ -20,18 +21,6 @@ use Rattle.hard.specs.declared.scan.Choice.{Choice}
 use Rattle.hard.specs.declared.scan.Choice.the-variants.{Nothing, Chosen}
 use Rattle.hard.specs.declared.select.Selection.{Selection}
 use Rattle.hard.specs.declared.select.Selection.the-variants.{Refused, Selected}
-
--- the first n confidences added, in list order from 0
-unfoldable pub confidenceTo : List Float → ℕ → Float
-confidenceTo ws n = fold (add binary32) zeroF n all (λ i. getD ws i nan)
-
--- "Total confidence is the list-order sum."
-abbrev pub totalConfidence : EdgeList → Float
-totalConfidence E = confidenceTo (E .confidences) (length (E .confidences))
-
--- "total confidence is 0"
-unfoldable pub noConfidence : EdgeList → Bool
-noConfidence E = eq (totalConfidence E) zeroF
 
 -- the four tables of the transform t
 unfoldable pub tablesOf : Board → EdgeList → ℕ → CellTables

@@ -27,16 +27,8 @@ use Rattle.hard.specs.declared.scan.Choice.{Choice}
 use Rattle.hard.specs.KeptLaws.{selected-sound}
 use Rattle.hard.specs.declared.select.Selection.{Selection}
 use Rattle.hard.specs.declared.select.Selection.the-variants.{Refused, Selected}
-use Rattle.hard.specs.Select.{confidenceTo, totalConfidence, noConfidence, tablesOf, scanOf, ofChoice, orRefused, selection, SelectReady, Rooms, builtTo, SelectDone}
-
--- ---- confidences
-pub confidence-none : (ws : List Float) → zeroF ≡ confidenceTo ws 0
-unfolding confidenceTo
-confidence-none ws = sym (fold-zero (add binary32) zeroF all (λ i. getD ws i nan))
-
-pub confidence-more : (ws : List Float) (i : ℕ) (x : Float) → x ≡ confidenceTo ws i → add binary32 x (getD ws i nan) ≡ confidenceTo ws (i + 1)
-unfolding confidenceTo
-confidence-more ws i x e = ap (λ (y : Float). add binary32 y (getD ws i nan)) e ∙ sym (fold-hit (add binary32) zeroF all (λ k. getD ws k nan) i refl)
+use Rattle.figures.specs.Figures.{totalConfidence, noConfidence}
+use Rattle.hard.specs.Select.{tablesOf, scanOf, ofChoice, orRefused, selection, SelectReady, Rooms, builtTo, SelectDone}
 
 -- ---- the four tables in a room: horizontal cells, then vertical cells
 unfoldable pub roomCells : ℕ → ℕ → List ℕ → List Float → CellTables

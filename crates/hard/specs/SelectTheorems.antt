@@ -13,7 +13,7 @@ use Rattle.board.specs.Domain.{ListOk, BoardOk}
 use Rattle.tables.specs.Cells.{countsOf}
 use Rattle.tables.specs.TablesTheorems.{key-hits}
 use Rattle.hard.specs.CellTables.{CellTables, TablesOk}
-use Rattle.hard.specs.Gate.{passed}
+use Rattle.figures.specs.Gate.{passed}
 use Rattle.hard.specs.Scan.{chosen}
 use Rattle.hard.specs.Placings.{Outcome, refused-13, found, Right, Sole, MostOther}
 use Rattle.hard.specs.PlacingsLaws.{right-ext, sole-only}
@@ -25,7 +25,8 @@ use Rattle.hard.specs.declared.scan.Choice.{Choice}
 use Rattle.hard.specs.declared.scan.Choice.the-variants.{Nothing, Chosen}
 use Rattle.hard.specs.declared.select.Selection.{Selection}
 use Rattle.hard.specs.declared.select.Selection.the-variants.{Refused, Selected}
-use Rattle.hard.specs.Select.{totalConfidence, noConfidence, tablesOf, scanOf, ofChoice, orRefused, selection}
+use Rattle.figures.specs.Figures.{totalConfidence, noConfidence}
+use Rattle.hard.specs.Select.{tablesOf, scanOf, ofChoice, orRefused, selection}
 use Rattle.hard.specs.SelectLaws.{period-h, period-v, tables-ok}
 
 -- the hits of the origin with the key k under the transform at list position p, counted edge by edge: k stands for row k / 3 M and column k mod 3 M

@@ -14,7 +14,7 @@ use Rattle.laws.specs.Tests.{clash, cases, compared, decided, not-so}
 use Rattle.laws.specs.Grid.{origins}
 use Rattle.hard.specs.CellTables.{CellTables, Period, TablesOk}
 use Rattle.hard.specs.Lex.{lexOf}
-use Rattle.hard.specs.Gate.{passed}
+use Rattle.figures.specs.Gate.{passed}
 use Rattle.hard.specs.Scan.{overLimit, noSummary, ofBest, ofNext, runnerUp, chosen, chosenBy}
 use Rattle.hard.specs.ScanLaws.{runner-own, runner-other, runner-is}
 use Rattle.hard.specs.Direct.{originCandidate}

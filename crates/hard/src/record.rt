@@ -9,14 +9,13 @@ use crate::scan::HardScan;
 use crate::scan::Kept;
 use crate::scan::RunnerUp;
 use crate::scan::TransformSummary;
-use crate::scan::rate;
 
 // Whether so many hits are too few for the limit.
 pub fn over_limit(edges: u32, hits: u32, limit: f32) -> bool
     requires { ⌜ (hits ≤ edges) × (edges ≤ 8192) ⌝ }
     ensures { λ r. ⌜ r ≡ overLimit edges limit hits ⌝ }
 {
-    rate(edges, hits) > limit
+    figures::rate(edges, hits) > limit
 }
 
 // Whether a candidate with these hits and this score replaces the kept one.

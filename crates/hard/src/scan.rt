@@ -1,7 +1,4 @@
-// What a selection keeps by value: a summary of each listed transform, the candidate, the runner-up; and a candidate's rate and mean.
-ghost use mathlib.Core.Path.{_≡_};
-ghost use Prim.Native.Nat.{_≤_, _<_};
-ghost use Rattle.hard.specs.Scan.{rateOf, meanOf};
+// What a selection keeps by value: a summary of each listed transform, the candidate and the runner-up.
 
 // One transform: its most hits and best origin, the hits and origin of the runner-up inside it, and its number.
 pub struct TransformSummary {
@@ -49,24 +46,4 @@ pub struct RunnerUp {
 pub enum Choice {
     Nothing,
     Chosen { winner: Candidate, next: RunnerUp },
-}
-
-// The share of misses, by one division.
-pub fn rate(edges: u32, hits: u32) -> f32
-    requires { ⌜ (hits ≤ edges) × (edges ≤ 8192) ⌝ }
-    ensures { λ r. ⌜ r ≡ rateOf edges hits ⌝ }
-{
-    let misses = edges - hits;
-    misses as f32 / edges as f32
-}
-
-// The sum of the hits' confidences over the hits; 0 for no hits.
-pub fn mean(hits: u32, weight: f32) -> f32
-    requires { ⌜ hits ≤ 8192 ⌝ }
-    ensures { λ r. ⌜ r ≡ meanOf hits weight ⌝ }
-{
-    if hits == 0 {
-        return 0.0;
-    }
-    weight / hits as f32
 }

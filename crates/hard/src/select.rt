@@ -6,7 +6,7 @@ ghost use lib.Ieee.{Float};
 ghost use Rattle.board.specs.Hits.{edges, tables};
 ghost use Rattle.hard.specs.CellTables.{Period, TablesOk, cells};
 ghost use Rattle.hard.specs.Transform.{foldTransform};
-ghost use Rattle.hard.specs.Select.{confidenceTo, SelectReady, SelectDone};
+ghost use Rattle.hard.specs.Select.{SelectReady, SelectDone};
 ghost use Rattle.hard.specs.SelectLaws.{roomCells, RoomReady, ScanDone};
 use crate::scan::Candidate;
 use crate::scan::Choice;
@@ -17,17 +17,6 @@ use crate::scan::RunnerUp;
 pub enum Selection {
     Refused(u32),
     Selected(Candidate, RunnerUp),
-}
-
-// The confidences of a list added, in list order from 0.
-pub fn total_confidence(confidences: &[f32]) -> f32
-    ensures { λ r. ⌜ r ≡ confidenceTo (now (confidences .entry)) (length (now (confidences .entry))) ⌝ }
-{
-    let mut total: f32 = 0.0;
-    for i in 0..confidences.len() {
-        total += confidences[i];
-    }
-    total
 }
 
 // One transform's tables, where they were built in the room, folded into the scan.
@@ -128,7 +117,7 @@ pub fn select<'a>(
     requires { ⌜ SelectReady (tables (now h) (now v)) (edges (now rows) (now cols) (now orientations) (now bits) (now confidences)) (now transforms) (now counts) (now weights) ⌝ }
     ensures { λ r. ⌜ SelectDone (tables (now (h .entry)) (now (v .entry))) (edges (now (rows .entry)) (now (cols .entry)) (now (orientations .entry)) (now (bits .entry)) (now (confidences .entry))) (now (transforms .entry)) limit (now (counts .entry)) (now (counts .exit)) (now (weights .entry)) (now (weights .exit)) r ⌝ }
 {
-    let conf = total_confidence(confidences);
+    let conf = figures::total_confidence(confidences);
     if conf == 0.0 {
         return Selection::Refused(10);
     }

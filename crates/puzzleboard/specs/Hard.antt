@@ -16,8 +16,8 @@ use Rattle.hard.specs.declared.scan.Candidate.{Candidate}
 use Rattle.hard.specs.declared.scan.RunnerUp.{RunnerUp}
 use Rattle.hard.specs.declared.select.Selection.{Selection}
 use Rattle.hard.specs.declared.select.Selection.the-variants as sel
-use Rattle.hard.specs.Scan.{rateOf, meanOf}
-use Rattle.hard.specs.Gate.{passed}
+use Rattle.figures.specs.Figures.{rateOf, meanOf}
+use Rattle.figures.specs.Gate.{passed}
 use Rattle.hard.specs.Select.{selection}
 use Rattle.puzzleboard.specs.declared.answer.Decoded.{Decoded}
 use Rattle.puzzleboard.specs.declared.answer.Answer.{Answer}

@@ -15,8 +15,9 @@ use Rattle.laws.specs.Weights.{oneF}
 use Rattle.board.specs.Hits.{EdgeList, Board, Placing, size, hitsAt}
 use Rattle.board.specs.Sides.{periodOf}
 use Rattle.checks.specs.Accepted.{HardAccepted}
-use Rattle.hard.specs.Gate.{passed}
-use Rattle.hard.specs.Select.{noConfidence, selection}
+use Rattle.figures.specs.Gate.{passed}
+use Rattle.figures.specs.Figures.{noConfidence}
+use Rattle.hard.specs.Select.{selection}
 use Rattle.hard.specs.SelectTheorems.{sole-selected}
 use Rattle.hard.specs.declared.scan.Candidate.{Candidate}
 use Rattle.hard.specs.declared.scan.RunnerUp.{RunnerUp}

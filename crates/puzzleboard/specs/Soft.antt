@@ -19,9 +19,10 @@ use Rattle.hard.specs.declared.scan.RunnerUp.{RunnerUp}
 use Rattle.hard.specs.declared.select.Selection.{Selection}
 use Rattle.hard.specs.declared.select.Selection.the-variants as sel
 use Rattle.hard.specs.CellTables.{CellTables, cAt, wAt}
-use Rattle.hard.specs.Scan.{rateOf, meanOf}
-use Rattle.hard.specs.Gate.{passed}
-use Rattle.hard.specs.Select.{noConfidence, tablesOf, selection}
+use Rattle.figures.specs.Figures.{rateOf, meanOf}
+use Rattle.figures.specs.Gate.{passed}
+use Rattle.figures.specs.Figures.{noConfidence}
+use Rattle.hard.specs.Select.{tablesOf, selection}
 use Rattle.soft.specs.declared.scan.SoftCandidate.{SoftCandidate}
 use Rattle.soft.specs.declared.scan.SoftChoice.{SoftChoice}
 use Rattle.soft.specs.declared.scan.SoftChoice.the-variants.{Nothing, Chosen}

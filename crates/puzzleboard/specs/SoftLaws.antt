@@ -29,7 +29,8 @@ use Rattle.hard.specs.declared.scan.RunnerUp.{RunnerUp}
 use Rattle.hard.specs.declared.select.Selection.{Selection}
 use Rattle.hard.specs.declared.select.Selection.the-variants as sel
 use Rattle.hard.specs.CellTables.{Period, CellTables, cells, TablesOk, cAt, wAt}
-use Rattle.hard.specs.Select.{totalConfidence, noConfidence, selection, SelectDone}
+use Rattle.figures.specs.Figures.{totalConfidence, noConfidence}
+use Rattle.hard.specs.Select.{selection, SelectDone}
 use Rattle.hard.specs.SelectLaws.{RoomReady, roomCells, built-cells, tables-ok, period-h, period-v}
 use Rattle.soft.specs.declared.scan.SoftCandidate.{SoftCandidate}
 use Rattle.soft.specs.declared.scan.SoftScan.{SoftScan}

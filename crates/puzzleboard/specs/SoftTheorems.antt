@@ -20,9 +20,10 @@ use Rattle.likelihood.specs.Likelihood.{dequantised}
 use Rattle.tables.specs.Sums.{Likelihoods, score}
 use Rattle.tables.specs.Cells.{countsOf}
 use Rattle.tables.specs.TablesTheorems.{cell-pair-hits}
-use Rattle.hard.specs.Gate.{passed}
+use Rattle.figures.specs.Gate.{passed}
 use Rattle.hard.specs.OneList.{keyAt}
-use Rattle.hard.specs.Select.{noConfidence, tablesOf, selection}
+use Rattle.figures.specs.Figures.{noConfidence}
+use Rattle.hard.specs.Select.{tablesOf, selection}
 use Rattle.hard.specs.SelectLaws.{period-h, period-v}
 use Rattle.hard.specs.SelectTheorems.{sole-selected}
 use Rattle.hard.specs.declared.scan.Candidate.{Candidate}

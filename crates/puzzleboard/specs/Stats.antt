@@ -8,7 +8,7 @@ use lib.Ieee.{Float, nan, binary32, add}
 use Rattle.laws.specs.Fold.{fold, put}
 use Rattle.laws.specs.Weights.{zeroF, oneF}
 use Rattle.board.specs.Hits.{EdgeList, Board, size, hit, hits}
-use Rattle.hard.specs.Scan.{rateOf, meanOf}
+use Rattle.figures.specs.Figures.{rateOf, meanOf}
 use Rattle.checks.specs.declared.refusal.Refusal.{Refusal}
 use Rattle.puzzleboard.specs.declared.answer.MatchStats.{MatchStats}
 use Rattle.puzzleboard.specs.declared.answer.StatsAnswer.{StatsAnswer}

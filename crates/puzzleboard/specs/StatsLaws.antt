@@ -14,7 +14,7 @@ use Rattle.laws.specs.Weights.{zeroF}
 use Rattle.board.specs.Transform.{lookupOf}
 use Rattle.board.specs.Hits.{EdgeList, Board, size, seen, look, predicted, hit, hits}
 use Rattle.board.specs.Domain.{EdgeOk}
-use Rattle.hard.specs.Scan.{meanOf}
+use Rattle.figures.specs.Figures.{meanOf}
 use Rattle.checks.specs.declared.refusal.Refusal.{Refusal}
 use Rattle.puzzleboard.specs.declared.answer.MatchStats.{MatchStats}
 use Rattle.puzzleboard.specs.declared.answer.StatsAnswer.the-variants.{Counted, Refused}

@@ -8,10 +8,11 @@ use lib.Ieee.{Float}
 use Rattle.board.specs.Hits.{EdgeList, Board, Placing, size, hitsAt}
 use Rattle.board.specs.Sides.{periodOf}
 use Rattle.board.specs.Domain.{ListOk, BoardOk}
-use Rattle.hard.specs.Gate.{passed}
+use Rattle.figures.specs.Gate.{passed}
 use Rattle.hard.specs.Placings.{Sole, MostOther}
 use Rattle.hard.specs.OneList.{keyAt, originNumber, InRange}
-use Rattle.hard.specs.Select.{totalConfidence, tablesOf, selection}
+use Rattle.figures.specs.Figures.{totalConfidence}
+use Rattle.hard.specs.Select.{tablesOf, selection}
 use Rattle.hard.specs.SelectTheorems.{hitsAtKey, selected-in-range, selected-right, selected-next}
 use Rattle.hard.specs.declared.scan.Candidate.{Candidate}
 use Rattle.hard.specs.declared.scan.RunnerUp.{RunnerUp}

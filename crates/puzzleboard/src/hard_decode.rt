@@ -45,11 +45,11 @@ fn decoded(t: u8, w: Candidate, next: RunnerUp, edges: u32) -> Decoded
         hits: w.hits,
         edges,
         weighted: w.score,
-        rate: hard::scan::rate(edges, w.hits),
-        mean: hard::scan::mean(w.hits, w.weight),
+        rate: figures::rate(edges, w.hits),
+        mean: figures::mean(w.hits, w.weight),
         best: w.score,
         next: next.hits as f32,
-        margin: hard::gate::margin(w.hits, next.hits) as f32,
+        margin: figures::margin(w.hits, next.hits) as f32,
         runner,
     }
 }
@@ -62,7 +62,7 @@ fn judge(t: u8, w: Candidate, next: RunnerUp, s: u8, p: Candidate, edges: u32) -
     if !same_square(t, w, s, p) {
         return refuse(12);
     }
-    if !hard::gate::passes(edges, w.hits, next.hits) {
+    if !figures::passes(edges, w.hits, next.hits) {
         return refuse(13);
     }
     Answer::Found(decoded(t, w, next, edges))

@@ -97,7 +97,7 @@ fn soft_verdict(t: u8, best: SoftBest, s: u8, w: Candidate, next: RunnerUp, edge
     if t == s {
         if best.first.row == w.row {
             if best.first.col == w.col {
-                if hard::gate::passes(edges, w.hits, next.hits) {
+                if figures::passes(edges, w.hits, next.hits) {
                     return 0;
                 }
                 return 13;
@@ -127,8 +127,8 @@ fn soft_decoded(t: u8, best: SoftBest, figures: HitsWeight, edges: u32, next: Ru
         hits: figures.hits,
         edges,
         weighted: best.first.total / edges as f32,
-        rate: hard::scan::rate(edges, figures.hits),
-        mean: hard::scan::mean(figures.hits, figures.weight),
+        rate: figures::rate(edges, figures.hits),
+        mean: figures::mean(figures.hits, figures.weight),
         best: best.first.total,
         next: next.hits as f32,
         margin: best.margin,
@@ -245,7 +245,7 @@ fn soft_core<'a>(
         (now (transforms .entry)) (tables (now (h .entry)) (now (v .entry))) limit margin
         (now (counts .entry)) (now (counts .exit)) (now (weights .entry)) (now (weights .exit)) (now (sums .entry)) (now (sums .exit)) r ⌝ }
 {
-    let conf = hard::select::total_confidence(pconfidences);
+    let conf = figures::total_confidence(pconfidences);
     if conf == 0.0 {
         return refuse(10);
     }

@@ -76,7 +76,7 @@ fn rate(edges: u32, hits: u32) -> f32
     if edges == 0 {
         return 1.0;
     }
-    hard::scan::rate(edges, hits)
+    figures::rate(edges, hits)
 }
 
 // Edges, hits, rate and mean of one list at one known transform and origin, for all inputs.
@@ -129,6 +129,6 @@ pub fn match_stats(
         edges,
         hits,
         rate: rate(edges, hits),
-        mean: hard::scan::mean(hits, counted.weight),
+        mean: figures::mean(hits, counted.weight),
     })
 }

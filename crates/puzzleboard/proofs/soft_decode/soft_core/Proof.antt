@@ -9,7 +9,7 @@ use lib.Ieee.{Float, eq, ofBits, binary32}
 use Rattle.laws.specs.Weights.{zeroF}
 use Rattle.board.specs.Hits.{EdgeList, Board, edges, tables, size}
 use Rattle.tables.specs.Sums.{likelihoods}
-use Rattle.hard.specs.Select.{totalConfidence}
+use Rattle.figures.specs.Figures.{totalConfidence}
 use Rattle.puzzleboard.specs.SoftLaws.{soft-hard, ready-soft, first-listed, choice-told, core-none, core-nothing, core-below, core-logical}
 use borrow.Author.Needs.{needs}
 use Rattle.puzzleboard.proofs.soft_decode.soft_core.Statement.{statement}

@@ -3,10 +3,10 @@ use Prim.Native.Nat.{_≤_, _-_}
 use native.Mathlib.Omega.{arith}
 use lib.ListN.{length}
 use lib.Ieee.{ofBits}
-use Rattle.hard.specs.Select.{confidenceTo}
-use Rattle.hard.specs.SelectLaws.{confidence-none, confidence-more}
-use Rattle.hard.proofs.select.total_confidence.Statement.{statement}
-use Rattle.hard.proofs.select.total_confidence.Tie as tie
+use Rattle.figures.specs.Figures.{confidenceTo}
+use Rattle.figures.specs.FiguresLaws.{confidence-none, confidence-more}
+use Rattle.figures.proofs.total_confidence.Statement.{statement}
+use Rattle.figures.proofs.total_confidence.Tie as tie
 
 abbrev Inv-loop : tie.InvT-loop
 Inv-loop confidences total₀ i₀ i-end total i = (i ≤ length confidences) × (total ≡ confidenceTo confidences i)

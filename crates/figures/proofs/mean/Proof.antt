@@ -3,9 +3,9 @@ use native.Mathlib.Omega.{arith}
 use lib.Dec.{le→leb}
 use lib.Ieee.{inFloat, ofBits}
 use borrow.Author.Tests.{eq-eqb, ne-eqb}
-use Rattle.hard.specs.Scan.{meanOf}
-use Rattle.hard.proofs.scan.mean.Statement.{statement}
-use Rattle.hard.proofs.scan.mean.Tie as tie
+use Rattle.figures.specs.Figures.{meanOf}
+use Rattle.figures.proofs.mean.Statement.{statement}
+use Rattle.figures.proofs.mean.Tie as tie
 
 returns : tie.Need-returns
 unfolding meanOf ofBits

@@ -1,6 +1,6 @@
 use borrow.Author.Needs.{needs}
-use Rattle.hard.proofs.gate.passes.Statement.{statement}
-use Rattle.hard.proofs.gate.passes.Tie as tie
+use Rattle.figures.proofs.passes.Statement.{statement}
+use Rattle.figures.proofs.passes.Tie as tie
 
 margin-requires : tie.Need-margin-requires
 margin-requires c κs = search needs

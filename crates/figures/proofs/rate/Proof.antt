@@ -2,11 +2,11 @@ use Prim.Native.Nat.{_-_, _^_}
 use mathlib.Core.Path.{refl}
 use lib.Dec.{le→leb}
 use lib.Ieee.{inFloat}
-use Rattle.hard.specs.Scan.{rateOf}
+use Rattle.figures.specs.Figures.{rateOf}
 use native.Mathlib.Omega.{arith}
 use borrow.Author.Needs.{needs}
-use Rattle.hard.proofs.scan.rate.Statement.{statement}
-use Rattle.hard.proofs.scan.rate.Tie as tie
+use Rattle.figures.proofs.rate.Statement.{statement}
+use Rattle.figures.proofs.rate.Tie as tie
 
 sub-misses : tie.Need-sub-misses
 sub-misses c = search needs

@@ -5,6 +5,7 @@ pub mod RowMajor
 pub mod RowMajorLaws
 pub mod Scan
 pub mod ScanLaws
+pub mod Lead
 pub mod Direct
 pub mod DirectLaws
 pub mod Transform

@@ -2,8 +2,10 @@
 ghost use mathlib.Core.Path.{_≡_};
 ghost use Prim.Native.Nat.{_+_, _*_, _%_, _≤_, _<_};
 ghost use Rattle.hard.specs.CellTables.{Period, TablesOk, cells};
-ghost use Rattle.hard.specs.Scan.{offeredWithin, behind};
-ghost use Rattle.hard.specs.Direct.{candidate, tried};
+ghost use Rattle.hard.specs.Scan.{offeredWithin};
+ghost use Rattle.hard.specs.Direct.{tried};
+ghost use Rattle.hard.specs.Lead.{leadOf, aheadOf};
+use crate::lex::beats;
 use crate::record::offer_within;
 use crate::scan::Candidate;
 use crate::scan::Kept;
@@ -17,35 +19,56 @@ fn next_class(k: usize, n: usize) -> usize
     if next == n { 0 } else { next }
 }
 
-// Whether so many hits are fewer than the kept candidate's.
-fn is_behind(kept: Kept, hits: u32) -> bool
-    ensures { λ r. ⌜ r ≡ behind kept hits ⌝ }
+// What is to be beaten: nothing, or a candidate's hits and score.
+pub struct Lead {
+    pub some: bool,
+    pub hits: u32,
+    pub score: f32,
+}
+
+// What the kept candidate sets to beat.
+fn lead_of(kept: Kept) -> Lead
+    ensures { λ r. ⌜ r ≡ leadOf kept ⌝ }
 {
     match kept {
-        Kept::Nobody => false,
-        Kept::One(k) => hits < k.hits,
+        Kept::Nobody => Lead {
+            some: false,
+            hits: 0,
+            score: 0.0,
+        },
+        Kept::One(k) => Lead {
+            some: true,
+            hits: k.hits,
+            score: k.score,
+        },
     }
 }
 
-// One origin tried. One with fewer hits than the kept candidate is passed over before any division.
-fn try_origin(
+// Whether an origin with these hits and this score is ahead of it.
+fn is_ahead(lead: Lead, hits: u32, score: f32) -> bool
+    ensures { λ r. ⌜ r ≡ aheadOf lead hits score ⌝ }
+{
+    if lead.some {
+        return beats(hits, score, lead.hits, lead.score);
+    }
+    true
+}
+
+// One origin offered with its score.
+fn offer_origin(
     kept: Kept,
     hits: u32,
+    score: f32,
     weight: f32,
     row: usize,
     col: usize,
     place: usize,
     edges: u32,
-    conf: f32,
     limit: f32,
 ) -> Kept
     requires { ⌜ (hits ≤ edges) × (edges ≤ 8192) × (row ≤ 1500) × (col ≤ 1500) ⌝ }
-    ensures { λ r. ⌜ r ≡ offeredWithin edges limit kept (candidate hits weight conf row col place) ⌝ }
+    ensures { λ r. ⌜ r ≡ offeredWithin edges limit kept (record { hits = hits; score = score; weight = weight; row = row; col = col; place = place }) ⌝ }
 {
-    if is_behind(kept, hits) {
-        return kept;
-    }
-    let score = weight / conf;
     let r = row as u32;
     let c = col as u32;
     let found = Candidate {
@@ -59,7 +82,8 @@ fn try_origin(
     offer_within(kept, found, edges, limit)
 }
 
-// The origins of one row, whose class by `long` is ha and by 3 is va.
+// The origins of one row, whose class by `long` is ha and by 3 is va. What is kept is copied only where an origin is ahead of it, and one with fewer hits is
+// passed over before any division.
 fn scan_row(
     hc: &[u32],
     hw: &[f32],
@@ -83,6 +107,7 @@ fn scan_row(
     let hbase = ha * 3;
     let vbase = va * wide;
     let mut kept = start;
+    let mut lead = lead_of(start);
     let mut hb: usize = 0;
     let mut vb: usize = 0;
     let mut col: usize = 0;
@@ -90,8 +115,14 @@ fn scan_row(
         let h = hbase + hb;
         let v = vbase + vb;
         let hits = hc[h] + vc[v];
-        let weight = hw[h] + vw[v];
-        kept = try_origin(kept, hits, weight, row, col, place, edges, conf, limit);
+        if hits >= lead.hits {
+            let weight = hw[h] + vw[v];
+            let score = weight / conf;
+            if is_ahead(lead, hits, score) {
+                kept = offer_origin(kept, hits, score, weight, row, col, place, edges, limit);
+                lead = lead_of(kept);
+            }
+        }
         hb = next_class(hb, 3);
         vb = next_class(vb, wide);
         col += 1;

@@ -18,7 +18,7 @@ pub struct LexMax {
 }
 
 // Whether (c, w) beats (d, v): a larger count, or the same count and a larger weight.
-fn beats(c: u32, w: f32, d: u32, v: f32) -> bool
+pub fn beats(c: u32, w: f32, d: u32, v: f32) -> bool
     ensures { λ r. ⌜ r ≡ wins c w d v ⌝ }
 {
     c > d || (c == d && w > v)
@@ -30,10 +30,16 @@ fn lex_best(counts: &[u32], weights: &[f32]) -> usize
     ensures { λ r. ⌜ (r ≡ lexBest (now (counts .entry)) (now (weights .entry))) × (r < length (now (counts .entry))) ⌝ }
 {
     let mut best: usize = 0;
+    let mut top = counts[0];
+    let mut heavy = weights[0];
     let mut i: usize = 0;
     while i < counts.len() {
-        if beats(counts[i], weights[i], counts[best], weights[best]) {
+        let c = counts[i];
+        let w = weights[i];
+        if beats(c, w, top, heavy) {
             best = i;
+            top = c;
+            heavy = w;
         }
         i += 1;
     }
@@ -87,11 +93,14 @@ fn second_cell(counts: &[u32], skip: usize) -> usize
     if skip == 0 {
         best = 1;
     }
+    let mut top = counts[best];
     let mut i: usize = 0;
     while i < counts.len() {
+        let c = counts[i];
         if i != skip {
-            if counts[i] > counts[best] {
+            if c > top {
                 best = i;
+                top = c;
             }
         }
         i += 1;

@@ -1,47 +1,42 @@
 use borrow.Author.Needs.{needs}
 use Prim.Native.Nat.{_≤_, _<_, _-_}
-use mathlib.Core.Path.{_≡_, refl, sym, _∙_}
+use mathlib.Core.Path.{_≡_, refl, sym, ap, ap₂, _∙_}
 use mathlib.Core.Logic.{⊎-elim}
 use lib.ListN.{length}
 use Rattle.laws.specs.Best.{firstBest, best-new, best-old}
-use Rattle.hard.specs.Lex.{order}
+use Rattle.hard.specs.CellTables.{cAt, wAt}
+use Rattle.hard.specs.Lex.{wins, order}
 use native.Mathlib.Omega.{arith}
 use Rattle.hard.proofs.lex.lex_best.Statement.{statement}
 use Rattle.hard.proofs.lex.lex_best.Tie as tie
 
 abbrev Inv-loop : tie.InvT-loop
-Inv-loop counts weights best₀ i₀ best i = (i ≤ length counts) × (best < length counts) × (best ≡ firstBest (order counts weights) i)
+Inv-loop counts weights best₀ top₀ heavy₀ i₀ best top heavy i = (i ≤ length counts) × (best < length counts) × (best ≡ firstBest (order counts weights) i) × (top ≡ cAt counts best) × (heavy ≡ wAt weights best)
 
 abbrev μ-loop : tie.MeasureT-loop
-μ-loop counts weights best₀ i₀ best i = length counts - i
+μ-loop counts weights best₀ top₀ heavy₀ i₀ best top heavy i = length counts - i
+
+shared-slice-read-top : tie.Need-shared-slice-read-top Inv-loop μ-loop
+shared-slice-read-top c = search needs
+
+shared-slice-read-heavy : tie.Need-shared-slice-read-heavy Inv-loop μ-loop
+shared-slice-read-heavy c = search needs
 
 loop-holds : tie.Need-loop-holds Inv-loop μ-loop
 unfolding firstBest
-loop-holds c = (search needs, search needs, refl)
+loop-holds c = (search needs, search needs, refl, refl, refl)
 
-mul-beats : tie.Need-mul-beats Inv-loop μ-loop
-mul-beats c = search needs
+mul-c : tie.Need-mul-c Inv-loop μ-loop
+mul-c c = search needs
 
-shared-slice-read-beats : tie.Need-shared-slice-read-beats Inv-loop μ-loop
-shared-slice-read-beats c = search needs
+shared-slice-read-c : tie.Need-shared-slice-read-c Inv-loop μ-loop
+shared-slice-read-c c = search needs
 
-mul-beats-2 : tie.Need-mul-beats-2 Inv-loop μ-loop
-mul-beats-2 c = search needs
+mul-w : tie.Need-mul-w Inv-loop μ-loop
+mul-w c = search needs
 
-shared-slice-read-beats-2 : tie.Need-shared-slice-read-beats-2 Inv-loop μ-loop
-shared-slice-read-beats-2 c = search needs
-
-mul-beats-3 : tie.Need-mul-beats-3 Inv-loop μ-loop
-mul-beats-3 c = search needs
-
-shared-slice-read-beats-3 : tie.Need-shared-slice-read-beats-3 Inv-loop μ-loop
-shared-slice-read-beats-3 c = search needs
-
-mul-beats-4 : tie.Need-mul-beats-4 Inv-loop μ-loop
-mul-beats-4 c = search needs
-
-shared-slice-read-beats-4 : tie.Need-shared-slice-read-beats-4 Inv-loop μ-loop
-shared-slice-read-beats-4 c = search needs
+shared-slice-read-w : tie.Need-shared-slice-read-w Inv-loop μ-loop
+shared-slice-read-w c = search needs
 
 beats-requires : tie.Need-beats-requires Inv-loop μ-loop
 beats-requires c κs = search needs
@@ -54,15 +49,18 @@ loop-less c = search needs
 
 loop-again : tie.Need-loop-again Inv-loop μ-loop
 loop-again c =
-    let inv = c .before .before .before .before .before .before .before .loop .inv in
+    let l = c .before .before .before .before .before .loop in
+    let inv = l .inv in
+    let a = c .before .before .before .before .before .before .before .before .before .before .args in
+    let told : order (a .counts .now) (a .weights .now) (l .i) (l .best) ≡ c .before .beats .result = ap₂ (wins (cAt (a .counts .now) (l .i)) (wAt (a .weights .now) (l .i))) (sym (inv .3)) (sym (inv .4)) ∙ sym (c .before .beats .ensures) in
     ⊎-elim
-    (λ w. (omega arith, omega (arith, w .1), w .1 ∙ best-new _ _ _ (inv .2) (sym (c .before .beats .ensures) ∙ w .0 .taken)))
-    (λ w. (omega arith, omega (arith, w .1), w .1 ∙ best-old _ _ _ (inv .2) (sym (c .before .beats .ensures) ∙ w .0 .left)))
+    (λ w. (omega arith, omega (arith, w .1), w .1 ∙ best-new _ _ _ (inv .2) (told ∙ w .0 .taken), w .2 ∙ ap (cAt (a .counts .now)) (sym (w .1)), w .3 ∙ ap (wAt (a .weights .now)) (sym (w .1))))
+    (λ w. (omega arith, omega (arith, w .1), w .1 ∙ best-old _ _ _ (inv .2) (told ∙ w .0 .left), w .2 ∙ inv .3 ∙ ap (cAt (a .counts .now)) (sym (w .1)), w .3 ∙ inv .4 ∙ ap (wAt (a .weights .now)) (sym (w .1))))
     (c .if1 .came)
 
 returns : tie.Need-returns Inv-loop μ-loop
 returns c =
-    let e : c .before .loop .i ≡ length (c .before .before .before .before .args .counts .now) = omega arith in
+    let e : c .before .loop .i ≡ length (c .before .before .before .before .before .before .args .counts .now) = omega arith in
     (rw (← e) (c .before .loop .inv .2), omega arith)
 
 pub lex-best-spec : {M : Type 1} → statement M
@@ -71,15 +69,13 @@ lex-best-spec =
     (tie.spec
     Inv-loop
     μ-loop
+    shared-slice-read-top
+    shared-slice-read-heavy
     loop-holds
-    mul-beats
-    shared-slice-read-beats
-    mul-beats-2
-    shared-slice-read-beats-2
-    mul-beats-3
-    shared-slice-read-beats-3
-    mul-beats-4
-    shared-slice-read-beats-4
+    mul-c
+    shared-slice-read-c
+    mul-w
+    shared-slice-read-w
     beats-requires
     add-i
     loop-less

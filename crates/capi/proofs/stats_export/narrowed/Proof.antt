@@ -1,0 +1,19 @@
+use borrow.Author.Needs.{needs}
+use borrow.Author.Tests.{lt-ltb, le-ltb}
+use Rattle.capi.specs.Flat.{narrow}
+use Rattle.capi.proofs.stats_export.narrowed.Statement.{statement}
+use Rattle.capi.proofs.stats_export.narrowed.Tie as tie
+
+returns : tie.Need-returns
+unfolding narrow
+returns c = simp (lt-ltb _ _ (c .if1 .taken))
+
+cast-result : tie.Need-cast-result
+cast-result c = search needs
+
+returns-2 : tie.Need-returns-2
+unfolding narrow
+returns-2 c = simp (le-ltb _ _ (c .if1 .left))
+
+pub narrowed-spec : {M : Type 1} → statement M
+narrowed-spec = tie.close (tie.spec returns cast-result returns-2)

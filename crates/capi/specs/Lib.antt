@@ -1,0 +1,4 @@
+pub mod Flat
+pub mod FlatLaws
+pub mod Exports
+pub mod FoundLaws

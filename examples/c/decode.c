@@ -1,0 +1,105 @@
+/* A window of a small made-up board, decoded: once as it is, and once with an error limit that no call takes. It prints both
+ * answers whole, so that what a refusal holds can be seen. Compiled and run by .ci/tests/boundary, which compares what it prints. */
+#include "samburext.h"
+
+#include <stdio.h>
+
+enum { CORNERS = 12, EDGES = 2 * CORNERS * (CORNERS - 1), ROW = 123, COLUMN = 456 };
+
+static uint8_t horizontal[SAMBUREXT_TABLE_LENGTH], vertical[SAMBUREXT_TABLE_LENGTH];
+static int32_t rows[EDGES], columns[EDGES];
+static uint8_t orientations[EDGES], bits[EDGES];
+static float confidences[EDGES];
+static uint32_t counts[SAMBUREXT_ROOM_COUNTS];
+static float weights[SAMBUREXT_ROOM_WEIGHTS];
+
+/* A pattern table of three-bit patterns from a small generator. */
+static uint32_t fill_table(uint8_t *table, uint32_t state)
+{
+    for (int i = 0; i < SAMBUREXT_TABLE_LENGTH; i++) {
+        state = state * 1664525u + 1013904223u;
+        table[i] = (uint8_t)((state >> 24) % 8);
+    }
+    return state;
+}
+
+/* The bit of an edge that a camera sees which faces (ROW, COLUMN) upright: transform 0, whose lookup is one row up for a
+ * horizontal edge and one column back for a vertical one. */
+static uint8_t seen(int32_t row, int32_t column, uint8_t orientation)
+{
+    if (orientation == 0)
+        return (uint8_t)(horizontal[(row - 1 + ROW) % 167] >> (column + COLUMN) % 3 & 1);
+    return (uint8_t)(vertical[(column - 1 + COLUMN) % 167] >> (row + ROW) % 3 & 1);
+}
+
+static void fill_window(void)
+{
+    int n = 0;
+    for (uint8_t orientation = 0; orientation < 2; orientation++)
+        for (int32_t row = 0; row < CORNERS - orientation; row++)
+            for (int32_t column = 0; column < CORNERS - 1 + orientation; column++, n++) {
+                rows[n] = row;
+                columns[n] = column;
+                orientations[n] = orientation;
+                bits[n] = seen(row, column, orientation);
+                confidences[n] = 0.75f;
+            }
+}
+
+static const char *float_or_nan(float x, char text[32])
+{
+    snprintf(text, 32, "%.4f", x);
+    return x == x ? text : "nan";
+}
+
+static void print_whole(const char *name, uint32_t x) { printf("  %s %u\n", name, (unsigned)x); }
+
+static void print_float(const char *name, float x)
+{
+    char text[32];
+    printf("  %s %s\n", name, float_or_nan(x, text));
+}
+
+static void print_answer(const samburext_answer *a)
+{
+    printf(a->refusal == SAMBUREXT_FOUND ? "found\n" : "refused\n");
+    print_whole("refusal", a->refusal);
+    print_whole("transform", a->transform);
+    print_whole("row", a->row);
+    print_whole("col", a->col);
+    print_whole("hits", a->hits);
+    print_whole("edges", a->edges);
+    print_float("weighted_score", a->weighted_score);
+    print_float("error_rate", a->error_rate);
+    print_float("mean_confidence", a->mean_confidence);
+    print_float("best_score", a->best_score);
+    print_float("runner_up_score", a->runner_up_score);
+    print_float("margin", a->margin);
+    print_whole("runner_up_transform", a->runner_up_transform);
+    print_whole("runner_up_row", a->runner_up_row);
+    print_whole("runner_up_col", a->runner_up_col);
+}
+
+static void decode_and_print(float error_limit)
+{
+    static const uint8_t transforms[] = {0, 1, 2, 3};
+    samburext_answer answer = samburext_decode_hard(
+        rows, EDGES, columns, EDGES, orientations, EDGES, bits, EDGES, confidences, EDGES, /* the logical list */
+        rows, EDGES, columns, EDGES, orientations, EDGES, bits, EDGES, confidences, EDGES, /* the physical list: the same */
+        transforms, sizeof transforms, horizontal, sizeof horizontal, vertical, sizeof vertical, error_limit,
+        counts, SAMBUREXT_ROOM_COUNTS, weights, SAMBUREXT_ROOM_WEIGHTS);
+    print_answer(&answer);
+}
+
+int main(void)
+{
+    fill_table(vertical, fill_table(horizontal, 12345u));
+    fill_window();
+    decode_and_print(0.1f);
+    decode_and_print(1.5f);
+    samburext_stats stats = samburext_match_stats(
+        rows, EDGES, columns, EDGES, orientations, EDGES, bits, EDGES, confidences, EDGES, 0, ROW, COLUMN,
+        horizontal, sizeof horizontal, vertical, sizeof vertical);
+    printf("statistics: refusal %u, edges %u, hits %u\n", (unsigned)stats.refusal, (unsigned)stats.edges, (unsigned)stats.hits);
+    return 0;
+}

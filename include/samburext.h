@@ -1,0 +1,146 @@
+/* Samburext for C and C++: which square of a 501 by 501 PuzzleBoard a camera faces, or a refusal.
+ *
+ * Link with target/staticlib/libcapi.a, which `rt staticlib capi` writes (x86-64 Linux). Each function takes every input: it
+ * ends, reads and writes nothing but the slices it was lent, keeps nothing between calls, and may be called from several
+ * threads at once, each with room of its own.
+ *
+ * Slices. Each is a pointer and then its length in elements. The caller sees to it that
+ *   - no pointer is null, also where the length is 0, and each is aligned for its type;
+ *   - that many elements can be read there, and in the room slices written;
+ *   - a room slice overlaps no other slice. Slices that are only read may overlap each other.
+ *
+ * Edge lists. A list of n edges is five columns of n elements: rows and columns from -1,000,000 to 1,000,000, orientations
+ * (0 horizontal, 1 vertical), bits (0 or 1), confidences (0 to 1). A list has 1 to 8,192 edges; match statistics also take 0.
+ *
+ * Refusals. `refusal` is 0 when found. On a refusal every other field is SAMBUREXT_NOTHING or NaN: there is no square in it.
+ * After refusals 1 to 9 the room is untouched; after every other call its used part is zero. A surplus never changes.
+ */
+#ifndef SAMBUREXT_H
+#define SAMBUREXT_H
+
+#include <stddef.h>
+#include <stdint.h>
+
+#ifdef __cplusplus
+extern "C" {
+#endif
+
+/* The least lengths of the room slices; what they hold before has no influence. */
+#define SAMBUREXT_ROOM_COUNTS 3006  /* u32 */
+#define SAMBUREXT_ROOM_WEIGHTS 3006 /* f32 */
+#define SAMBUREXT_ROOM_SUMS 5010    /* i64, soft decode alone */
+
+#define SAMBUREXT_TABLE_LENGTH 167    /* bytes of a pattern table, each 0 to 7 */
+#define SAMBUREXT_MAX_EDGES 8192      /* edges of a list */
+#define SAMBUREXT_MAX_TRANSFORMS 8    /* transform numbers in search order, each 0 to 7 */
+#define SAMBUREXT_BOARD_SQUARES 501   /* rows and columns of an origin go from 0 to one less */
+#define SAMBUREXT_NOTHING 0xFFFFFFFFu /* every whole number of a refusal but its number */
+
+/* Why a call was refused: the lowest number of 1 to 9 that applies, else one of 10 to 15. */
+enum samburext_refusal {
+    SAMBUREXT_FOUND = 0,                /* not refused */
+    SAMBUREXT_ROOM_TOO_SHORT = 1,       /* a room slice is too short */
+    SAMBUREXT_LENGTHS_DIFFER = 2,       /* the columns of one list differ in length */
+    SAMBUREXT_LIST_SIZE = 3,            /* a list is empty or has more than 8,192 edges */
+    SAMBUREXT_EDGE_OUT_OF_RANGE = 4,    /* a row, column, orientation or bit is out of range */
+    SAMBUREXT_BAD_CONFIDENCE = 5,       /* a confidence is no number from 0 to 1 */
+    SAMBUREXT_BAD_LIKELIHOOD = 6,       /* a log likelihood is no finite number from -65,536 to 65,536 */
+    SAMBUREXT_BAD_TRANSFORM = 7,        /* no transforms, more than eight, or one above 7 */
+    SAMBUREXT_BAD_TABLE = 8,            /* a pattern table has not 167 bytes from 0 to 7 */
+    SAMBUREXT_BAD_SETTING = 9,          /* error limit, soft margin or given origin out of range */
+    SAMBUREXT_NO_CONFIDENCE = 10,       /* a list has no confidence at all */
+    SAMBUREXT_NONE_WITHIN_LIMIT = 11,   /* no listed transform comes within the error limit */
+    SAMBUREXT_LISTS_DISAGREE = 12,      /* the logical and the physical list point to different squares */
+    SAMBUREXT_NOT_FAR_AHEAD = 13,       /* the best square is not far enough ahead of the next */
+    SAMBUREXT_SOFT_MARGIN = 14,         /* the soft scores of the two best are closer than the soft margin */
+    SAMBUREXT_SOFT_HARD_DISAGREE = 15   /* the soft and the hard winner differ */
+};
+
+/* The answer of hard and soft decode. */
+typedef struct samburext_answer {
+    uint32_t refusal;             /* 0 when found, else a number of samburext_refusal */
+    uint32_t transform;           /* the transform's number, 0 to 7 */
+    uint32_t row;                 /* the origin on the board, 0 to 500 */
+    uint32_t col;
+    uint32_t hits;                /* edges whose bit is the one that the board predicts there */
+    uint32_t edges;               /* edges of the list (hard: logical, soft: physical) */
+    float weighted_score;         /* hard: confidence of the hits over all confidence; soft: total over edges */
+    float error_rate;             /* misses over edges */
+    float mean_confidence;        /* of the hits; 0 for no hits */
+    float best_score;             /* hard: the weighted score; soft: the total log likelihood */
+    float runner_up_score;        /* the runner-up's hits on the logical list */
+    float margin;                 /* hard: hits ahead of the runner-up; soft: (first - second total) over edges */
+    uint32_t runner_up_transform; /* the best competitor on the logical list */
+    uint32_t runner_up_row;
+    uint32_t runner_up_col;
+} samburext_answer;
+
+/* The answer of match statistics. */
+typedef struct samburext_stats {
+    uint32_t refusal;      /* 0 when counted, else a number of samburext_refusal */
+    uint32_t edges;        /* edges of the list */
+    uint32_t hits;         /* edges whose bit is the one that the board predicts there */
+    float error_rate;      /* misses over edges; 1 for no edges */
+    float mean_confidence; /* of the hits; 0 for no hits */
+} samburext_stats;
+
+/* Hard decode: the square by hits. The logical list decides, with the error limit; the physical list must agree. */
+samburext_answer samburext_decode_hard(
+    const int32_t *logical_rows, size_t logical_rows_length,                 /* the logical list: rows */
+    const int32_t *logical_columns, size_t logical_columns_length,           /* its columns */
+    const uint8_t *logical_orientations, size_t logical_orientations_length, /* its orientations, 0 or 1 */
+    const uint8_t *logical_bits, size_t logical_bits_length,                 /* its bits, 0 or 1 */
+    const float *logical_confidences, size_t logical_confidences_length,     /* its confidences, 0 to 1 */
+    const int32_t *physical_rows, size_t physical_rows_length,                 /* the physical list: rows */
+    const int32_t *physical_columns, size_t physical_columns_length,           /* its columns */
+    const uint8_t *physical_orientations, size_t physical_orientations_length, /* its orientations */
+    const uint8_t *physical_bits, size_t physical_bits_length,                 /* its bits */
+    const float *physical_confidences, size_t physical_confidences_length,     /* its confidences */
+    const uint8_t *transforms, size_t transforms_length, /* 1 to 8 transform numbers in search order, each 0 to 7 */
+    const uint8_t *horizontal, size_t horizontal_length, /* the horizontal pattern table: 167 bytes, each 0 to 7 */
+    const uint8_t *vertical, size_t vertical_length,     /* the vertical pattern table: 167 bytes, each 0 to 7 */
+    float error_limit,                                   /* the largest error rate that is taken, 0 to 1 */
+    uint32_t *counts, size_t counts_length,              /* room, at least SAMBUREXT_ROOM_COUNTS */
+    float *weights, size_t weights_length);              /* room, at least SAMBUREXT_ROOM_WEIGHTS */
+
+/* Soft decode: the square by the likelihoods of the physical list; the hits of the logical list must confirm it. */
+samburext_answer samburext_decode_soft(
+    const int32_t *physical_rows, size_t physical_rows_length,                 /* the physical list: rows */
+    const int32_t *physical_columns, size_t physical_columns_length,           /* its columns */
+    const uint8_t *physical_orientations, size_t physical_orientations_length, /* its orientations */
+    const uint8_t *physical_bits, size_t physical_bits_length,                 /* its bits */
+    const float *physical_confidences, size_t physical_confidences_length,     /* its confidences */
+    const float *match_likelihoods, size_t match_likelihoods_length,       /* each physical edge's log likelihood of a hit */
+    const float *mismatch_likelihoods, size_t mismatch_likelihoods_length, /* and of a miss, -65,536 to 65,536 */
+    const int32_t *logical_rows, size_t logical_rows_length,                 /* the logical list: rows */
+    const int32_t *logical_columns, size_t logical_columns_length,           /* its columns */
+    const uint8_t *logical_orientations, size_t logical_orientations_length, /* its orientations */
+    const uint8_t *logical_bits, size_t logical_bits_length,                 /* its bits */
+    const float *logical_confidences, size_t logical_confidences_length,     /* its confidences */
+    const uint8_t *transforms, size_t transforms_length, /* 1 to 8 transform numbers in search order, each 0 to 7 */
+    const uint8_t *horizontal, size_t horizontal_length, /* the horizontal pattern table: 167 bytes, each 0 to 7 */
+    const uint8_t *vertical, size_t vertical_length,     /* the vertical pattern table: 167 bytes, each 0 to 7 */
+    float error_limit,                                   /* the largest error rate of the logical list, 0 to 1 */
+    float soft_margin,                                   /* the least margin that is taken, 0 to 65,536 */
+    uint32_t *counts, size_t counts_length,              /* room, at least SAMBUREXT_ROOM_COUNTS */
+    float *weights, size_t weights_length,               /* room, at least SAMBUREXT_ROOM_WEIGHTS */
+    int64_t *sums, size_t sums_length);                  /* room, at least SAMBUREXT_ROOM_SUMS */
+
+/* Match statistics: how one list fits a known transform and origin. No room is needed. */
+samburext_stats samburext_match_stats(
+    const int32_t *rows, size_t rows_length,                 /* the list: rows */
+    const int32_t *columns, size_t columns_length,           /* its columns */
+    const uint8_t *orientations, size_t orientations_length, /* its orientations */
+    const uint8_t *bits, size_t bits_length,                 /* its bits */
+    const float *confidences, size_t confidences_length,     /* its confidences */
+    uint32_t transform,                                      /* the transform's number, 0 to 7 */
+    uint32_t row,                                            /* the origin on the board, 0 to 500 */
+    uint32_t column,
+    const uint8_t *horizontal, size_t horizontal_length, /* the horizontal pattern table: 167 bytes, each 0 to 7 */
+    const uint8_t *vertical, size_t vertical_length);    /* the vertical pattern table: 167 bytes, each 0 to 7 */
+
+#ifdef __cplusplus
+}
+#endif
+
+#endif

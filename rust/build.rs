@@ -1,0 +1,11 @@
+// Links target/staticlib/libcapi.a, which `rt staticlib capi` writes beside this folder. The archive is for x86-64 Linux.
+use std::path::Path;
+
+fn main() {
+    let folder = Path::new(env!("CARGO_MANIFEST_DIR")).join("../target/staticlib");
+    let archive = folder.join("libcapi.a");
+    println!("cargo:rerun-if-changed={}", archive.display());
+    assert!(archive.exists(), "{} is missing: run `rt staticlib capi` first", archive.display());
+    println!("cargo:rustc-link-search=native={}", folder.display());
+    println!("cargo:rustc-link-lib=static=capi");
+}

@@ -1,0 +1,322 @@
+//! Samburext for Rust programs: which square of a 501 by 501 PuzzleBoard a camera faces, or a refusal. A safe wrapper over the
+//! proved static library: a found square is an `Ok`, a refusal an `Err`, so no program can go on with a square that was not found.
+
+pub mod raw;
+mod refusal;
+
+pub use refusal::Refusal;
+
+/// The least lengths of the room's three slices.
+pub const ROOM_COUNTS: usize = 3006;
+pub const ROOM_WEIGHTS: usize = 3006;
+pub const ROOM_SUMS: usize = 5010;
+
+/// One observed edge.
+#[derive(Clone, Copy, Debug, PartialEq)]
+pub struct Edge {
+    /// From -1,000,000 to 1,000,000, as the column.
+    pub row: i32,
+    pub col: i32,
+    /// 0 horizontal, 1 vertical.
+    pub orientation: u8,
+    /// 0 or 1.
+    pub bit: u8,
+    /// From 0 to 1.
+    pub confidence: f32,
+}
+
+/// An edge list as five columns. They are public, so that columns read from elsewhere can be moved in; where their lengths
+/// differ the list is refused.
+#[derive(Clone, Debug, Default, PartialEq)]
+pub struct EdgeList {
+    pub rows: Vec<i32>,
+    pub cols: Vec<i32>,
+    pub orientations: Vec<u8>,
+    pub bits: Vec<u8>,
+    pub confidences: Vec<f32>,
+}
+
+impl EdgeList {
+    /// A list without edges.
+    pub fn new() -> EdgeList {
+        EdgeList::default()
+    }
+
+    /// One edge more, at the end.
+    pub fn push(&mut self, edge: Edge) {
+        self.rows.push(edge.row);
+        self.cols.push(edge.col);
+        self.orientations.push(edge.orientation);
+        self.bits.push(edge.bit);
+        self.confidences.push(edge.confidence);
+    }
+
+    /// The number of edges: the length of the column of rows.
+    pub fn len(&self) -> usize {
+        self.rows.len()
+    }
+
+    pub fn is_empty(&self) -> bool {
+        self.rows.is_empty()
+    }
+}
+
+/// The log likelihoods of each physical edge: that its bit is the board's, and that it is not.
+#[derive(Clone, Debug, Default, PartialEq)]
+pub struct Likelihoods {
+    pub matches: Vec<f32>,
+    pub mismatches: Vec<f32>,
+}
+
+/// The two pattern tables of a board, 167 bytes each, each 0 to 7.
+#[derive(Clone, Copy, Debug)]
+pub struct Patterns<'a> {
+    pub horizontal: &'a [u8],
+    pub vertical: &'a [u8],
+}
+
+/// The room that the decoders work in, to be kept and lent again. What it holds has no influence on an answer.
+#[derive(Clone, Debug, PartialEq)]
+pub struct Room {
+    pub counts: Vec<u32>,
+    pub weights: Vec<f32>,
+    pub sums: Vec<i64>,
+}
+
+impl Room {
+    /// Room for hard and soft decode.
+    pub fn new() -> Room {
+        Room { counts: vec![0; ROOM_COUNTS], weights: vec![0.0; ROOM_WEIGHTS], sums: vec![0; ROOM_SUMS] }
+    }
+}
+
+impl Default for Room {
+    fn default() -> Room {
+        Room::new()
+    }
+}
+
+/// A transform by number, with an origin on the board.
+#[derive(Clone, Copy, Debug, PartialEq, Eq)]
+pub struct Square {
+    pub transform: u32,
+    pub row: u32,
+    pub col: u32,
+}
+
+/// What a found answer holds.
+#[derive(Clone, Copy, Debug, PartialEq)]
+pub struct Decoded {
+    pub square: Square,
+    pub hits: u32,
+    pub edges: u32,
+    pub weighted_score: f32,
+    pub error_rate: f32,
+    pub mean_confidence: f32,
+    pub best_score: f32,
+    pub runner_up_score: f32,
+    pub margin: f32,
+    pub runner_up: Square,
+}
+
+/// How a list fits one known square.
+#[derive(Clone, Copy, Debug, PartialEq)]
+pub struct MatchStats {
+    pub edges: u32,
+    pub hits: u32,
+    pub error_rate: f32,
+    pub mean_confidence: f32,
+}
+
+fn decoded(answer: raw::Answer) -> Result<Decoded, Refusal> {
+    match Refusal::from_number(answer.refusal) {
+        Some(refusal) => Err(refusal),
+        None => Ok(Decoded {
+            square: Square { transform: answer.transform, row: answer.row, col: answer.col },
+            hits: answer.hits,
+            edges: answer.edges,
+            weighted_score: answer.weighted_score,
+            error_rate: answer.error_rate,
+            mean_confidence: answer.mean_confidence,
+            best_score: answer.best_score,
+            runner_up_score: answer.runner_up_score,
+            margin: answer.margin,
+            runner_up: Square {
+                transform: answer.runner_up_transform,
+                row: answer.runner_up_row,
+                col: answer.runner_up_col,
+            },
+        }),
+    }
+}
+
+/// Hard decode: the square by the hits of the logical list, within the error limit; the physical list must agree.
+pub fn decode_hard(
+    logical: &EdgeList,
+    physical: &EdgeList,
+    transforms: &[u8],
+    patterns: Patterns,
+    error_limit: f32,
+    room: &mut Room,
+) -> Result<Decoded, Refusal> {
+    decoded(decode_hard_raw(logical, physical, transforms, patterns, error_limit, room))
+}
+
+/// The same, with the answer as the library gives it.
+pub fn decode_hard_raw(
+    logical: &EdgeList,
+    physical: &EdgeList,
+    transforms: &[u8],
+    patterns: Patterns,
+    error_limit: f32,
+    room: &mut Room,
+) -> raw::Answer {
+    // Every pointer is a slice's with its length, and the room is lent to this call alone.
+    unsafe {
+        raw::samburext_decode_hard(
+            logical.rows.as_ptr(),
+            logical.rows.len(),
+            logical.cols.as_ptr(),
+            logical.cols.len(),
+            logical.orientations.as_ptr(),
+            logical.orientations.len(),
+            logical.bits.as_ptr(),
+            logical.bits.len(),
+            logical.confidences.as_ptr(),
+            logical.confidences.len(),
+            physical.rows.as_ptr(),
+            physical.rows.len(),
+            physical.cols.as_ptr(),
+            physical.cols.len(),
+            physical.orientations.as_ptr(),
+            physical.orientations.len(),
+            physical.bits.as_ptr(),
+            physical.bits.len(),
+            physical.confidences.as_ptr(),
+            physical.confidences.len(),
+            transforms.as_ptr(),
+            transforms.len(),
+            patterns.horizontal.as_ptr(),
+            patterns.horizontal.len(),
+            patterns.vertical.as_ptr(),
+            patterns.vertical.len(),
+            error_limit,
+            room.counts.as_mut_ptr(),
+            room.counts.len(),
+            room.weights.as_mut_ptr(),
+            room.weights.len(),
+        )
+    }
+}
+
+/// Soft decode: the square by the likelihoods of the physical list; the hits of the logical list must confirm it.
+#[allow(clippy::too_many_arguments)]
+pub fn decode_soft(
+    physical: &EdgeList,
+    likelihoods: &Likelihoods,
+    logical: &EdgeList,
+    transforms: &[u8],
+    patterns: Patterns,
+    error_limit: f32,
+    soft_margin: f32,
+    room: &mut Room,
+) -> Result<Decoded, Refusal> {
+    decoded(decode_soft_raw(physical, likelihoods, logical, transforms, patterns, error_limit, soft_margin, room))
+}
+
+/// The same, with the answer as the library gives it.
+#[allow(clippy::too_many_arguments)]
+pub fn decode_soft_raw(
+    physical: &EdgeList,
+    likelihoods: &Likelihoods,
+    logical: &EdgeList,
+    transforms: &[u8],
+    patterns: Patterns,
+    error_limit: f32,
+    soft_margin: f32,
+    room: &mut Room,
+) -> raw::Answer {
+    // As above.
+    unsafe {
+        raw::samburext_decode_soft(
+            physical.rows.as_ptr(),
+            physical.rows.len(),
+            physical.cols.as_ptr(),
+            physical.cols.len(),
+            physical.orientations.as_ptr(),
+            physical.orientations.len(),
+            physical.bits.as_ptr(),
+            physical.bits.len(),
+            physical.confidences.as_ptr(),
+            physical.confidences.len(),
+            likelihoods.matches.as_ptr(),
+            likelihoods.matches.len(),
+            likelihoods.mismatches.as_ptr(),
+            likelihoods.mismatches.len(),
+            logical.rows.as_ptr(),
+            logical.rows.len(),
+            logical.cols.as_ptr(),
+            logical.cols.len(),
+            logical.orientations.as_ptr(),
+            logical.orientations.len(),
+            logical.bits.as_ptr(),
+            logical.bits.len(),
+            logical.confidences.as_ptr(),
+            logical.confidences.len(),
+            transforms.as_ptr(),
+            transforms.len(),
+            patterns.horizontal.as_ptr(),
+            patterns.horizontal.len(),
+            patterns.vertical.as_ptr(),
+            patterns.vertical.len(),
+            error_limit,
+            soft_margin,
+            room.counts.as_mut_ptr(),
+            room.counts.len(),
+            room.weights.as_mut_ptr(),
+            room.weights.len(),
+            room.sums.as_mut_ptr(),
+            room.sums.len(),
+        )
+    }
+}
+
+/// Match statistics: how one list fits a known square.
+pub fn match_stats(list: &EdgeList, square: Square, patterns: Patterns) -> Result<MatchStats, Refusal> {
+    let stats = match_stats_raw(list, square, patterns);
+    match Refusal::from_number(stats.refusal) {
+        Some(refusal) => Err(refusal),
+        None => Ok(MatchStats {
+            edges: stats.edges,
+            hits: stats.hits,
+            error_rate: stats.error_rate,
+            mean_confidence: stats.mean_confidence,
+        }),
+    }
+}
+
+/// The same, with the answer as the library gives it.
+pub fn match_stats_raw(list: &EdgeList, square: Square, patterns: Patterns) -> raw::Stats {
+    // Every pointer is a slice's with its length; nothing is written.
+    unsafe {
+        raw::samburext_match_stats(
+            list.rows.as_ptr(),
+            list.rows.len(),
+            list.cols.as_ptr(),
+            list.cols.len(),
+            list.orientations.as_ptr(),
+            list.orientations.len(),
+            list.bits.as_ptr(),
+            list.bits.len(),
+            list.confidences.as_ptr(),
+            list.confidences.len(),
+            square.transform,
+            square.row,
+            square.col,
+            patterns.horizontal.as_ptr(),
+            patterns.horizontal.len(),
+            patterns.vertical.as_ptr(),
+            patterns.vertical.len(),
+        )
+    }
+}

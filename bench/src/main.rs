@@ -9,9 +9,8 @@
 use oracle::{Case, Edge, Found, Likelihood, Random, Ready, Soft, Square};
 use samburext::{decode_hard, decode_soft, EdgeList, Likelihoods, Patterns, Room};
 use std::hint::black_box;
-use std::time::Instant;
 
-const RUNS: usize = 9;
+const RUNS: usize = 25;
 const AT: Square = Square { transform: 2, row: 123, col: 456 };
 
 /// One case for both sides.
@@ -124,32 +123,60 @@ fn all() -> Vec<Bench> {
     list
 }
 
-/// The least time of one call over several runs, in microseconds. A run makes enough calls to last some milliseconds.
-fn least<F: FnMut() -> Option<Found>>(mut call: F) -> f64 {
-    let began = Instant::now();
-    black_box(call());
-    let calls = (0.005 / began.elapsed().as_secs_f64()).clamp(1.0, 1000.0) as u32;
-    let mut best = f64::INFINITY;
-    for _ in 0..RUNS {
-        let began = Instant::now();
-        for _ in 0..calls {
-            black_box(call());
-        }
-        best = best.min(began.elapsed().as_secs_f64() / f64::from(calls));
+/// C's `struct timespec` on 64-bit Linux.
+#[repr(C)]
+struct Timespec {
+    seconds: i64,
+    nanoseconds: i64,
+}
+
+extern "C" {
+    fn clock_gettime(clock: i32, time: *mut Timespec) -> i32;
+}
+
+/// The processor time that this thread has used, in microseconds: on a busy machine the time that it waited does not count.
+fn used() -> f64 {
+    const THREAD: i32 = 3;
+    let mut time = Timespec { seconds: 0, nanoseconds: 0 };
+    let failed = unsafe { clock_gettime(THREAD, &mut time) };
+    assert_eq!(failed, 0, "the clock of this thread");
+    time.seconds as f64 * 1e6 + time.nanoseconds as f64 / 1e3
+}
+
+/// The time of one call in one run of so many, in microseconds.
+fn run_of<F: FnMut() -> Option<Found>>(calls: u32, mut call: F) -> f64 {
+    let began = used();
+    for _ in 0..calls {
+        black_box(call());
     }
-    best * 1e6
+    (used() - began) / f64::from(calls)
+}
+
+/// How many calls last some milliseconds.
+fn calls_of<F: FnMut() -> Option<Found>>(call: F) -> u32 {
+    (2000.0 / run_of(1, call)).clamp(1.0, 1000.0) as u32
+}
+
+/// The least times of one call, ours and the Rust's. The runs of both alternate, so that a busy machine is as hard on one as on the other.
+fn least(bench: &mut Bench) -> (f64, f64) {
+    let (our_calls, rust_calls) = (calls_of(|| bench.ours()), calls_of(|| bench.rust()));
+    let (mut ours, mut rust) = (f64::INFINITY, f64::INFINITY);
+    for _ in 0..RUNS {
+        ours = ours.min(run_of(our_calls, || bench.ours()));
+        rust = rust.min(run_of(rust_calls, || bench.rust()));
+    }
+    (ours, rust)
 }
 
 fn table() {
-    println!("least of {RUNS} runs; both built for release; our room is not cleared between calls, the Rust's tables are allocated zeroed");
+    println!("least of {RUNS} runs, processor time; both built for release; our room is not cleared between calls, the Rust's tables are allocated zeroed");
     println!("| case | answer | ours, µs | Rust, µs | ours / Rust |");
     println!("|---|---|---|---|---|");
     for mut bench in all() {
         let (ours, rust) = (bench.ours(), bench.rust());
         assert_eq!(ours, rust, "{}: the answers differ", bench.name);
         let answer = if ours.is_some() { "found" } else { "refused" };
-        let own = least(|| bench.ours());
-        let given = least(|| bench.rust());
+        let (own, given) = least(&mut bench);
         println!("| {} | {} | {:.0} | {:.0} | {:.2} |", bench.name, answer, own, given, own / given);
     }
 }

@@ -204,6 +204,23 @@ fn soft_finds() {
 }
 
 #[test]
+fn a_list_of_8192_edges_is_taken() {
+    let mut call = call();
+    let mut list = Board::new().window(AT, 64);
+    while list.len() < 8192 {
+        let (row, col, orientation, bit) = (list.rows[0], list.cols[0], list.orientations[0], list.bits[0]);
+        list.push(Edge { row, col, orientation, bit, confidence: 1.0 });
+    }
+    call.logical = list.clone();
+    call.physical = list;
+    call.likelihoods = likelihoods_of(8192);
+    for found in [call.hard(&mut used_room()), call.soft(&mut used_room())] {
+        let found = found.unwrap();
+        assert_eq!((found.square, found.hits, found.edges), (AT, 8192, 8192));
+    }
+}
+
+#[test]
 fn what_the_room_held_has_no_influence() {
     let call = call();
     let mut clean = Room::new();

@@ -60,8 +60,8 @@ enum samburext_refusal {
 typedef struct samburext_answer {
     uint32_t refusal;             /* 0 when found, else a number of samburext_refusal */
     uint32_t transform;           /* the transform's number, 0 to 7 */
-    uint32_t row;                 /* the origin on the board, 0 to 500 */
-    uint32_t col;
+    uint32_t row;                 /* the origin's row on the board, 0 to 500 */
+    uint32_t col;                 /* the origin's column, 0 to 500 */
     uint32_t hits;                /* edges whose bit is the one that the board predicts there */
     uint32_t edges;               /* edges of the list (hard: logical, soft: physical) */
     float weighted_score;         /* hard: confidence of the hits over all confidence; soft: total over edges */
@@ -70,9 +70,9 @@ typedef struct samburext_answer {
     float best_score;             /* hard: the weighted score; soft: the total log likelihood */
     float runner_up_score;        /* the runner-up's hits on the logical list */
     float margin;                 /* hard: hits ahead of the runner-up; soft: (first - second total) over edges */
-    uint32_t runner_up_transform; /* the best competitor on the logical list */
-    uint32_t runner_up_row;
-    uint32_t runner_up_col;
+    uint32_t runner_up_transform; /* the best competitor on the logical list: its transform, */
+    uint32_t runner_up_row;       /* its row */
+    uint32_t runner_up_col;       /* and its column */
 } samburext_answer;
 
 /* The answer of match statistics. */
@@ -134,8 +134,8 @@ samburext_stats samburext_match_stats(
     const uint8_t *bits, size_t bits_length,                 /* its bits */
     const float *confidences, size_t confidences_length,     /* its confidences */
     uint32_t transform,                                      /* the transform's number, 0 to 7 */
-    uint32_t row,                                            /* the origin on the board, 0 to 500 */
-    uint32_t column,
+    uint32_t row,                                            /* the origin's row on the board, 0 to 500 */
+    uint32_t column,                                         /* the origin's column, 0 to 500 */
     const uint8_t *horizontal, size_t horizontal_length, /* the horizontal pattern table: 167 bytes, each 0 to 7 */
     const uint8_t *vertical, size_t vertical_length);    /* the vertical pattern table: 167 bytes, each 0 to 7 */
 

@@ -1,0 +1,74 @@
+//! The given Rust decoders, unchanged, on cases of plain numbers.
+//!
+//! `hard`, `soft`, `selection`, `stats` and `votes` run one case with the pair of maps that it names. A refusal is its number
+//! (`EITHER` where the Rust's own steps do not tell 13 from 15). `Ready` is for timing: a case of maps 0 in the given files' own types.
+
+pub use m0::Ready;
+pub use plain::*;
+
+/// Calls the same function of the compilation that has the case's maps.
+macro_rules! with_maps {
+    ($map:expr, $m:ident => $call:expr) => {
+        match $map {
+            0 => { use m0 as $m; $call }
+            1 => { use m1 as $m; $call }
+            2 => { use m2 as $m; $call }
+            3 => { use m3 as $m; $call }
+            4 => { use m4 as $m; $call }
+            _ => { use m5 as $m; $call }
+        }
+    };
+}
+
+/// Hard decode.
+pub fn hard(case: &Case) -> Result<Found, u32> {
+    with_maps!(case.map, m => m::Ready::new(case).hard_answer())
+}
+
+/// Soft decode.
+pub fn soft(case: &Case) -> Result<Found, u32> {
+    with_maps!(case.map, m => m::Ready::new(case).soft_answer())
+}
+
+/// Hard selection on the logical list before the gate.
+pub fn selection(case: &Case) -> Result<Selected, u32> {
+    with_maps!(case.map, m => m::Ready::new(case).selection())
+}
+
+/// Match statistics of the physical list at a placing.
+pub fn stats(case: &Case, at: &Square) -> Stats {
+    with_maps!(case.map, m => m::Ready::new(case).stats(at))
+}
+
+/// Match and mismatch likelihood of each physical edge.
+pub fn likelihoods(case: &Case) -> Vec<(f32, f32)> {
+    with_maps!(case.map, m => m::Ready::new(case).likelihoods())
+}
+
+/// The voted classes of a list.
+pub fn votes(edges: &[Edge]) -> Vec<Edge> {
+    m0::votes(edges)
+}
+
+/// The two pattern tables, horizontal then vertical.
+pub fn patterns(map: usize) -> (Vec<u8>, Vec<u8>) {
+    with_maps!(map, m => m::patterns())
+}
+
+/// The bit that makes an edge a hit at a placing.
+pub fn true_bit(map: usize, e: &Edge, at: &Square) -> u8 {
+    with_maps!(map, m => m::true_bit(e, at))
+}
+
+#[cfg(test)]
+mod tests {
+    /// The stated property of a board's maps, by the given test, and the patterns as we made them.
+    #[test]
+    fn maps() {
+        assert!(m0::windows_differ() && m1::windows_differ() && !m3::windows_differ());
+        for map in 1..plain::maps::PAIRS {
+            let (h, v) = plain::maps::pair(map);
+            assert_eq!(super::patterns(map), (h.to_vec(), v.to_vec()));
+        }
+    }
+}

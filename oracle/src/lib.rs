@@ -3,6 +3,9 @@
 //! `hard`, `soft`, `selection`, `stats` and `votes` run one case with the pair of maps that it names. A refusal is its number
 //! (`EITHER` where the Rust's own steps do not tell 13 from 15). `Ready` is for timing: a case of maps 0 in the given files' own types.
 
+pub mod cases;
+pub mod file;
+
 pub use m0::Ready;
 pub use plain::*;
 

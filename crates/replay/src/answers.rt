@@ -1,0 +1,114 @@
+// An answer as fifteen words: 0 or the refusal's number, transform, row, column, hits, edges, weighted score, rate, mean, best score, the runner-up's score (before
+// the gate: its hits), margin, and the runner-up's transform, row and column. A place that an answer leaves empty holds 0xffffffff.
+use crate::words::bits_of;
+use hard::scan::Candidate;
+use hard::scan::RunnerUp;
+use hard::select::Selection;
+use puzzleboard::answer::Answer;
+use puzzleboard::answer::Decoded;
+use puzzleboard::answer::StatsAnswer;
+
+// A refusal: its number, and nothing else.
+fn refused(number: u32) -> [u32; 15] {
+    let mut words = [4294967295u32; 15];
+    words[0] = number;
+    words
+}
+
+// What a found answer holds.
+fn found(d: Decoded) -> [u32; 15] {
+    [
+        0,
+        d.square.transform,
+        d.square.row,
+        d.square.col,
+        d.hits,
+        d.edges,
+        bits_of(d.weighted),
+        bits_of(d.rate),
+        bits_of(d.mean),
+        bits_of(d.best),
+        bits_of(d.next),
+        bits_of(d.margin),
+        d.runner.transform,
+        d.runner.row,
+        d.runner.col,
+    ]
+}
+
+// Hard or soft decode.
+pub(crate) fn words_of(a: Answer) -> [u32; 15] {
+    match a {
+        Answer::Found(d) => found(d),
+        Answer::Refused(r) => refused(r.number),
+    }
+}
+
+// Match statistics.
+pub(crate) fn words_of_stats(a: StatsAnswer) -> [u32; 15] {
+    match a {
+        StatsAnswer::Counted(m) => {
+            let mut words = refused(0);
+            words[4] = m.hits;
+            words[5] = m.edges;
+            words[7] = bits_of(m.rate);
+            words[8] = bits_of(m.mean);
+            words
+        }
+        StatsAnswer::Refused(r) => refused(r.number),
+    }
+}
+
+// The share of misses, where there can be any.
+fn rate(edges: u32, hits: u32) -> f32 {
+    if 8192 < edges {
+        return 0.0 / 0.0;
+    }
+    if edges < hits {
+        return 0.0 / 0.0;
+    }
+    figures::rate(edges, hits)
+}
+
+// The mean confidence of so many hits.
+fn mean(hits: u32, weight: f32) -> f32 {
+    if 8192 < hits {
+        return 0.0 / 0.0;
+    }
+    figures::mean(hits, weight)
+}
+
+// A winner under its transform, with its runner-up, of a list of so many edges.
+fn selected(transform: u8, w: Candidate, next: RunnerUp, edges: u32) -> [u32; 15] {
+    let mut words = refused(0);
+    words[1] = transform as u32;
+    words[2] = w.row;
+    words[3] = w.col;
+    words[4] = w.hits;
+    words[5] = edges;
+    words[6] = bits_of(w.score);
+    words[7] = bits_of(rate(edges, w.hits));
+    words[8] = bits_of(mean(w.hits, w.weight));
+    words[10] = next.hits;
+    words[12] = next.transform as u32;
+    words[13] = next.row;
+    words[14] = next.col;
+    words
+}
+
+// The transform at a place of the list; 255 where there is none.
+fn listed(transforms: &[u8], place: usize) -> u8 {
+    if place < transforms.len() {
+        transforms[place]
+    } else {
+        255
+    }
+}
+
+// Selection before the gate.
+pub(crate) fn words_of_selection(s: Selection, transforms: &[u8], edges: u32) -> [u32; 15] {
+    match s {
+        Selection::Selected(w, next) => { selected(listed(transforms, w.place), w, next, edges) }
+        Selection::Refused(number) => refused(number),
+    }
+}

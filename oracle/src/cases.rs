@@ -1,0 +1,299 @@
+//! Cases with a fixed seed: windows of a board with wrong bits, hostile lists, class pairs around 1,024, long lists.
+
+use crate::{true_bit, votes, Case, Edge, Likelihood, Random, Soft, Square};
+
+/// One of these.
+fn pick<T: Copy>(r: &mut Random, from: &[T]) -> T {
+    from[r.below(from.len() as u64) as usize]
+}
+
+pub fn placing(r: &mut Random) -> Square {
+    Square { transform: r.below(8) as u32, row: r.below(501) as i32, col: r.below(501) as i32 }
+}
+
+/// Transform lists in search order: the four rotations, all eight, one alone, any, and one that comes twice. The true one is mostly listed.
+fn transforms(r: &mut Random, truth: u32) -> Vec<u8> {
+    let mut list: Vec<u8> = match r.below(20) {
+        0..=7 => (0..4).collect(),
+        8..=11 => (0..8).collect(),
+        12..=14 => vec![truth as u8],
+        15..=17 => (0..1 + r.below(8)).map(|_| r.below(8) as u8).collect(),
+        18 => (0..8).rev().collect(),
+        _ => vec![truth as u8, r.below(8) as u8, truth as u8],
+    };
+    if !r.once_in(8) && !list.contains(&(truth as u8)) {
+        let at = r.below(list.len() as u64) as usize;
+        list[at] = truth as u8;
+    }
+    list
+}
+
+/// A confidence by a style: all 1, any, a few levels, hostile ones (0, -0, 1, subnormal, tiny), small ones.
+fn confidence(r: &mut Random, style: u64) -> f32 {
+    match style {
+        0 => 1.0,
+        1 | 2 => r.unit(),
+        3 => pick(r, &[0.25, 0.5, 0.75, 1.0]),
+        4 => {
+            let any = r.unit();
+            pick(r, &[0.0, -0.0, 1.0, 1e-45, f32::MIN_POSITIVE, 1e-40, 0.1, any, 1.0 - f32::EPSILON / 2.0])
+        }
+        _ => r.unit() * 1e-3,
+    }
+}
+
+/// What the soft scorer is given: mostly the Rust's own numbers, else scattered likelihoods of every size.
+fn soft(r: &mut Random) -> Soft {
+    let seed = r.next() as u32;
+    let scale = pick(r, &[1.0, 0.25, 6.0, 65536.0, 1e-6, 1e-7]);
+    let margin = pick(r, &[0.02, 0.02, 0.0, 0.0, 0.1, 1e-4, 1.0, 50.0]);
+    if r.once_in(4) {
+        return Soft { likelihood: Likelihood::Scattered { seed, scale }, kappa: 1.0, floor: -65536.0, margin };
+    }
+    let (kappa, floor) = pick(r, &[(12.0, -6.0), (12.0, -6.0), (4.0, -20.0), (0.5, -0.5), (100.0, -65536.0)]);
+    Soft { likelihood: Likelihood::Sigmoid, kappa, floor, margin }
+}
+
+fn limit(r: &mut Random) -> f32 {
+    let any = r.unit();
+    pick(r, &[0.3, 0.3, 0.4, 0.1, 0.05, 0.0, 1.0, 1.0, any])
+}
+
+/// Which maps: mostly a board's, seldom degenerate ones.
+fn map(r: &mut Random) -> usize {
+    match r.below(40) {
+        0..=15 => 0,
+        16..=31 => 1,
+        32..=35 => 3,
+        36 | 37 => 4,
+        38 => 2,
+        _ => 5,
+    }
+}
+
+/// How far a window's corner is from the list's zero.
+fn corner(r: &mut Random) -> i32 {
+    match r.below(12) {
+        0 => 999_900,
+        1 => -1_000_000,
+        2..=4 => r.below(1001) as i32 - 500,
+        _ => 0,
+    }
+}
+
+/// The edges of a window as a camera at the placing sees them: some left out, some bits wrong.
+pub fn window(r: &mut Random, map: usize, at: &Square, squares: i32) -> Vec<Edge> {
+    let style = r.below(6);
+    let wrong = pick(r, &[0, 0, 10, 50, 100, 200]);
+    let missing = pick(r, &[0, 0, 100, 400]);
+    let (row0, col0) = (corner(r), corner(r));
+    let mut edges = Vec::new();
+    for row in 0..squares {
+        for col in 0..squares {
+            for orientation in 0..2 {
+                if r.below(1000) < missing {
+                    continue;
+                }
+                let e = Edge { row: row0 + row, col: col0 + col, orientation, bit: 0, confidence: confidence(r, style) };
+                let flip = u8::from(r.below(1000) < wrong);
+                edges.push(Edge { bit: true_bit(map, &e, at) ^ flip, ..e });
+            }
+        }
+    }
+    if r.once_in(5) {
+        for i in (1..edges.len()).rev() {
+            edges.swap(i, r.below(i as u64 + 1) as usize);
+        }
+    }
+    edges
+}
+
+/// Window sizes from 4 to 48 squares, mostly small.
+pub fn squares(r: &mut Random, large: bool) -> i32 {
+    match r.below(if large { 40 } else { 38 }) {
+        0..=24 => 4 + r.below(4) as i32,
+        25..=35 => 7 + r.below(6) as i32,
+        36 | 37 => 12 + r.below(5) as i32,
+        _ => 16 + r.below(33) as i32,
+    }
+}
+
+/// A window, with the logical list by the Rust's own consensus, the physical list itself, or another window.
+pub fn view(r: &mut Random, large: bool) -> Case {
+    let map = map(r);
+    let at = placing(r);
+    let size = squares(r, large);
+    let physical = window(r, map, &at, size);
+    let logical = match r.below(12) {
+        0 => physical.clone(),
+        1 => {
+            let mut other = placing(r);
+            other.transform = at.transform;
+            votes(&window(r, map, &other, size))
+        }
+        _ => votes(&physical),
+    };
+    Case { map, logical, physical, transforms: transforms(r, at.transform), limit: limit(r), soft: soft(r) }
+}
+
+/// One edge with nothing true about it.
+fn any_edge(r: &mut Random, spread: u64, style: u64) -> Edge {
+    let far = |r: &mut Random| match r.below(8) {
+        0 => pick(r, &[1_000_000, -1_000_000, 999_999, -999_999, -1, 166, 167, 501]),
+        _ => r.below(2 * spread + 1) as i32 - spread as i32,
+    };
+    Edge {
+        row: far(r),
+        col: far(r),
+        orientation: r.below(2) as u8,
+        bit: r.below(2) as u8,
+        confidence: confidence(r, style),
+    }
+}
+
+/// Few edges, repeated ones, both bits of one place, far and negative coordinates, hostile confidences, one orientation only.
+pub fn hostile(r: &mut Random) -> Case {
+    let map = map(r);
+    let lists = [0, 1].map(|_| {
+        let (spread, style) = (pick(r, &[1, 3, 10, 1_000_000]), r.below(6));
+        let most = pick(r, &[3, 8, 60]);
+        let mut edges: Vec<Edge> = (0..1 + r.below(most)).map(|_| any_edge(r, spread, style)).collect();
+        if r.once_in(3) {
+            let turned: Vec<Edge> = edges.iter().map(|e| Edge { bit: 1 - e.bit, ..*e }).collect();
+            edges.extend(turned);
+        }
+        if r.once_in(3) {
+            let again = edges.clone();
+            edges.extend(again);
+        }
+        if r.once_in(4) {
+            edges.iter_mut().for_each(|e| e.orientation = 0);
+        }
+        if r.once_in(16) {
+            edges.iter_mut().for_each(|e| e.confidence = pick(r, &[0.0, -0.0]));
+        }
+        edges
+    });
+    let [logical, mut physical] = lists;
+    if r.once_in(2) {
+        physical = logical.clone();
+    }
+    let truth = r.below(8) as u32;
+    Case { map, logical, physical, transforms: transforms(r, truth), limit: limit(r), soft: soft(r) }
+}
+
+/// How many cells of one map's side have the most hits, for edges of one orientation under transform 0.
+fn optimal(map: usize, edges: &[Edge]) -> usize {
+    let mut counts = Vec::new();
+    for long in 0..167 {
+        for short in 0..3 {
+            // an origin of that class: (row, column) by the side's own residues
+            let at = if edges[0].orientation == 0 {
+                Square { transform: 0, row: long, col: short }
+            } else {
+                Square { transform: 0, row: short, col: long }
+            };
+            counts.push(edges.iter().filter(|e| true_bit(map, e, &at) == e.bit).count());
+        }
+    }
+    let most = counts.iter().max().copied().unwrap_or(0);
+    counts.iter().filter(|&&n| n == most).count()
+}
+
+/// Lists whose optimal class pairs under transform 0 are 1,023 to 1,026 in number.
+pub struct Pairs {
+    sides: [Vec<Vec<Edge>>; 2],
+    sizes: [Vec<usize>; 2],
+    map: usize,
+}
+
+impl Pairs {
+    /// Some lists of each orientation, and how many optimal cells each has.
+    pub fn new(r: &mut Random, map: usize) -> Self {
+        let mut sides = [Vec::new(), Vec::new()];
+        let mut sizes = [Vec::new(), Vec::new()];
+        for _ in 0..600 {
+            let side = r.below(2) as usize;
+            let few: Vec<Edge> = (0..1 + r.below(6))
+                .map(|_| Edge { orientation: side as u8, confidence: 1.0, ..any_edge(r, 4, 0) })
+                .collect();
+            sizes[side].push(optimal(map, &few));
+            sides[side].push(few);
+        }
+        Self { sides, sizes, map }
+    }
+
+    /// A list with `product` optimal pairs, if some two lists have it.
+    pub fn case(&self, r: &mut Random, product: usize) -> Option<Case> {
+        let start = r.below(self.sides[0].len() as u64) as usize;
+        for k in 0..self.sides[0].len() {
+            let i = (start + k) % self.sides[0].len();
+            for j in 0..self.sides[1].len() {
+                if self.sizes[0][i] * self.sizes[1][j] == product {
+                    let scale = pick(r, &[1.0, 0.1, 0.7]);
+                    let mut list: Vec<Edge> = self.sides[0][i].iter().chain(&self.sides[1][j]).copied().collect();
+                    list.iter_mut().for_each(|e| e.confidence = scale);
+                    let others = if r.once_in(2) { vec![0] } else { vec![0, r.below(8) as u8] };
+                    return Some(Case {
+                        map: self.map,
+                        logical: list.clone(),
+                        physical: list,
+                        transforms: others,
+                        limit: 1.0,
+                        soft: soft(r),
+                    });
+                }
+            }
+        }
+        None
+    }
+}
+
+/// A list of so many edges: a large window, from its first edge on.
+pub fn long(r: &mut Random, edges: usize) -> Case {
+    let at = placing(r);
+    let mut physical = window(r, 0, &at, 64);
+    while physical.len() < edges {
+        let again = physical.clone();
+        physical.extend(again);
+    }
+    physical.truncate(edges);
+    let logical = if r.once_in(2) { physical.clone() } else { votes(&physical) };
+    Case { map: 0, logical, physical, transforms: transforms(r, at.transform), limit: limit(r), soft: soft(r) }
+}
+
+/// A clean view that is found, bent so that one step refuses: 10 and 11 in either list, 12, 13, 14 and 15.
+pub fn refused(r: &mut Random) -> Case {
+    let mut case = view(r, false);
+    case.map = 0;
+    let at = placing(r);
+    let size = 6 + r.below(5) as i32;
+    let clean = |r: &mut Random, at: &Square| {
+        let mut edges = window(r, 0, at, size);
+        edges.iter_mut().for_each(|e| {
+            let (row, col) = (e.row.rem_euclid(size), e.col.rem_euclid(size));
+            *e = Edge { row, col, confidence: 0.5 + e.confidence / 2.0, ..*e };
+            e.bit = true_bit(0, e, at);
+        });
+        edges
+    };
+    let physical = clean(r, &at);
+    let other = Square { row: (at.row + 1 + r.below(400) as i32) % 501, ..at };
+    case.logical = votes(&physical);
+    case.physical = physical;
+    case.transforms = vec![at.transform as u8, (at.transform as u8 + 1) % 8];
+    case.limit = 0.3;
+    case.soft = Soft { likelihood: Likelihood::Sigmoid, kappa: 12.0, floor: -6.0, margin: 0.02 };
+    match r.below(7) {
+        0 => case.logical.iter_mut().for_each(|e| e.confidence = 0.0),
+        1 => case.physical.iter_mut().for_each(|e| e.confidence = -0.0),
+        2 => {
+            case.logical.iter_mut().step_by(2).for_each(|e| e.bit = 1 - e.bit);
+            case.limit = 0.01;
+        }
+        3 | 4 => case.logical = votes(&clean(r, &other)),
+        5 => case.transforms.push(at.transform as u8),
+        _ => case.soft.margin = pick(r, &[10.0, 3.0, 65536.0]),
+    }
+    case
+}

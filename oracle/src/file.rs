@@ -1,0 +1,179 @@
+//! The file of cases and answers that the program `replay` reads: little-endian u32 words, i32 and f32 as their bits.
+//!
+//! First the number of entries. Then each entry: its kind and what it holds.
+//! - 0: two pattern tables, horizontal then vertical, each a length and its entries, for all calls that follow.
+//! - 1 hard decode, 2 soft decode, 3 match statistics of the physical list, 4 hard selection on the logical list before the gate:
+//!   a call (see `Call`), then the answer's 15 words.
+
+use crate::{Case, Edge, Found, Selected, Square, Stats};
+
+pub const TABLES: u32 = 0;
+pub const HARD: u32 = 1;
+pub const SOFT: u32 = 2;
+pub const STATS: u32 = 3;
+pub const SELECTION: u32 = 4;
+
+/// What no answer holds: it stands in every place that a refusal, or a kind of call, leaves empty.
+pub const EMPTY: u32 = u32::MAX;
+
+/// The answer's words: 0 or the refusal's number, transform, row, column, hits, edges, weighted score, rate, mean, best score,
+/// runner-up's score (before the gate: its hits), margin, and the runner-up's transform, row and column.
+pub type Words = [u32; 15];
+
+fn square(words: &mut Words, at: usize, s: &Square) {
+    words[at] = s.transform;
+    words[at + 1] = s.row as u32;
+    words[at + 2] = s.col as u32;
+}
+
+pub fn refused(number: u32) -> Words {
+    let mut words = [EMPTY; 15];
+    words[0] = number;
+    words
+}
+
+pub fn found(f: &Found) -> Words {
+    let mut words = [0; 15];
+    square(&mut words, 1, &f.square);
+    words[4] = f.hits;
+    words[5] = f.edges;
+    for (i, x) in [f.weighted, f.rate, f.mean, f.best, f.next, f.margin].iter().enumerate() {
+        words[6 + i] = x.to_bits();
+    }
+    square(&mut words, 12, &f.runner);
+    words
+}
+
+pub fn selected(s: &Selected) -> Words {
+    let mut words = refused(0);
+    square(&mut words, 1, &s.square);
+    words[4] = s.hits;
+    words[5] = s.edges;
+    for (i, x) in [s.weighted, s.rate, s.mean].iter().enumerate() {
+        words[6 + i] = x.to_bits();
+    }
+    words[10] = s.runner_hits;
+    square(&mut words, 12, &s.runner);
+    words
+}
+
+pub fn counted(s: &Stats) -> Words {
+    let mut words = refused(0);
+    words[4] = s.hits;
+    words[5] = s.edges;
+    words[7] = s.rate.to_bits();
+    words[8] = s.mean.to_bits();
+    words
+}
+
+/// The columns of one list; their lengths differ only where a refusal is asked for.
+#[derive(Clone, Debug, Default)]
+pub struct Columns {
+    pub rows: Vec<u32>,
+    pub cols: Vec<u32>,
+    pub orientations: Vec<u32>,
+    pub bits: Vec<u32>,
+    pub confidences: Vec<u32>,
+}
+
+impl Columns {
+    pub fn of(edges: &[Edge]) -> Self {
+        Self {
+            rows: edges.iter().map(|e| e.row as u32).collect(),
+            cols: edges.iter().map(|e| e.col as u32).collect(),
+            orientations: edges.iter().map(|e| e.orientation as u32).collect(),
+            bits: edges.iter().map(|e| e.bit as u32).collect(),
+            confidences: edges.iter().map(|e| e.confidence.to_bits()).collect(),
+        }
+    }
+}
+
+/// One call as the file holds it: lengths of the lent room (u32, f32, i64), the logical list, the physical list, its likelihoods,
+/// transforms, limit, margin, and the placing for match statistics.
+#[derive(Clone, Debug)]
+pub struct Call {
+    pub kind: u32,
+    pub room: [u32; 3],
+    pub logical: Columns,
+    pub physical: Columns,
+    pub matches: Vec<u32>,
+    pub mismatches: Vec<u32>,
+    pub transforms: Vec<u32>,
+    pub limit: u32,
+    pub margin: u32,
+    pub at: [u32; 3],
+}
+
+/// Room that is long enough, with four places of surplus.
+pub const ROOM: [u32; 3] = [3010, 3010, 5014];
+
+impl Call {
+    /// A call of the Rust's case; lists that the kind does not take are left empty.
+    pub fn of(kind: u32, case: &Case, likelihoods: &[(f32, f32)], at: &Square) -> Self {
+        let list = |used: bool, edges: &[Edge]| if used { Columns::of(edges) } else { Columns::default() };
+        let column = |f: fn(&(f32, f32)) -> f32| {
+            let used = if kind == SOFT { likelihoods } else { &[] };
+            used.iter().map(|p| f(p).to_bits()).collect::<Vec<u32>>()
+        };
+        Self {
+            kind,
+            room: ROOM,
+            logical: list(kind != STATS, &case.logical),
+            physical: list(kind != SELECTION, &case.physical),
+            matches: column(|p| p.0),
+            mismatches: column(|p| p.1),
+            transforms: case.transforms.iter().map(|&t| t as u32).collect(),
+            limit: case.limit.to_bits(),
+            margin: case.soft.margin.to_bits(),
+            at: [at.transform, at.row as u32, at.col as u32],
+        }
+    }
+}
+
+/// A file being made.
+#[derive(Default)]
+pub struct File {
+    entries: u32,
+    words: Vec<u32>,
+}
+
+impl File {
+    fn column(&mut self, column: &[u32]) {
+        self.words.push(column.len() as u32);
+        self.words.extend(column);
+    }
+
+    pub fn tables(&mut self, h: &[u8], v: &[u8]) {
+        self.entries += 1;
+        self.words.push(TABLES);
+        for table in [h, v] {
+            let entries: Vec<u32> = table.iter().map(|&p| p as u32).collect();
+            self.column(&entries);
+        }
+    }
+
+    pub fn call(&mut self, call: &Call, answer: &Words) {
+        self.entries += 1;
+        self.words.push(call.kind);
+        self.words.extend(call.room);
+        for list in [&call.logical, &call.physical] {
+            for column in [&list.rows, &list.cols, &list.orientations, &list.bits, &list.confidences] {
+                self.column(column);
+            }
+        }
+        for column in [&call.matches, &call.mismatches, &call.transforms] {
+            self.column(column);
+        }
+        self.words.extend([call.limit, call.margin]);
+        self.words.extend(call.at);
+        self.words.extend(answer);
+    }
+
+    pub fn write(&self, path: &str) -> std::io::Result<()> {
+        let mut bytes = self.entries.to_le_bytes().to_vec();
+        for word in &self.words {
+            bytes.extend(word.to_le_bytes());
+        }
+        std::fs::write(path, bytes)
+    }
+}

@@ -193,19 +193,29 @@ impl Ready {
     }
 
     /// 13 if the soft winner is the placing w, which the gate does not let pass, and 15 if it is another. A clean window at w in place
-    /// of the logical list is passed exactly if the soft winner is w. Where no window tells w apart (degenerate maps), either.
+    /// of the logical list is passed exactly if the soft winner is w. Where no window tells w apart (degenerate maps), either. A
+    /// transform that is listed again can't win, since first place goes to strictly greater scores, and is left out here: its twin
+    /// would keep every window from passing.
     fn soft_winner_is(&self, w: &Square) -> u32 {
+        let mut once: Vec<GridTransform> = Vec::new();
+        for &t in &self.transforms {
+            if !once.contains(&t) {
+                once.push(t);
+            }
+        }
         let t = transform(w.transform as u8).with_translation([w.col, w.row]);
         for squares in [12, 40] {
             let window = clean_window(&t, squares);
-            let told = match selected(&window, &self.transforms, 1.0) {
+            let told = match selected(&window, &once, 1.0) {
                 Ok((s, next)) => {
                     winner(&s) == *w && BoardRect::gate(window.len(), s.edges_matched as u32, next.matched)
                 }
                 Err(_) => false,
             };
             if told {
-                return if self.soft_with(&window, 1.0).is_some() { 13 } else { 15 };
+                let cfg = SoftLlConfig { alignment_min_margin: f32::NEG_INFINITY, ..config(&self.soft) };
+                let same = detector::decode::decode_soft(&self.physical, &window, &once, &cfg, 1.0).is_some();
+                return if same { 13 } else { 15 };
             }
         }
         EITHER

@@ -13,12 +13,13 @@ pub fn placing(r: &mut Random) -> Square {
 
 /// Transform lists in search order: the four rotations, all eight, one alone, any, and one that comes twice. The true one is mostly listed.
 fn transforms(r: &mut Random, truth: u32) -> Vec<u8> {
-    let mut list: Vec<u8> = match r.below(20) {
-        0..=7 => (0..4).collect(),
-        8..=11 => (0..8).collect(),
-        12..=14 => vec![truth as u8],
-        15..=17 => (0..1 + r.below(8)).map(|_| r.below(8) as u8).collect(),
-        18 => (0..8).rev().collect(),
+    let mut list: Vec<u8> = match r.below(40) {
+        0..=11 => (0..4).collect(),
+        12 | 13 => (0..8).collect(),
+        14..=23 => vec![truth as u8],
+        24..=31 => vec![r.below(8) as u8, r.below(8) as u8],
+        32..=36 => (0..1 + r.below(4)).map(|_| r.below(8) as u8).collect(),
+        37 => (0..8).rev().collect(),
         _ => vec![truth as u8, r.below(8) as u8, truth as u8],
     };
     if !r.once_in(8) && !list.contains(&(truth as u8)) {
@@ -46,17 +47,19 @@ fn confidence(r: &mut Random, style: u64) -> f32 {
 fn soft(r: &mut Random) -> Soft {
     let seed = r.next() as u32;
     let scale = pick(r, &[1.0, 0.25, 6.0, 65536.0, 1e-6, 1e-7]);
-    let margin = pick(r, &[0.02, 0.02, 0.0, 0.0, 0.1, 1e-4, 1.0, 50.0]);
-    if r.once_in(4) {
+    let margin = pick(r, &[0.02, 0.02, 0.02, 0.0, 0.0, 0.0, 0.1, 1e-4, 1.0]);
+    if r.once_in(6) {
         return Soft { likelihood: Likelihood::Scattered { seed, scale }, kappa: 1.0, floor: -65536.0, margin };
     }
     let (kappa, floor) = pick(r, &[(12.0, -6.0), (12.0, -6.0), (4.0, -20.0), (0.5, -0.5), (100.0, -65536.0)]);
     Soft { likelihood: Likelihood::Sigmoid, kappa, floor, margin }
 }
 
-fn limit(r: &mut Random) -> f32 {
+/// The error limit; now and then exactly the rate of some number of misses.
+fn limit(r: &mut Random, edges: usize) -> f32 {
     let any = r.unit();
-    pick(r, &[0.3, 0.3, 0.4, 0.1, 0.05, 0.0, 1.0, 1.0, any])
+    let rate = r.below(1 + edges as u64 / 4) as f32 / edges.max(1) as f32;
+    pick(r, &[0.3, 0.3, 0.3, 0.4, 0.1, 0.0, 1.0, 1.0, rate, any])
 }
 
 /// Which maps: mostly a board's, seldom degenerate ones.
@@ -84,7 +87,7 @@ fn corner(r: &mut Random) -> i32 {
 /// The edges of a window as a camera at the placing sees them: some left out, some bits wrong.
 pub fn window(r: &mut Random, map: usize, at: &Square, squares: i32) -> Vec<Edge> {
     let style = r.below(6);
-    let wrong = pick(r, &[0, 0, 10, 50, 100, 200]);
+    let wrong = pick(r, &[0, 0, 0, 10, 50, 100, 200]);
     let missing = pick(r, &[0, 0, 100, 400]);
     let (row0, col0) = (corner(r), corner(r));
     let mut edges = Vec::new();
@@ -108,21 +111,21 @@ pub fn window(r: &mut Random, map: usize, at: &Square, squares: i32) -> Vec<Edge
     edges
 }
 
-/// Window sizes from 4 to 48 squares, mostly small.
-pub fn squares(r: &mut Random, large: bool) -> i32 {
-    match r.below(if large { 40 } else { 38 }) {
-        0..=24 => 4 + r.below(4) as i32,
-        25..=35 => 7 + r.below(6) as i32,
-        36 | 37 => 12 + r.below(5) as i32,
+/// Window sizes from 4 squares on, mostly small.
+pub fn squares(r: &mut Random) -> i32 {
+    match r.below(400) {
+        0..=59 => 4 + r.below(2) as i32,
+        60..=259 => 6 + r.below(3) as i32,
+        260..=379 => 8 + r.below(5) as i32,
+        380..=398 => 12 + r.below(5) as i32,
         _ => 16 + r.below(33) as i32,
     }
 }
 
 /// A window, with the logical list by the Rust's own consensus, the physical list itself, or another window.
-pub fn view(r: &mut Random, large: bool) -> Case {
+pub fn view(r: &mut Random, size: i32) -> Case {
     let map = map(r);
     let at = placing(r);
-    let size = squares(r, large);
     let physical = window(r, map, &at, size);
     let logical = match r.below(12) {
         0 => physical.clone(),
@@ -133,7 +136,14 @@ pub fn view(r: &mut Random, large: bool) -> Case {
         }
         _ => votes(&physical),
     };
-    Case { map, logical, physical, transforms: transforms(r, at.transform), limit: limit(r), soft: soft(r) }
+    let limit = limit(r, logical.len());
+    let mut case = Case { map, logical, physical, transforms: transforms(r, at.transform), limit, soft: soft(r) };
+    if r.once_in(2) {
+        // as the pipeline calls it
+        case.limit = 0.3;
+        case.soft = Soft { likelihood: Likelihood::Sigmoid, kappa: 12.0, floor: -6.0, margin: pick(r, &[0.02, 0.0]) };
+    }
+    case
 }
 
 /// One edge with nothing true about it.
@@ -179,7 +189,8 @@ pub fn hostile(r: &mut Random) -> Case {
         physical = logical.clone();
     }
     let truth = r.below(8) as u32;
-    Case { map, logical, physical, transforms: transforms(r, truth), limit: limit(r), soft: soft(r) }
+    let limit = limit(r, logical.len());
+    Case { map, logical, physical, transforms: transforms(r, truth), limit, soft: soft(r) }
 }
 
 /// How many cells of one map's side have the most hits, for edges of one orientation under transform 0.
@@ -249,6 +260,30 @@ impl Pairs {
     }
 }
 
+/// Cells whose weights differ so little that rounded sums tie: each edge may be seen again with the other bit and the next smaller
+/// confidence, beside heavier edges. From 1,025 optimal pairs on the first origin of all that tie wins, below that the first optimal one.
+pub fn near_tie(r: &mut Random) -> Case {
+    let map = pick(r, &[0, 3, 4, 4]);
+    let mut logical = Vec::new();
+    let mut physical = Vec::new();
+    let few = 1 + r.below(3);
+    for i in 0..2 + few {
+        let confidence = pick(r, &[1.0, 0.5, 0.3]);
+        let e = Edge { orientation: (i % 2) as u8, confidence, ..any_edge(r, 3, 0) };
+        for _ in 0..pick(r, &[1, 1, 4, 9]) {
+            logical.push(e);
+            physical.push(e);
+        }
+        if r.once_in(2) {
+            let turned = Edge { bit: 1 - e.bit, ..e };
+            logical.push(Edge { confidence: f32::from_bits(confidence.to_bits() - 1), ..turned });
+            physical.push(Edge { confidence: confidence / 2.0, ..turned });
+        }
+    }
+    let transforms = if r.once_in(2) { vec![0] } else { vec![0, r.below(8) as u8] };
+    Case { map, logical, physical, transforms, limit: 1.0, soft: soft(r) }
+}
+
 /// A list of so many edges: a large window, from its first edge on.
 pub fn long(r: &mut Random, edges: usize) -> Case {
     let at = placing(r);
@@ -259,12 +294,13 @@ pub fn long(r: &mut Random, edges: usize) -> Case {
     }
     physical.truncate(edges);
     let logical = if r.once_in(2) { physical.clone() } else { votes(&physical) };
-    Case { map: 0, logical, physical, transforms: transforms(r, at.transform), limit: limit(r), soft: soft(r) }
+    let limit = limit(r, logical.len());
+    Case { map: 0, logical, physical, transforms: transforms(r, at.transform), limit, soft: soft(r) }
 }
 
 /// A clean view that is found, bent so that one step refuses: 10 and 11 in either list, 12, 13, 14 and 15.
 pub fn refused(r: &mut Random) -> Case {
-    let mut case = view(r, false);
+    let mut case = view(r, 4);
     case.map = 0;
     let at = placing(r);
     let size = 6 + r.below(5) as i32;

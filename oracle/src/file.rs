@@ -54,6 +54,10 @@ pub fn selected(s: &Selected) -> Words {
     }
     words[10] = s.runner_hits;
     square(&mut words, 12, &s.runner);
+    if s.runner_hits == s.hits && s.runner.transform == s.square.transform {
+        // a tie inside the winner's transform: "its place never shows, for the gate refuses"
+        words[13..15].fill(EMPTY);
+    }
     words
 }
 

@@ -78,7 +78,8 @@ fn mean(hits: u32, weight: f32) -> f32 {
     figures::mean(hits, weight)
 }
 
-// A winner under its transform, with its runner-up, of a list of so many edges.
+// A winner under its transform, with its runner-up, of a list of so many edges. A tie inside the winner's transform is a runner-up whose place never shows, for the gate
+// refuses: its row and column are left empty.
 fn selected(transform: u8, w: Candidate, next: RunnerUp, edges: u32) -> [u32; 15] {
     let mut words = refused(0);
     words[1] = transform as u32;
@@ -91,8 +92,10 @@ fn selected(transform: u8, w: Candidate, next: RunnerUp, edges: u32) -> [u32; 15
     words[8] = bits_of(mean(w.hits, w.weight));
     words[10] = next.hits;
     words[12] = next.transform as u32;
-    words[13] = next.row;
-    words[14] = next.col;
+    if next.hits != w.hits || next.transform != transform {
+        words[13] = next.row;
+        words[14] = next.col;
+    }
     words
 }
 

@@ -1,6 +1,6 @@
 //! generate KIND COUNT SEED FILE: COUNT fresh cases with the Rust's answers, in the form that `replay` reads.
 //!
-//! KIND is `small` (mostly small windows) or `sample` (the stored sample: some large windows and long lists as well).
+//! KIND is `fresh` (for a long comparison) or `sample` (for the stored sample).
 
 use oracle::cases::{self, Pairs};
 use oracle::file::{self, Call, File, Words};
@@ -20,18 +20,37 @@ fn answer(kind: u32, case: &Case, at: &Square) -> Words {
     }
 }
 
-/// Case i: every kind of case comes in turn, so that a short run has them all.
+/// Case i: every kind of case comes in turn, so that a short run has them all. The sample has a few large ones in fixed places and is
+/// small otherwise, so that it can be stored.
 fn case(i: usize, r: &mut Random, pairs: &[Pairs], sample: bool) -> Option<Case> {
-    match i % 20 {
-        0 | 1 => Some(cases::hostile(r)),
-        2 | 3 => Some(cases::refused(r)),
-        4 if i % 60 == 4 => {
+    match (i % 20, sample, i) {
+        (_, true, 101) => Some(cases::view(r, 48)),
+        (_, true, 201) => Some(cases::view(r, 24)),
+        (_, true, 301) => Some(cases::long(r, 8192)),
+        (_, false, 7) => {
+            let fewer = r.below(2) * r.below(6000);
+            Some(cases::long(r, 8192 - fewer as usize))
+        }
+        (0 | 1, ..) => Some(cases::hostile(r)),
+        (2, ..) => Some(cases::refused(r)),
+        (3, ..) if i % 40 == 3 => Some(cases::near_tie(r)),
+        (4, false, _) if i % 60 != 4 => Some(cases::refused(r)),
+        (4, ..) => {
             let pool = &pairs[r.below(pairs.len() as u64) as usize];
             let product = 1023 + r.below(4) as usize;
             pool.case(r, product)
         }
-        5 if sample && i % 200 == 5 => Some(cases::long(r, 2000 + 6192 * (i / 200 % 2))),
-        _ => Some(cases::view(r, sample && i % 5 == 0)),
+        _ => {
+            let size = cases::squares(r);
+            Some(cases::view(r, if sample { size.min(9) } else { size }))
+        }
+    }
+}
+
+/// A soft margin that is exactly the found one, or the next float above it, which is refused.
+fn at_the_margin(case: &mut Case, r: &mut Random) {
+    if let (true, Ok(f)) = (r.once_in(3), oracle::soft(case)) {
+        case.soft.margin = f32::from_bits(f.margin.to_bits() + r.below(2) as u32).min(65536.0);
     }
 }
 
@@ -43,14 +62,12 @@ fn main() {
     let seed: u64 = words[3].parse().expect("a seed");
     let mut r = Random(seed);
     let pairs: Vec<Pairs> = [0, 3, 4].iter().map(|&map| Pairs::new(&mut r, map)).collect();
-    let mut file = File::default();
-    let mut map = usize::MAX;
-    let mut made = 0;
+    let mut made: Vec<(usize, Call, Words)> = Vec::new();
     for i in 0.. {
-        if made == count {
+        if made.len() == count {
             break;
         }
-        let Some(case) = case(i, &mut r, &pairs, sample) else { continue };
+        let Some(mut case) = case(i, &mut r, &pairs, sample) else { continue };
         if case.logical.is_empty() || case.physical.is_empty() {
             continue;
         }
@@ -60,14 +77,23 @@ fn main() {
             17 => file::STATS,
             _ => file::SELECTION,
         };
-        if case.map != map {
-            map = case.map;
-            let (h, v) = oracle::patterns(map);
-            file.tables(&h, &v);
+        if kind == file::SOFT {
+            at_the_margin(&mut case, &mut r);
         }
         let at = cases::placing(&mut r);
-        file.call(&Call::of(kind, &case, &oracle::likelihoods(&case), &at), &answer(kind, &case, &at));
-        made += 1;
+        let call = Call::of(kind, &case, &oracle::likelihoods(&case), &at);
+        made.push((case.map, call, answer(kind, &case, &at)));
+    }
+    made.sort_by_key(|m| m.0);
+    let mut file = File::default();
+    let mut before = usize::MAX;
+    for (map, call, answer) in made {
+        if map != before {
+            let (h, v) = oracle::patterns(map);
+            file.tables(&h, &v);
+            before = map;
+        }
+        file.call(&call, &answer);
     }
     file.write(&words[4]).expect("the file");
 }

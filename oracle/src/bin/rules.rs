@@ -1,0 +1,232 @@
+//! rules FILE WRONG: cases of our own for refusals 1 to 9, whose answers are document 01's and not the Rust's; and a file whose
+//! answers are wrong on purpose, by which `replay` shows that it reports every word that differs.
+
+
+use oracle::file::{self, Call, Columns, File, Words};
+use oracle::{Case, Edge, Likelihood, Soft, Square};
+
+const NAN: u32 = 0x7fc0_0000;
+const INFINITY: u32 = 0x7f80_0000;
+const SIGN: u32 = 0x8000_0000;
+const ONE: u32 = 0x3f80_0000;
+const TOP: u32 = 0x4780_0000; // 65,536
+
+/// A clean view that every kind of call takes: few edges, so that a file of many calls stays small.
+fn view(squares: i32) -> Case {
+    let at = Square { transform: 1, row: 17, col: 400 };
+    let mut physical = Vec::new();
+    for row in 0..squares {
+        for col in 0..squares {
+            for orientation in 0..2 {
+                let e = Edge { row, col, orientation, bit: 0, confidence: 0.75 };
+                physical.push(Edge { bit: oracle::true_bit(0, &e, &at), ..e });
+            }
+        }
+    }
+    let soft = Soft { likelihood: Likelihood::Sigmoid, kappa: 12.0, floor: -6.0, margin: 0.0 };
+    Case { map: 0, logical: oracle::votes(&physical), physical, transforms: vec![0, 1], limit: 0.3, soft }
+}
+
+fn call(kind: u32, case: &Case) -> Call {
+    let at = Square { transform: 1, row: 17, col: 400 };
+    Call::of(kind, case, &oracle::likelihoods(case), &at)
+}
+
+/// A way to break a call, and the number that document 01 gives it.
+type Fault = (u32, &'static str, fn(&mut Call));
+
+fn short(column: &mut Vec<u32>) {
+    column.pop();
+}
+
+/// Faults of a list, for whichever list the kind takes.
+macro_rules! list_faults {
+    ($out:ident, $list:ident) => {
+        $out.extend([
+            (2, "rows", (|c: &mut Call| short(&mut c.$list.rows)) as fn(&mut Call)),
+            (2, "columns", |c| short(&mut c.$list.cols)),
+            (2, "orientations", |c| short(&mut c.$list.orientations)),
+            (2, "bits", |c| short(&mut c.$list.bits)),
+            (2, "confidences", |c| short(&mut c.$list.confidences)),
+            (2, "one more", |c| c.$list.bits.push(0)),
+            (4, "row above", |c| c.$list.rows[1] = 1_000_001),
+            (4, "row below", |c| c.$list.rows[0] = -1_000_001i32 as u32),
+            (4, "column above", |c| c.$list.cols[2] = i32::MAX as u32),
+            (4, "column below", |c| c.$list.cols[0] = i32::MIN as u32),
+            (4, "orientation 2", |c| c.$list.orientations[0] = 2),
+            (4, "orientation 255", |c| c.$list.orientations[3] = 255),
+            (4, "bit 2", |c| c.$list.bits[0] = 2),
+            (4, "bit 255", |c| c.$list.bits[1] = 255),
+            (5, "NaN", |c| c.$list.confidences[0] = NAN),
+            (5, "least below 0", |c| c.$list.confidences[1] = SIGN + 1),
+            (5, "next above 1", |c| c.$list.confidences[0] = ONE + 1),
+            (5, "infinite", |c| c.$list.confidences[2] = INFINITY),
+            (5, "minus infinite", |c| c.$list.confidences[2] = SIGN + INFINITY),
+        ]);
+    };
+}
+
+/// Every fault that this kind of call can have.
+fn faults(kind: u32) -> Vec<Fault> {
+    let mut out: Vec<Fault> = Vec::new();
+    if kind != file::STATS {
+        list_faults!(out, logical);
+        out.extend([
+            (1, "u32 room", (|c: &mut Call| c.room[0] = 3005) as fn(&mut Call)),
+            (1, "f32 room", |c| c.room[1] = 3005),
+            (1, "no room", |c| c.room = [0; 3]),
+            (3, "empty", |c| c.logical = Columns::default()),
+            (7, "none", |c| c.transforms.clear()),
+            (7, "nine", |c| c.transforms = vec![0; 9]),
+            (7, "number 8", |c| c.transforms[1] = 8),
+            (9, "limit NaN", |c| c.limit = NAN),
+            (9, "limit below 0", |c| c.limit = SIGN + 1),
+            (9, "limit above 1", |c| c.limit = ONE + 1),
+        ]);
+    } else {
+        out.extend([
+            (7, "number 8", (|c: &mut Call| c.at[0] = 8) as fn(&mut Call)),
+            (9, "row 501", |c| c.at[1] = 501),
+            (9, "column 501", |c| c.at[2] = 501),
+        ]);
+    }
+    if kind != file::SELECTION {
+        list_faults!(out, physical);
+    }
+    if kind == file::HARD || kind == file::SOFT {
+        out.push((3, "empty", |c| {
+            c.physical = Columns::default();
+            c.matches.clear();
+            c.mismatches.clear();
+        }));
+    }
+    if kind == file::SOFT {
+        out.extend([
+            (1, "i64 room", (|c: &mut Call| c.room[2] = 5009) as fn(&mut Call)),
+            (2, "matches", |c| short(&mut c.matches)),
+            (2, "mismatches", |c| short(&mut c.mismatches)),
+            (6, "match NaN", |c| c.matches[0] = NAN),
+            (6, "mismatch NaN", |c| c.mismatches[1] = NAN),
+            (6, "infinite", |c| c.matches[2] = INFINITY),
+            (6, "minus infinite", |c| c.mismatches[0] = SIGN + INFINITY),
+            (6, "next above 65,536", |c| c.matches[1] = TOP + 1),
+            (6, "next below -65,536", |c| c.mismatches[1] = SIGN + TOP + 1),
+            (9, "margin NaN", |c| c.margin = NAN),
+            (9, "margin below 0", |c| c.margin = SIGN + 1),
+            (9, "margin above 65,536", |c| c.margin = TOP + 1),
+        ]);
+    }
+    out
+}
+
+const KINDS: [u32; 4] = [file::HARD, file::SOFT, file::STATS, file::SELECTION];
+
+/// Each fault alone, then each with the next of a higher number: the lower one is given.
+fn faulty(file: &mut File, case: &Case) {
+    for kind in KINDS {
+        let all = faults(kind);
+        for (i, (number, _, bend)) in all.iter().enumerate() {
+            let mut one = call(kind, case);
+            bend(&mut one);
+            file.call(&one, &file::refused(*number));
+            let higher = all.iter().cycle().skip(i + 1).take(all.len()).find(|f| f.0 > *number && f.0 != 3);
+            if let Some((_, _, also)) = higher {
+                let mut two = call(kind, case);
+                also(&mut two);
+                bend(&mut two);
+                file.call(&two, &file::refused(*number));
+            }
+        }
+    }
+}
+
+/// The ends of each range, which are taken: the answer is the Rust's.
+fn at_the_ends(file: &mut File, case: &Case) {
+    let mut exact = call(file::SOFT, case);
+    exact.room = [3006, 3006, 5010];
+    file.call(&exact, &answer(file::SOFT, case));
+    let mut hard = call(file::HARD, case);
+    hard.room = [3006, 3006, 0];
+    file.call(&hard, &answer(file::HARD, case));
+    for (limit, row) in [(0.0, 1_000_000), (-0.0, -1_000_000), (1.0, 1_000_000)] {
+        let mut ends = case.clone();
+        ends.limit = limit;
+        ends.logical[0].row = row;
+        ends.physical[1].col = -row;
+        ends.physical[2].confidence = -0.0;
+        ends.soft = Soft { kappa: 1e6, floor: -65536.0, margin: limit.abs() * 65536.0, ..ends.soft };
+        for kind in KINDS {
+            file.call(&call(kind, &ends), &answer(kind, &ends));
+        }
+    }
+    let mut none = case.clone();
+    none.physical.clear();
+    file.call(&call(file::STATS, &none), &answer(file::STATS, &none));
+}
+
+fn answer(kind: u32, case: &Case) -> Words {
+    let found = |r: Result<oracle::Found, u32>| r.map_or_else(file::refused, |f| file::found(&f));
+    match kind {
+        file::HARD => found(oracle::hard(case)),
+        file::SOFT => found(oracle::soft(case)),
+        file::STATS => file::counted(&oracle::stats(case, &Square { transform: 1, row: 17, col: 400 })),
+        _ => oracle::selection(case).map_or_else(file::refused, |s| file::selected(&s)),
+    }
+}
+
+/// Wrong tables, each for every kind of call.
+fn wrong_tables(file: &mut File, case: &Case) {
+    let (h, v) = oracle::patterns(0);
+    let longer = |t: &[u8]| [t, &[1]].concat();
+    let mut eight = v.clone();
+    eight[166] = 8;
+    for (h, v) in [(&h[..166], &v[..]), (&h[..], &v[..166]), (&longer(&h)[..], &v[..]), (&h[..], &eight[..]), (&[][..], &v[..])] {
+        file.tables(h, v);
+        for kind in KINDS {
+            file.call(&call(kind, case), &file::refused(8));
+        }
+    }
+}
+
+/// A list of 8,193 edges is refused with 3.
+fn too_long(file: &mut File, case: &Case) {
+    let mut long = case.clone();
+    long.logical = (0..8193).map(|i| case.physical[i % case.physical.len()]).collect();
+    file.call(&call(file::HARD, &long), &file::refused(3));
+}
+
+/// One call of each kind that is found: every word of its answer changed in turn, then one bit of its list.
+fn wrong(file: &mut File) {
+    let case = view(6);
+    for kind in [file::HARD, file::SOFT] {
+        let right = answer(kind, &case);
+        assert_eq!(right[0], 0, "a case that is found");
+        for i in 0..right.len() {
+            let mut words = right;
+            words[i] ^= 1;
+            file.call(&call(kind, &case), &words);
+        }
+        let mut turned = call(kind, &case);
+        turned.physical.bits[0] ^= 1;
+        turned.logical.bits[0] ^= 1;
+        file.call(&turned, &right);
+    }
+}
+
+fn main() {
+    std::panic::set_hook(Box::new(|_| ()));
+    let words: Vec<String> = std::env::args().collect();
+    let case = view(4);
+    let (h, v) = oracle::patterns(0);
+    let mut rules = File::default();
+    rules.tables(&h, &v);
+    faulty(&mut rules, &case);
+    at_the_ends(&mut rules, &view(6));
+    too_long(&mut rules, &case);
+    wrong_tables(&mut rules, &case);
+    rules.write(&words[1]).expect("the file");
+    let mut bent = File::default();
+    bent.tables(&h, &v);
+    wrong(&mut bent);
+    bent.write(&words[2]).expect("the file");
+}

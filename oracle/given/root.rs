@@ -289,6 +289,11 @@ pub fn true_bit(e: &Edge, at: &Square) -> u8 {
     bit_at(e, &transform(at.transform as u8).with_translation([at.col, at.row]))
 }
 
+/// The likelihoods that `Likelihood::Listed` gives from now on, by confidence.
+pub fn list_likelihoods(pairs: &[(f32, (f32, f32))]) {
+    calib_targets_core::list_likelihoods(pairs);
+}
+
 /// The voted classes of a list, as the given consensus hands them to the decoders.
 pub fn votes(edges: &[Edge]) -> Vec<Edge> {
     EdgeConsensus::build(&list(edges)).class_observations().iter().map(plain_edge).collect()

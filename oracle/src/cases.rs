@@ -12,7 +12,14 @@ pub fn placing(r: &mut Random) -> Square {
 }
 
 /// Transform lists in search order: the four rotations, all eight, one alone, any, and one that comes twice. The true one is mostly listed.
-fn transforms(r: &mut Random, truth: u32) -> Vec<u8> {
+/// A light list is mostly of one or two.
+fn transforms(r: &mut Random, truth: u32, light: bool) -> Vec<u8> {
+    if light && !r.once_in(3) {
+        let mut list = vec![truth as u8, r.below(8) as u8];
+        list.rotate_left(r.below(2) as usize);
+        list.retain(|&t| t == truth as u8 || r.once_in(2));
+        return list;
+    }
     let mut list: Vec<u8> = match r.below(40) {
         0..=11 => (0..4).collect(),
         12 | 13 => (0..8).collect(),
@@ -122,8 +129,8 @@ pub fn squares(r: &mut Random) -> i32 {
     }
 }
 
-/// A window, with the logical list by the Rust's own consensus, the physical list itself, or another window.
-pub fn view(r: &mut Random, size: i32) -> Case {
+/// A window of so many squares, with the logical list by the Rust's own consensus, the physical list itself, or another window.
+pub fn view(r: &mut Random, size: i32, light: bool) -> Case {
     let map = map(r);
     let at = placing(r);
     let physical = window(r, map, &at, size);
@@ -137,7 +144,7 @@ pub fn view(r: &mut Random, size: i32) -> Case {
         _ => votes(&physical),
     };
     let limit = limit(r, logical.len());
-    let mut case = Case { map, logical, physical, transforms: transforms(r, at.transform), limit, soft: soft(r) };
+    let mut case = Case { map, logical, physical, transforms: transforms(r, at.transform, light), limit, soft: soft(r) };
     if r.once_in(2) {
         // as the pipeline calls it
         case.limit = 0.3;
@@ -190,7 +197,7 @@ pub fn hostile(r: &mut Random) -> Case {
     }
     let truth = r.below(8) as u32;
     let limit = limit(r, logical.len());
-    Case { map, logical, physical, transforms: transforms(r, truth), limit, soft: soft(r) }
+    Case { map, logical, physical, transforms: transforms(r, truth, false), limit, soft: soft(r) }
 }
 
 /// How many cells of one map's side have the most hits, for edges of one orientation under transform 0.
@@ -295,12 +302,12 @@ pub fn long(r: &mut Random, edges: usize) -> Case {
     physical.truncate(edges);
     let logical = if r.once_in(2) { physical.clone() } else { votes(&physical) };
     let limit = limit(r, logical.len());
-    Case { map: 0, logical, physical, transforms: transforms(r, at.transform), limit, soft: soft(r) }
+    Case { map: 0, logical, physical, transforms: transforms(r, at.transform, false), limit, soft: soft(r) }
 }
 
 /// A clean view that is found, bent so that one step refuses: 10 and 11 in either list, 12, 13, 14 and 15.
 pub fn refused(r: &mut Random) -> Case {
-    let mut case = view(r, 4);
+    let mut case = view(r, 4, false);
     case.map = 0;
     let at = placing(r);
     let size = 6 + r.below(5) as i32;

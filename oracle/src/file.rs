@@ -90,6 +90,18 @@ impl Columns {
             confidences: edges.iter().map(|e| e.confidence.to_bits()).collect(),
         }
     }
+
+    /// The edges, of columns of equal length.
+    pub fn edges(&self) -> Vec<Edge> {
+        let edge = |i: usize| Edge {
+            row: self.rows[i] as i32,
+            col: self.cols[i] as i32,
+            orientation: self.orientations[i] as u8,
+            bit: self.bits[i] as u8,
+            confidence: f32::from_bits(self.confidences[i]),
+        };
+        (0..self.rows.len()).map(edge).collect()
+    }
 }
 
 /// One call as the file holds it: lengths of the lent room (u32, f32, i64), the logical list, the physical list, its likelihoods,
@@ -132,6 +144,64 @@ impl Call {
             at: [at.transform, at.row as u32, at.col as u32],
         }
     }
+}
+
+/// An entry of a file.
+pub enum Entry {
+    Tables(Vec<u8>, Vec<u8>),
+    Call(Call, Words),
+}
+
+/// A file that is read, word by word.
+struct Reader {
+    words: Vec<u32>,
+    at: usize,
+}
+
+impl Reader {
+    fn word(&mut self) -> u32 {
+        self.at += 1;
+        self.words[self.at - 1]
+    }
+
+    fn some<const N: usize>(&mut self) -> [u32; N] {
+        std::array::from_fn(|_| self.word())
+    }
+
+    fn column(&mut self) -> Vec<u32> {
+        let n = self.word();
+        (0..n).map(|_| self.word()).collect()
+    }
+
+    fn table(&mut self) -> Vec<u8> {
+        self.column().iter().map(|&p| p as u8).collect()
+    }
+
+    fn list(&mut self) -> Columns {
+        let [rows, cols, orientations, bits, confidences] = std::array::from_fn(|_| self.column());
+        Columns { rows, cols, orientations, bits, confidences }
+    }
+
+    fn entry(&mut self) -> Entry {
+        let kind = self.word();
+        if kind == TABLES {
+            return Entry::Tables(self.table(), self.table());
+        }
+        let (room, logical, physical) = (self.some(), self.list(), self.list());
+        let [matches, mismatches, transforms] = std::array::from_fn(|_| self.column());
+        let (limit, margin, at) = (self.word(), self.word(), self.some());
+        let call = Call { kind, room, logical, physical, matches, mismatches, transforms, limit, margin, at };
+        Entry::Call(call, self.some())
+    }
+}
+
+/// The entries of a file.
+pub fn read(path: &str) -> std::io::Result<Vec<Entry>> {
+    let bytes = std::fs::read(path)?;
+    let words = bytes.chunks_exact(4).map(|b| u32::from_le_bytes([b[0], b[1], b[2], b[3]])).collect();
+    let mut reader = Reader { words, at: 0 };
+    let n = reader.word();
+    Ok((0..n).map(|_| reader.entry()).collect())
 }
 
 /// A file being made.

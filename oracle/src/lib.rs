@@ -6,7 +6,7 @@
 pub mod cases;
 pub mod file;
 
-pub use m0::Ready;
+pub use m0::{list_likelihoods, Ready};
 pub use plain::*;
 
 /// Calls the same function of the compilation that has the case's maps.
@@ -21,6 +21,17 @@ macro_rules! with_maps {
             _ => { use m5 as $m; $call }
         }
     };
+}
+
+/// The answer to a call of that kind, as the file's words; match statistics at the placing.
+pub fn answer(kind: u32, case: &Case, at: &Square) -> file::Words {
+    let decoded = |r: Result<Found, u32>| r.map_or_else(file::refused, |f| file::found(&f));
+    match kind {
+        file::HARD => decoded(hard(case)),
+        file::SOFT => decoded(soft(case)),
+        file::STATS => file::counted(&stats(case, at)),
+        _ => selection(case).map_or_else(file::refused, |s| file::selected(&s)),
+    }
 }
 
 /// Hard decode.

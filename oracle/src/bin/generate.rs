@@ -4,28 +4,14 @@
 
 use oracle::cases::{self, Pairs};
 use oracle::file::{self, Call, File, Words};
-use oracle::{Case, Random, Square};
-
-fn words(answer: Result<oracle::Found, u32>) -> Words {
-    answer.map_or_else(file::refused, |f| file::found(&f))
-}
-
-/// The Rust's answer to a case, as a call of that kind.
-fn answer(kind: u32, case: &Case, at: &Square) -> Words {
-    match kind {
-        file::HARD => words(oracle::hard(case)),
-        file::SOFT => words(oracle::soft(case)),
-        file::STATS => file::counted(&oracle::stats(case, at)),
-        _ => oracle::selection(case).map_or_else(file::refused, |s| file::selected(&s)),
-    }
-}
+use oracle::{Case, Random};
 
 /// Case i: every kind of case comes in turn, so that a short run has them all. The sample has a few large ones in fixed places and is
 /// small otherwise, so that it can be stored.
 fn case(i: usize, r: &mut Random, pairs: &[Pairs], sample: bool) -> Option<Case> {
     match (i % 20, sample, i) {
-        (_, true, 101) => Some(cases::view(r, 48)),
-        (_, true, 201) => Some(cases::view(r, 24)),
+        (_, true, 101) => Some(cases::view(r, 48, false)),
+        (_, true, 201) => Some(cases::view(r, 24, false)),
         (_, true, 301) => Some(cases::long(r, 8192)),
         (_, false, 7) => {
             let fewer = r.below(2) * r.below(6000);
@@ -34,7 +20,8 @@ fn case(i: usize, r: &mut Random, pairs: &[Pairs], sample: bool) -> Option<Case>
         (0 | 1, ..) => Some(cases::hostile(r)),
         (2, ..) => Some(cases::refused(r)),
         (3, ..) if i % 40 == 3 => Some(cases::near_tie(r)),
-        (4, false, _) if i % 60 != 4 => Some(cases::refused(r)),
+        (4, false, _) if i % 60 == 24 => Some(cases::refused(r)),
+        (4, false, _) if i % 60 == 44 => Some(cases::near_tie(r)),
         (4, ..) => {
             let pool = &pairs[r.below(pairs.len() as u64) as usize];
             let product = 1023 + r.below(4) as usize;
@@ -42,7 +29,7 @@ fn case(i: usize, r: &mut Random, pairs: &[Pairs], sample: bool) -> Option<Case>
         }
         _ => {
             let size = cases::squares(r);
-            Some(cases::view(r, if sample { size.min(9) } else { size }))
+            Some(cases::view(r, if sample { size.min(9) } else { size }, !sample))
         }
     }
 }
@@ -82,7 +69,7 @@ fn main() {
         }
         let at = cases::placing(&mut r);
         let call = Call::of(kind, &case, &oracle::likelihoods(&case), &at);
-        made.push((case.map, call, answer(kind, &case, &at)));
+        made.push((case.map, call, oracle::answer(kind, &case, &at)));
     }
     made.sort_by_key(|m| m.0);
     let mut file = File::default();

@@ -11,15 +11,17 @@ const SIGN: u32 = 0x8000_0000;
 const ONE: u32 = 0x3f80_0000;
 const TOP: u32 = 0x4780_0000; // 65,536
 
+/// Where the view is cut, and what match statistics are asked of.
+const AT: Square = Square { transform: 1, row: 17, col: 400 };
+
 /// A clean view that every kind of call takes: few edges, so that a file of many calls stays small.
 fn view(squares: i32) -> Case {
-    let at = Square { transform: 1, row: 17, col: 400 };
     let mut physical = Vec::new();
     for row in 0..squares {
         for col in 0..squares {
             for orientation in 0..2 {
                 let e = Edge { row, col, orientation, bit: 0, confidence: 0.75 };
-                physical.push(Edge { bit: oracle::true_bit(0, &e, &at), ..e });
+                physical.push(Edge { bit: oracle::true_bit(0, &e, &AT), ..e });
             }
         }
     }
@@ -28,8 +30,7 @@ fn view(squares: i32) -> Case {
 }
 
 fn call(kind: u32, case: &Case) -> Call {
-    let at = Square { transform: 1, row: 17, col: 400 };
-    Call::of(kind, case, &oracle::likelihoods(case), &at)
+    Call::of(kind, case, &oracle::likelihoods(case), &AT)
 }
 
 /// A way to break a call, and the number that document 01 gives it.
@@ -165,13 +166,7 @@ fn at_the_ends(file: &mut File, case: &Case) {
 }
 
 fn answer(kind: u32, case: &Case) -> Words {
-    let found = |r: Result<oracle::Found, u32>| r.map_or_else(file::refused, |f| file::found(&f));
-    match kind {
-        file::HARD => found(oracle::hard(case)),
-        file::SOFT => found(oracle::soft(case)),
-        file::STATS => file::counted(&oracle::stats(case, &Square { transform: 1, row: 17, col: 400 })),
-        _ => oracle::selection(case).map_or_else(file::refused, |s| file::selected(&s)),
-    }
+    oracle::answer(kind, case, &AT)
 }
 
 /// Wrong tables, each for every kind of call.
@@ -216,7 +211,7 @@ fn wrong(file: &mut File) {
 fn main() {
     std::panic::set_hook(Box::new(|_| ()));
     let words: Vec<String> = std::env::args().collect();
-    let case = view(4);
+    let case = view(2);
     let (h, v) = oracle::patterns(0);
     let mut rules = File::default();
     rules.tables(&h, &v);

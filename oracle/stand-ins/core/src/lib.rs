@@ -7,13 +7,21 @@ include!(concat!(env!("OUT_DIR"), "/lattice.rs"));
 
 pub use lattice::{Coord, GridTransform, LatticeKind};
 use plain::{Likelihood, Random};
-use std::cell::Cell;
+use std::cell::{Cell, RefCell};
+use std::collections::HashMap;
 
 /// An alignment is a transform with a translation: the decode module passes one as the other.
 pub type GridAlignment = GridTransform;
 
 thread_local! {
     static LIKELIHOOD: Cell<Likelihood> = const { Cell::new(Likelihood::Sigmoid) };
+    static LISTED: RefCell<HashMap<u32, f32>> = RefCell::default();
+}
+
+/// The likelihoods of confidences, for `Likelihood::Listed`: the first is given at the confidence, the second at its negative.
+pub fn list_likelihoods(pairs: &[(f32, (f32, f32))]) {
+    let signs = pairs.iter().flat_map(|&(c, (a, b))| [((-c).to_bits(), b), (c.to_bits(), a)]);
+    LISTED.with(|listed| *listed.borrow_mut() = signs.collect());
 }
 
 /// What `log_sigmoid` gives on this thread from now on.
@@ -30,5 +38,6 @@ pub fn log_sigmoid(x: f32) -> f32 {
             let mut r = Random((seed as u64) << 32 | x.to_bits() as u64);
             (r.unit() * 2.0 - 1.0) * scale
         }
+        Likelihood::Listed => LISTED.with(|listed| listed.borrow()[&x.to_bits()]),
     }
 }

@@ -1,0 +1,42 @@
+//! answer IN OUT: reads the cases of a file and writes them again with the Rust's answers. Calls that are stored with a refusal from
+//! 1 to 9 are no calls of the Rust's, and stay as they are.
+
+use oracle::file::{self, Call, Entry, File, Words};
+use oracle::{Case, Likelihood, Soft, Square};
+
+/// The Rust's answer to a call with that pair of maps.
+fn answer(map: usize, call: &Call) -> Words {
+    let physical = call.physical.edges();
+    let pairs = call.matches.iter().zip(&call.mismatches).map(|(&m, &n)| (f32::from_bits(m), f32::from_bits(n)));
+    let listed: Vec<(f32, (f32, f32))> = physical.iter().map(|e| e.confidence).zip(pairs).collect();
+    oracle::list_likelihoods(&listed);
+    let margin = f32::from_bits(call.margin);
+    let case = Case {
+        map,
+        logical: call.logical.edges(),
+        physical,
+        transforms: call.transforms.iter().map(|&t| t as u8).collect(),
+        limit: f32::from_bits(call.limit),
+        soft: Soft { likelihood: Likelihood::Listed, kappa: 1.0, floor: f32::NEG_INFINITY, margin },
+    };
+    let at = Square { transform: call.at[0], row: call.at[1] as i32, col: call.at[2] as i32 };
+    oracle::answer(call.kind, &case, &at)
+}
+
+fn main() {
+    std::panic::set_hook(Box::new(|_| ()));
+    let words: Vec<String> = std::env::args().collect();
+    let mut out = File::default();
+    let mut map = None;
+    for entry in file::read(&words[1]).expect("a file of cases") {
+        match entry {
+            Entry::Tables(h, v) => {
+                map = (0..oracle::maps::PAIRS).find(|&n| oracle::patterns(n) == (h.clone(), v.clone()));
+                out.tables(&h, &v);
+            }
+            Entry::Call(call, stored) if (1..=9).contains(&stored[0]) => out.call(&call, &stored),
+            Entry::Call(call, _) => out.call(&call, &answer(map.expect("maps that the Rust was compiled with"), &call)),
+        }
+    }
+    out.write(&words[2]).expect("the file");
+}

@@ -159,13 +159,7 @@ fn any_edge(r: &mut Random, spread: u64, style: u64) -> Edge {
         0 => pick(r, &[1_000_000, -1_000_000, 999_999, -999_999, -1, 166, 167, 501]),
         _ => r.below(2 * spread + 1) as i32 - spread as i32,
     };
-    Edge {
-        row: far(r),
-        col: far(r),
-        orientation: r.below(2) as u8,
-        bit: r.below(2) as u8,
-        confidence: confidence(r, style),
-    }
+    Edge { row: far(r), col: far(r), orientation: r.below(2) as u8, bit: r.below(2) as u8, confidence: confidence(r, style) }
 }
 
 /// Few edges, repeated ones, both bits of one place, far and negative coordinates, hostile confidences, one orientation only.
@@ -232,9 +226,8 @@ impl Pairs {
         let mut sizes = [Vec::new(), Vec::new()];
         for _ in 0..600 {
             let side = r.below(2) as usize;
-            let few: Vec<Edge> = (0..1 + r.below(6))
-                .map(|_| Edge { orientation: side as u8, confidence: 1.0, ..any_edge(r, 4, 0) })
-                .collect();
+            let few: Vec<Edge> =
+                (0..1 + r.below(6)).map(|_| Edge { orientation: side as u8, confidence: 1.0, ..any_edge(r, 4, 0) }).collect();
             sizes[side].push(optimal(map, &few));
             sides[side].push(few);
         }

@@ -13,12 +13,30 @@ pub use plain::*;
 macro_rules! with_maps {
     ($map:expr, $m:ident => $call:expr) => {
         match $map {
-            0 => { use m0 as $m; $call }
-            1 => { use m1 as $m; $call }
-            2 => { use m2 as $m; $call }
-            3 => { use m3 as $m; $call }
-            4 => { use m4 as $m; $call }
-            _ => { use m5 as $m; $call }
+            0 => {
+                use m0 as $m;
+                $call
+            }
+            1 => {
+                use m1 as $m;
+                $call
+            }
+            2 => {
+                use m2 as $m;
+                $call
+            }
+            3 => {
+                use m3 as $m;
+                $call
+            }
+            4 => {
+                use m4 as $m;
+                $call
+            }
+            _ => {
+                use m5 as $m;
+                $call
+            }
         }
     };
 }

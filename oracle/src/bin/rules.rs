@@ -1,7 +1,6 @@
 //! rules FILE WRONG: cases of our own for refusals 1 to 9, whose answers are document 01's and not the Rust's; and a file whose
 //! answers are wrong on purpose, by which `replay` shows that it reports every word that differs.
 
-
 use oracle::file::{self, Call, Columns, File, Words};
 use oracle::{Case, Edge, Likelihood, Soft, Square};
 

@@ -1,7 +1,8 @@
-//! answer IN OUT: reads the cases of a file and writes them again with the Rust's answers. Calls that are stored with a refusal from
-//! 1 to 9 are no calls of the Rust's, and stay as they are.
+//! answer IN OUT [votes]: reads the cases of a file and writes them again with the Rust's answers; with `votes` also with the logical list
+//! that the Rust's consensus votes from the physical one. Calls that are stored with a refusal from 1 to 9 are no calls of the Rust's, and
+//! stay as they are.
 
-use oracle::file::{self, Call, Entry, File, Words};
+use oracle::file::{self, Call, Columns, Entry, File, Words};
 use oracle::{Case, Likelihood, Soft, Square};
 
 /// The Rust's answer to a call with that pair of maps.
@@ -28,6 +29,7 @@ fn main() {
     let words: Vec<String> = std::env::args().collect();
     let mut out = File::default();
     let mut map = None;
+    let votes = words.get(3).is_some_and(|w| w == "votes");
     for entry in file::read(&words[1]).expect("a file of cases") {
         match entry {
             Entry::Tables(h, v) => {
@@ -35,7 +37,12 @@ fn main() {
                 out.tables(&h, &v);
             }
             Entry::Call(call, stored) if (1..=9).contains(&stored[0]) => out.call(&call, &stored),
-            Entry::Call(call, _) => out.call(&call, &answer(map.expect("maps that the Rust was compiled with"), &call)),
+            Entry::Call(mut call, _) => {
+                if votes {
+                    call.logical = Columns::of(&oracle::votes(&call.physical.edges()));
+                }
+                out.call(&call, &answer(map.expect("maps that the Rust was compiled with"), &call));
+            }
         }
     }
     out.write(&words[2]).expect("the file");

@@ -1,10 +1,8 @@
+-- `read_answer`: the index stays below 15.
 use Prim.Native.Nat.{_≤_, _-_}
 use borrow.Author.Needs.{needs}
 use Rattle.replay.proofs.columns.read_answer.Statement.{statement}
 use Rattle.replay.proofs.columns.read_answer.Tie as tie
-use Rattle.replay.proofs.columns.read_answer.Reads as reads
-use Rattle.replay.proofs.columns.read_answer.Lts as lts
-use Rattle.replay.proofs.words.next_word.Reads as next-word-reads
 
 abbrev Inv-loop : tie.InvT-loop
 Inv-loop buf₀ words₀ next₀ i₀ buf words next i = i ≤ 15
@@ -12,35 +10,27 @@ Inv-loop buf₀ words₀ next₀ i₀ buf words next i = i ≤ 15
 abbrev μ-loop : tie.MeasureT-loop
 μ-loop buf₀ words₀ next₀ i₀ buf words next i = 15 - i
 
--- src/columns.rt:112:5
 loop-holds : tie.Need-loop-holds Inv-loop μ-loop
 loop-holds c = search needs
 
--- src/columns.rt:113:13
 next-word-requires : tie.Need-next-word-requires Inv-loop μ-loop
 next-word-requires c κs = search needs
 
--- src/columns.rt:115:9
 mul-words : tie.Need-mul-words Inv-loop μ-loop
 mul-words c = search needs
 
--- src/columns.rt:115:9
 array-write-words : tie.Need-array-write-words Inv-loop μ-loop
 array-write-words c = search needs
 
--- src/columns.rt:112:9
 add-i : tie.Need-add-i Inv-loop μ-loop
 add-i c = search needs
 
--- src/columns.rt:112:5
 loop-less : tie.Need-loop-less Inv-loop μ-loop
 loop-less c = search needs
 
--- src/columns.rt:112:5
 loop-again : tie.Need-loop-again Inv-loop μ-loop
 loop-again c = search needs
 
--- src/columns.rt:109:1
 returns : tie.Need-returns Inv-loop μ-loop
 returns c = search needs
 

@@ -1,12 +1,8 @@
+-- `read_f32`: the column fits the array.
 use Prim.Native.Nat.{_≤_, _-_}
 use borrow.Author.Needs.{needs}
 use Rattle.replay.proofs.columns.read_f32.Statement.{statement}
 use Rattle.replay.proofs.columns.read_f32.Tie as tie
-use Rattle.replay.proofs.columns.read_f32.Reads as reads
-use Rattle.replay.proofs.columns.read_f32.Lts as lts
-use Rattle.replay.proofs.columns.at_most.Reads as at-most-reads
-use Rattle.replay.proofs.words.float.Reads as float-reads
-use Rattle.replay.proofs.words.next_word.Reads as next-word-reads
 
 abbrev Inv-loop : tie.InvT-loop
 Inv-loop buf₀ out₀ n next₀ i₀ buf out next i = (i ≤ n) × (n ≤ 8193)
@@ -14,47 +10,36 @@ Inv-loop buf₀ out₀ n next₀ i₀ buf out next i = (i ≤ n) × (n ≤ 8193)
 abbrev μ-loop : tie.MeasureT-loop
 μ-loop buf₀ out₀ n next₀ i₀ buf out next i = n - i
 
--- src/columns.rt:50:9
 next-word-requires : tie.Need-next-word-requires Inv-loop μ-loop
 next-word-requires c κs = search needs
 
--- src/columns.rt:51:9
 at-most-requires : tie.Need-at-most-requires Inv-loop μ-loop
 at-most-requires c κs = search needs
 
--- src/columns.rt:53:5
 loop-holds : tie.Need-loop-holds Inv-loop μ-loop
 loop-holds c = search needs
 
--- src/columns.rt:54:13
 next-word-requires-2 : tie.Need-next-word-requires-2 Inv-loop μ-loop
 next-word-requires-2 c κs = search needs
 
--- src/columns.rt:56:18
 float-requires : tie.Need-float-requires Inv-loop μ-loop
 float-requires c κs = search needs
 
--- src/columns.rt:56:9
 mul-out : tie.Need-mul-out Inv-loop μ-loop
 mul-out c = search needs
 
--- src/columns.rt:56:9
 element-write-out : tie.Need-element-write-out Inv-loop μ-loop
 element-write-out c = search needs
 
--- src/columns.rt:53:9
 add-i : tie.Need-add-i Inv-loop μ-loop
 add-i c = search needs
 
--- src/columns.rt:53:5
 loop-less : tie.Need-loop-less Inv-loop μ-loop
 loop-less c = search needs
 
--- src/columns.rt:53:5
 loop-again : tie.Need-loop-again Inv-loop μ-loop
 loop-again c = search needs
 
--- src/columns.rt:49:1
 returns : tie.Need-returns Inv-loop μ-loop
 returns c = search needs
 

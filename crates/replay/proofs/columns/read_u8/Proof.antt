@@ -1,12 +1,8 @@
+-- `read_u8`: the column fits the array.
 use Prim.Native.Nat.{_≤_, _-_}
 use borrow.Author.Needs.{needs}
 use Rattle.replay.proofs.columns.read_u8.Statement.{statement}
 use Rattle.replay.proofs.columns.read_u8.Tie as tie
-use Rattle.replay.proofs.columns.read_u8.Reads as reads
-use Rattle.replay.proofs.columns.read_u8.Lts as lts
-use Rattle.replay.proofs.columns.at_most.Reads as at-most-reads
-use Rattle.replay.proofs.words.next_word.Reads as next-word-reads
-use Rattle.replay.proofs.words.octet.Reads as octet-reads
 
 abbrev Inv-loop : tie.InvT-loop
 Inv-loop buf₀ out₀ n next₀ i₀ buf out next i = (i ≤ n) × (n ≤ 8193)
@@ -14,43 +10,33 @@ Inv-loop buf₀ out₀ n next₀ i₀ buf out next i = (i ≤ n) × (n ≤ 8193)
 abbrev μ-loop : tie.MeasureT-loop
 μ-loop buf₀ out₀ n next₀ i₀ buf out next i = n - i
 
--- src/columns.rt:37:9
 next-word-requires : tie.Need-next-word-requires Inv-loop μ-loop
 next-word-requires c κs = search needs
 
--- src/columns.rt:38:9
 at-most-requires : tie.Need-at-most-requires Inv-loop μ-loop
 at-most-requires c κs = search needs
 
--- src/columns.rt:40:5
 loop-holds : tie.Need-loop-holds Inv-loop μ-loop
 loop-holds c = search needs
 
--- src/columns.rt:41:13
 next-word-requires-2 : tie.Need-next-word-requires-2 Inv-loop μ-loop
 next-word-requires-2 c κs = search needs
 
--- src/columns.rt:43:18
 octet-requires : tie.Need-octet-requires Inv-loop μ-loop
 octet-requires c κs = search needs
 
--- src/columns.rt:43:9
 element-write-out : tie.Need-element-write-out Inv-loop μ-loop
 element-write-out c = search needs
 
--- src/columns.rt:40:9
 add-i : tie.Need-add-i Inv-loop μ-loop
 add-i c = search needs
 
--- src/columns.rt:40:5
 loop-less : tie.Need-loop-less Inv-loop μ-loop
 loop-less c = search needs
 
--- src/columns.rt:40:5
 loop-again : tie.Need-loop-again Inv-loop μ-loop
 loop-again c = search needs
 
--- src/columns.rt:36:1
 returns : tie.Need-returns Inv-loop μ-loop
 returns c = search needs
 

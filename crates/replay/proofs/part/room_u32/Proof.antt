@@ -1,20 +1,16 @@
+-- `room_u32`: the front has n places.
 use mathlib.Core.Path.{sym}
 use lib.Seq.{length-take-le}
 use borrow.Author.Needs.{needs}
 use Rattle.replay.proofs.part.room_u32.Statement.{statement}
 use Rattle.replay.proofs.part.room_u32.Tie as tie
-use Rattle.replay.proofs.part.room_u32.Reads as reads
-use Rattle.replay.proofs.part.room_u32.Lts as lts
 
--- src/part.rt:16:24
 slice-aggregate-result : tie.Need-slice-aggregate-result
 slice-aggregate-result c = sym (length-take-le (c .before .before .args .n) (c .before .before .args .xs .now) (c .before .if1 .taken))
 
--- src/part.rt:15:1
 returns : tie.Need-returns
 returns c = search needs
 
--- src/part.rt:15:1
 returns-2 : tie.Need-returns-2
 returns-2 c = search needs
 

@@ -9,36 +9,26 @@ use Rattle.puzzleboard.specs.HardLaws.{ready-logical}
 use borrow.Author.Needs.{needs}
 use Rattle.replay.proofs.selection.select.Statement.{statement}
 use Rattle.replay.proofs.selection.select.Tie as tie
-use Rattle.replay.proofs.selection.select.Reads as reads
-use Rattle.replay.proofs.selection.select.Lts as lts
-use Rattle.checks.proofs.refusal.hard_refusal.Reads as hard-refusal-reads
-use Rattle.hard.proofs.select.select.Reads as select-reads
 
 -- the call was accepted
 accepted : (c : tie.Else1) → let a = c .before .before .before .before .before .before .before .before .before .before .before .args in let E = edges (now (a .rows)) (now (a .cols)) (now (a .orientations)) (now (a .bits)) (now (a .confidences)) in HardAccepted E E (now (a .transforms)) (tables (now (a .h)) (now (a .v))) (a .limit) (length (now (a .counts))) (length (now (a .weights)))
 accepted c = hard-accepted _ _ _ _ _ _ _ (ap (λ (r : Refusal). r .number) (sym (c .before .before .hard-refusal .ensures)) ∙ c .if1 .left)
 
--- src/selection.rt:18:9
 hard-refusal-requires : tie.Need-hard-refusal-requires
 hard-refusal-requires c κs = search needs
 
--- src/selection.rt:37:9
 returns : tie.Need-returns
 returns c = search needs
 
--- src/selection.rt:39:5
 select-requires : tie.Need-select-requires
 select-requires c κs = let s = c .before .before in ready-logical _ _ _ _ _ _ _ (accepted s)
 
--- src/selection.rt:5:1
 same-length : tie.Need-same-length
 same-length c = search needs
 
--- src/selection.rt:5:1
 same-length-2 : tie.Need-same-length-2
 same-length-2 c = search needs
 
--- src/selection.rt:5:1
 returns-2 : tie.Need-returns-2
 returns-2 c = search needs
 

@@ -1,12 +1,8 @@
+-- `show`: the kind stays below 5.
 use Prim.Native.Nat.{_≤_, _-_}
 use borrow.Author.Needs.{needs}
 use Rattle.replay.proofs.tally.show.Statement.{statement}
 use Rattle.replay.proofs.tally.show.Tie as tie
-use Rattle.replay.proofs.tally.show.Reads as reads
-use Rattle.replay.proofs.tally.show.Lts as lts
-use Rattle.replay.proofs.print.print.Reads as print-reads
-use Rattle.replay.proofs.print.print_number.Reads as print-number-reads
-use Rattle.replay.proofs.tally.show_kind.Reads as show-kind-reads
 
 abbrev Inv-loop : tie.InvT-loop
 Inv-loop tally kind₀ t3 t4 t5 kind = kind ≤ 5
@@ -14,75 +10,57 @@ Inv-loop tally kind₀ t3 t4 t5 kind = kind ≤ 5
 abbrev μ-loop : tie.MeasureT-loop
 μ-loop tally kind₀ t3 t4 t5 kind = 5 - kind
 
--- src/tally.rt:137:5
 loop-holds : tie.Need-loop-holds Inv-loop μ-loop
 loop-holds c = search needs
 
--- src/tally.rt:138:9
 show-kind-requires : tie.Need-show-kind-requires Inv-loop μ-loop
 show-kind-requires c κs = search needs
 
--- src/tally.rt:137:9
 add-kind : tie.Need-add-kind Inv-loop μ-loop
 add-kind c = search needs
 
--- src/tally.rt:137:5
 loop-less : tie.Need-loop-less Inv-loop μ-loop
 loop-less c = search needs
 
--- src/tally.rt:137:5
 loop-again : tie.Need-loop-again Inv-loop μ-loop
 loop-again c = search needs
 
--- src/tally.rt:140:18
 element-copy-out-print-number : tie.Need-element-copy-out-print-number Inv-loop μ-loop
 element-copy-out-print-number c = search needs
 
--- src/tally.rt:140:5
 print-number-requires : tie.Need-print-number-requires Inv-loop μ-loop
 print-number-requires c κs = search needs
 
--- src/tally.rt:141:11
 slice-aggregate-print : tie.Need-slice-aggregate-print Inv-loop μ-loop
 slice-aggregate-print c = search needs
 
--- src/tally.rt:141:5
 print-requires : tie.Need-print-requires Inv-loop μ-loop
 print-requires c κs = search needs
 
--- src/tally.rt:142:18
 element-copy-out-print-number-2 : tie.Need-element-copy-out-print-number-2 Inv-loop μ-loop
 element-copy-out-print-number-2 c = search needs
 
--- src/tally.rt:142:5
 print-number-requires-2 : tie.Need-print-number-requires-2 Inv-loop μ-loop
 print-number-requires-2 c κs = search needs
 
--- src/tally.rt:143:11
 slice-aggregate-print-2 : tie.Need-slice-aggregate-print-2 Inv-loop μ-loop
 slice-aggregate-print-2 c = search needs
 
--- src/tally.rt:143:5
 print-requires-2 : tie.Need-print-requires-2 Inv-loop μ-loop
 print-requires-2 c κs = search needs
 
--- src/tally.rt:144:18
 element-copy-out-print-number-3 : tie.Need-element-copy-out-print-number-3 Inv-loop μ-loop
 element-copy-out-print-number-3 c = search needs
 
--- src/tally.rt:144:5
 print-number-requires-3 : tie.Need-print-number-requires-3 Inv-loop μ-loop
 print-number-requires-3 c κs = search needs
 
--- src/tally.rt:145:11
 slice-aggregate-print-3 : tie.Need-slice-aggregate-print-3 Inv-loop μ-loop
 slice-aggregate-print-3 c = search needs
 
--- src/tally.rt:145:5
 print-requires-3 : tie.Need-print-requires-3 Inv-loop μ-loop
 print-requires-3 c κs = search needs
 
--- src/tally.rt:136:1
 returns : tie.Need-returns Inv-loop μ-loop
 returns c = search needs
 

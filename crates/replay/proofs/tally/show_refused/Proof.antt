@@ -1,11 +1,8 @@
+-- `show_refused`: the number stays below 16.
 use Prim.Native.Nat.{_≤_, _-_}
 use borrow.Author.Needs.{needs}
 use Rattle.replay.proofs.tally.show_refused.Statement.{statement}
 use Rattle.replay.proofs.tally.show_refused.Tie as tie
-use Rattle.replay.proofs.tally.show_refused.Reads as reads
-use Rattle.replay.proofs.tally.show_refused.Lts as lts
-use Rattle.replay.proofs.print.print.Reads as print-reads
-use Rattle.replay.proofs.print.print_number.Reads as print-number-reads
 
 abbrev Inv-loop : tie.InvT-loop
 Inv-loop tally kind number₀ t5 t6 number = number ≤ 16
@@ -13,75 +10,57 @@ Inv-loop tally kind number₀ t5 t6 number = number ≤ 16
 abbrev μ-loop : tie.MeasureT-loop
 μ-loop tally kind number₀ t5 t6 number = 16 - number
 
--- src/tally.rt:112:5
 loop-holds : tie.Need-loop-holds Inv-loop μ-loop
 loop-holds c = search needs
 
--- src/tally.rt:113:18
 mul-at : tie.Need-mul-at Inv-loop μ-loop
 mul-at c = search needs
 
--- src/tally.rt:113:18
 add-at : tie.Need-add-at Inv-loop μ-loop
 add-at c = search needs
 
--- src/tally.rt:115:16
 mul-if2 : tie.Need-mul-if2 Inv-loop μ-loop
 mul-if2 c = search needs
 
--- src/tally.rt:115:16
 element-copy-out-if2 : tie.Need-element-copy-out-if2 Inv-loop μ-loop
 element-copy-out-if2 c = search needs
 
--- src/tally.rt:116:23
 slice-aggregate-print : tie.Need-slice-aggregate-print Inv-loop μ-loop
 slice-aggregate-print c = search needs
 
--- src/tally.rt:116:17
 print-requires : tie.Need-print-requires Inv-loop μ-loop
 print-requires c κs = search needs
 
--- src/tally.rt:117:30
 mul-print-number : tie.Need-mul-print-number Inv-loop μ-loop
 mul-print-number c = search needs
 
--- src/tally.rt:117:30
 element-copy-out-print-number : tie.Need-element-copy-out-print-number Inv-loop μ-loop
 element-copy-out-print-number c = search needs
 
--- src/tally.rt:117:17
 print-number-requires : tie.Need-print-number-requires Inv-loop μ-loop
 print-number-requires c κs = search needs
 
--- src/tally.rt:118:23
 slice-aggregate-print-2 : tie.Need-slice-aggregate-print-2 Inv-loop μ-loop
 slice-aggregate-print-2 c = search needs
 
--- src/tally.rt:118:17
 print-requires-2 : tie.Need-print-requires-2 Inv-loop μ-loop
 print-requires-2 c κs = search needs
 
--- src/tally.rt:119:30
 cast-print-number : tie.Need-cast-print-number Inv-loop μ-loop
 cast-print-number c = search needs
 
--- src/tally.rt:119:17
 print-number-requires-2 : tie.Need-print-number-requires-2 Inv-loop μ-loop
 print-number-requires-2 c κs = search needs
 
--- src/tally.rt:112:9
 add-number : tie.Need-add-number Inv-loop μ-loop
 add-number c = search needs
 
--- src/tally.rt:112:5
 loop-less : tie.Need-loop-less Inv-loop μ-loop
 loop-less c = search needs
 
--- src/tally.rt:112:5
 loop-again : tie.Need-loop-again Inv-loop μ-loop
 loop-again c = search needs
 
--- src/tally.rt:111:1
 returns : tie.Need-returns Inv-loop μ-loop
 returns c = search needs
 

@@ -1,11 +1,9 @@
+-- `real`: the test is the definition.
 use mathlib.Core.Path.{refl}
 use Rattle.replay.specs.Bits.{realBits}
 use Rattle.replay.proofs.words.real.Statement.{statement}
 use Rattle.replay.proofs.words.real.Tie as tie
-use Rattle.replay.proofs.words.real.Reads as reads
-use Rattle.replay.proofs.words.real.Lts as lts
 
--- src/words.rt:83:1
 returns : tie.Need-returns
 unfolding realBits
 returns c = refl

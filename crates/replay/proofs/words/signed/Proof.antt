@@ -9,8 +9,6 @@ use mir.Facts.{toZ-pos}
 use borrow.Author.Needs.{needs}
 use Rattle.replay.proofs.words.signed.Statement.{statement}
 use Rattle.replay.proofs.words.signed.Tie as tie
-use Rattle.replay.proofs.words.signed.Reads as reads
-use Rattle.replay.proofs.words.signed.Lts as lts
 
 -- -1 less a is the negative number of the same bits
 less-pos : (a : ℕ) → negsuc 0 -ℤ pos a ≡ negsuc a
@@ -26,27 +24,21 @@ below-fits a h = subst (SFits w32) (sym (ap (λ (z : ℤ). negsuc 0 -ℤ z) (toZ
 small : (x : ℕ) → 2147483648 ≤ x → 4294967295 - x < 2147483648
 small x h = omega arith
 
--- src/words.rt:70:16
 cast-result : tie.Need-cast-result
 cast-result c = search needs
 
--- src/words.rt:70:9
 returns : tie.Need-returns
 returns c = search needs
 
--- src/words.rt:72:12
 sub-result : tie.Need-sub-result
 sub-result c = search needs
 
--- src/words.rt:72:11
 cast-result-2 : tie.Need-cast-result-2
 cast-result-2 c = search needs
 
--- src/words.rt:72:5
 sub-result-2 : tie.Need-sub-result-2
 sub-result-2 c = below-fits (4294967295 - c .before .args .x) (small (c .before .args .x) (c .if1 .left))
 
--- src/words.rt:68:1
 returns-2 : tie.Need-returns-2
 returns-2 c = search needs
 

@@ -1,6 +1,6 @@
 //! answer IN OUT [votes]: reads the cases of a file and writes them again with the Rust's answers; with `votes` also with the logical list
 //! that the Rust's consensus votes from the physical one. Calls that are stored with a refusal from 1 to 9 are no calls of the Rust's, and
-//! stay as they are.
+//! stay as they are. Prints how many answers are not the ones that were stored.
 
 use oracle::file::{self, Call, Columns, Entry, File, Words};
 use oracle::{Case, Likelihood, Soft, Square};
@@ -29,6 +29,7 @@ fn main() {
     let words: Vec<String> = std::env::args().collect();
     let mut out = File::default();
     let mut map = None;
+    let (mut calls, mut changed) = (0, 0);
     let votes = words.get(3).is_some_and(|w| w == "votes");
     for entry in file::read(&words[1]).expect("a file of cases") {
         match entry {
@@ -37,13 +38,17 @@ fn main() {
                 out.tables(&h, &v);
             }
             Entry::Call(call, stored) if (1..=9).contains(&stored[0]) => out.call(&call, &stored),
-            Entry::Call(mut call, _) => {
+            Entry::Call(mut call, stored) => {
                 if votes {
                     call.logical = Columns::of(&oracle::votes(&call.physical.edges()));
                 }
-                out.call(&call, &answer(map.expect("maps that the Rust was compiled with"), &call));
+                let words = answer(map.expect("maps that the Rust was compiled with"), &call);
+                calls += 1;
+                changed += u32::from(words != stored);
+                out.call(&call, &words);
             }
         }
     }
     out.write(&words[2]).expect("the file");
+    println!("{changed} of {calls} answers changed");
 }

@@ -279,9 +279,9 @@ fn clean_window(t: &GridTransform, squares: i32) -> Vec<PuzzleBoardObservedEdge>
     out
 }
 
-/// The bit that makes an edge a hit, by the given match statistics of that edge alone.
+/// The bit that makes an edge a hit, whatever its own is, by the given match statistics of that edge alone with bit 0.
 fn bit_at(e: &Edge, t: &GridTransform) -> u8 {
-    u8::from(detector::decode::match_stats(&[edge(e)], t).matched == 0)
+    u8::from(detector::decode::match_stats(&[edge(&Edge { bit: 0, ..*e })], t).matched == 0)
 }
 
 /// The bit that makes an edge a hit at a placing.

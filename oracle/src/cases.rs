@@ -194,66 +194,73 @@ pub fn hostile(r: &mut Random) -> Case {
     Case { map, logical, physical, transforms: transforms(r, truth, false), limit, soft: soft(r) }
 }
 
-/// How many cells of one map's side have the most hits, for edges of one orientation under transform 0.
-fn optimal(map: usize, edges: &[Edge]) -> usize {
-    let mut counts = Vec::new();
+/// The cells of one side with the most hits, each as an origin of its class, for edges of one orientation under transform 0.
+fn optimal(map: usize, edges: &[Edge]) -> Vec<Square> {
+    let mut cells = Vec::new();
     for long in 0..167 {
         for short in 0..3 {
-            // an origin of that class: (row, column) by the side's own residues
-            let at = if edges[0].orientation == 0 {
-                Square { transform: 0, row: long, col: short }
-            } else {
-                Square { transform: 0, row: short, col: long }
-            };
-            counts.push(edges.iter().filter(|e| true_bit(map, e, &at) == e.bit).count());
+            let (row, col) = if edges[0].orientation == 0 { (long, short) } else { (short, long) };
+            let at = Square { transform: 0, row, col };
+            cells.push((edges.iter().filter(|e| true_bit(map, e, &at) == e.bit).count(), at));
         }
     }
-    let most = counts.iter().max().copied().unwrap_or(0);
-    counts.iter().filter(|&&n| n == most).count()
+    let most = cells.iter().map(|c| c.0).max().unwrap_or(0);
+    cells.into_iter().filter(|c| c.0 == most).map(|c| c.1).collect()
 }
 
+/// Lists by the number of their optimal cells.
+type Sized = Vec<(usize, Vec<Edge>)>;
+
 /// Lists whose optimal class pairs under transform 0 are 1,023 to 1,026 in number.
+///
+/// A horizontal list ends in an edge that is read both ways: the cells that miss its first reading have as many hits as the optimal ones and
+/// 2^-30 less weight, which is lost beside a vertical weight of 1 or more. So a scan over all origins takes the first of more pairs than the
+/// optimal ones, and on which side of 1,024 their number lies shows in the winner.
 pub struct Pairs {
-    sides: [Vec<Vec<Edge>>; 2],
-    sizes: [Vec<usize>; 2],
     map: usize,
+    horizontal: Sized,
+    vertical: Sized,
 }
 
 impl Pairs {
-    /// Some lists of each orientation, and how many optimal cells each has.
+    const LIGHT: f32 = 1.0 / 1024.0;
+
     pub fn new(r: &mut Random, map: usize) -> Self {
-        let mut sides = [Vec::new(), Vec::new()];
-        let mut sizes = [Vec::new(), Vec::new()];
-        for _ in 0..600 {
-            let side = r.below(2) as usize;
-            let few: Vec<Edge> =
-                (0..1 + r.below(6)).map(|_| Edge { orientation: side as u8, confidence: 1.0, ..any_edge(r, 4, 0) }).collect();
-            sizes[side].push(optimal(map, &few));
-            sides[side].push(few);
+        let mut pairs = Self { map, horizontal: Vec::new(), vertical: Vec::new() };
+        for i in 0..600 {
+            let side = (i % 2) as u8;
+            let confidence = if side == 0 { Self::LIGHT } else { 1.0 };
+            let edge = |r: &mut Random| Edge { orientation: side, confidence, ..any_edge(r, 4, 0) };
+            let mut few: Vec<Edge> = (0..1 + r.below(6)).map(|_| edge(r)).collect();
+            let cells = optimal(map, &few);
+            if side == 1 {
+                pairs.vertical.push((cells.len(), few));
+                continue;
+            }
+            let last = edge(r);
+            let lighter = Self::LIGHT - Self::LIGHT / (1 << 20) as f32;
+            few.extend([last, Edge { bit: 1 - last.bit, confidence: lighter, ..last }]);
+            let hit = cells.iter().filter(|at| true_bit(map, &last, at) == last.bit).count();
+            pairs.horizontal.push((hit, few));
         }
-        Self { sides, sizes, map }
+        pairs
     }
 
-    /// A list with `product` optimal pairs, if some two lists have it.
+    /// A list with `product` optimal pairs, if some two lists have it. The physical list reads the last edge's second bit with half the
+    /// confidence, so that nothing ties there.
     pub fn case(&self, r: &mut Random, product: usize) -> Option<Case> {
-        let start = r.below(self.sides[0].len() as u64) as usize;
-        for k in 0..self.sides[0].len() {
-            let i = (start + k) % self.sides[0].len();
-            for j in 0..self.sides[1].len() {
-                if self.sizes[0][i] * self.sizes[1][j] == product {
-                    let scale = pick(r, &[1.0, 0.1, 0.7]);
-                    let mut list: Vec<Edge> = self.sides[0][i].iter().chain(&self.sides[1][j]).copied().collect();
-                    list.iter_mut().for_each(|e| e.confidence = scale);
-                    let others = if r.once_in(2) { vec![0] } else { vec![0, r.below(8) as u8] };
-                    return Some(Case {
-                        map: self.map,
-                        logical: list.clone(),
-                        physical: list,
-                        transforms: others,
-                        limit: 1.0,
-                        soft: soft(r),
-                    });
+        let start = r.below(self.horizontal.len() as u64) as usize;
+        let (before, after) = self.horizontal.split_at(start);
+        for (n, horizontal) in after.iter().chain(before) {
+            for (m, vertical) in &self.vertical {
+                if n * m != product {
+                    continue;
                 }
+                let logical: Vec<Edge> = horizontal.iter().chain(vertical).copied().collect();
+                let mut physical = logical.clone();
+                physical[horizontal.len() - 1].confidence /= 2.0;
+                let transforms = if r.once_in(2) { vec![0] } else { vec![0, r.below(8) as u8] };
+                return Some(Case { map: self.map, logical, physical, transforms, limit: 1.0, soft: soft(r) });
             }
         }
         None

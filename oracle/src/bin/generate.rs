@@ -1,10 +1,16 @@
 //! generate KIND COUNT SEED FILE: COUNT fresh cases with the Rust's answers, in the form that `replay` reads.
 //!
-//! KIND is `fresh` (for a long comparison) or `sample` (for the stored sample).
+//! KIND is `fresh` (for a long comparison), `sample` (for the stored sample) or `pairs` (class pairs around 1,024 and ties by rounding).
 
 use oracle::cases::{self, Pairs};
 use oracle::file::{self, Call, File, Words};
 use oracle::{Case, Random};
+
+fn around_1024(r: &mut Random, pairs: &[Pairs]) -> Option<Case> {
+    let pool = &pairs[r.below(pairs.len() as u64) as usize];
+    let product = [1023, 1024, 1024, 1025, 1025, 1026][r.below(6) as usize];
+    pool.case(r, product)
+}
 
 /// Case i: every kind of case comes in turn, so that a short run has them all. The sample has a few large ones in fixed places and is
 /// small otherwise, so that it can be stored.
@@ -22,11 +28,7 @@ fn case(i: usize, r: &mut Random, pairs: &[Pairs], sample: bool) -> Option<Case>
         (3, ..) if i % 40 == 3 => Some(cases::near_tie(r)),
         (4, false, _) if i % 60 == 24 => Some(cases::refused(r)),
         (4, false, _) if i % 60 == 44 => Some(cases::near_tie(r)),
-        (4, ..) => {
-            let pool = &pairs[r.below(pairs.len() as u64) as usize];
-            let product = 1023 + r.below(4) as usize;
-            pool.case(r, product)
-        }
+        (4, ..) => around_1024(r, pairs),
         _ => {
             let size = cases::squares(r);
             Some(cases::view(r, if sample { size.min(9) } else { size }, !sample))
@@ -54,7 +56,12 @@ fn main() {
         if made.len() == count {
             break;
         }
-        let Some(mut case) = case(i, &mut r, &pairs, sample) else { continue };
+        let made_now = match words[1].as_str() {
+            "pairs" if i % 4 == 0 => Some(cases::near_tie(&mut r)),
+            "pairs" => around_1024(&mut r, &pairs),
+            _ => case(i, &mut r, &pairs, sample),
+        };
+        let Some(mut case) = made_now else { continue };
         if case.logical.is_empty() || case.physical.is_empty() {
             continue;
         }

@@ -1,0 +1,93 @@
+// What the command says of itself.
+use crate::page::put;
+use crate::page::say;
+use crate::page::write;
+
+// How it is used, in one line.
+fn put_use(page: &mut [u8; 32768], at: usize) -> usize {
+    put(
+        page,
+        at,
+        b"use: samburext [--plain] [--map FILE.svg] BOARD VIEW\n",
+    )
+}
+
+// The files, with an example.
+fn put_files(page: &mut [u8; 32768], at: usize) -> usize {
+    let n = put(
+        page,
+        at,
+        b"\nBOARD has two lines of 167 digits from 0 to 7: the patterns of the horizontal edges, then of the\nvertical edges.\n",
+    );
+    let n = put(
+        page,
+        n,
+        b"\nVIEW has one edge a line: h or v, row, column, bit, confidence; for soft decode the log likelihoods\nof a match and of a mismatch follow. For example:\n\n",
+    );
+    let n = put(
+        page,
+        n,
+        b"    # corner of the bench, camera 2\n    transforms 0 1 2 3    # 1 to 8 numbers; 0 1 2 3 if left out\n    limit 0.2             # largest error rate; 0.3 if left out\n    margin 0.02           # soft margin; 0.02 if left out\n",
+    );
+    let n = put(
+        page,
+        n,
+        b"    logical\n    h 0 0 1 0.93\n    v 0 0 0 0.88\n    physical              # one list serves for both if only one is given\n    h 0 0 1 0.93 -0.05 -3.2\n    v 0 0 0 0.88 -0.10 -2.6\n",
+    );
+    put(
+        page,
+        n,
+        b"\nA file has at most 1048576 bytes (a board 65536), a list at most 8192 edges.\n",
+    )
+}
+
+// What the answer says.
+fn put_meanings(page: &mut [u8; 32768], at: usize) -> usize {
+    let n = put(
+        page,
+        at,
+        b"\nThe answer is the square of the board (row and column from 0 to 500) on which row 0, column 0 of the\nview lies, and how the board appears in the view. Rows grow downwards, columns to the right.\n",
+    );
+    let n = put(
+        page,
+        n,
+        b"  0 as printed                          4 mirrored, left and right swapped\n  1 turned a quarter counter-clockwise  5 mirrored, rows and columns swapped\n",
+    );
+    let n = put(
+        page,
+        n,
+        b"  2 turned upside down                  6 mirrored, top and bottom swapped\n  3 turned a quarter clockwise          7 mirrored, rows and columns swapped, upside down\n",
+    );
+    let n = put(
+        page,
+        n,
+        b"A refusal has a number and no square.\n\n--plain    one line of key=value, for programs\n--map FILE writes a picture of the board (SVG); a refusal has none\n",
+    );
+    put(
+        page,
+        n,
+        b"\nExit status: 0 found, 1 refused, 2 bad use or a file that cannot be read.\n",
+    )
+}
+
+// All of it, as an answer.
+pub(crate) fn show() {
+    let mut page = [0u8; 32768];
+    let n = put(
+        &mut page,
+        0,
+        b"samburext tells which square of a PuzzleBoard a camera faces, or refuses.\n\n",
+    );
+    let n = put_use(&mut page, n);
+    let n = put_files(&mut page, n);
+    let n = put_meanings(&mut page, n);
+    say(&page, n);
+}
+
+// How it is used, as a message.
+pub(crate) fn show_use() {
+    let mut page = [0u8; 32768];
+    let n = put_use(&mut page, 0);
+    let n = put(&mut page, n, b"samburext --help says more\n");
+    write(libc::STDERR_FILENO, &page, n);
+}

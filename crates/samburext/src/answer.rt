@@ -182,7 +182,7 @@ fn put_plain_found(page: &mut [u8; 32768], at: usize, d: Decoded) -> usize {
     put_key(page, n, b" runner_transform=", runner.transform)
 }
 
-// The answer in one line of keys and values, for programs.
+// The answer in keys and values, for programs; the line is left open.
 pub(crate) fn put_plain(
     page: &mut [u8; 32768],
     at: usize,
@@ -205,6 +205,5 @@ pub(crate) fn put_plain(
     let n = put(page, n, b" transforms=");
     let n = put_transforms(page, n, view, b",");
     let n = put_key_float(page, n, b" limit=", view.limit);
-    let n = put_key_float(page, n, b" margin=", view.margin);
-    put(page, n, b"\n")
+    put_key_float(page, n, b" margin=", view.margin)
 }

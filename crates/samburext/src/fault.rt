@@ -1,4 +1,5 @@
 // What a file should have had where it is at fault, by number, and the message that says so.
+use crate::page::blank;
 use crate::page::put;
 use crate::page::put_number;
 use crate::page::write;
@@ -199,7 +200,7 @@ fn put_instead(page: &mut [u8; 32768], at: usize, s: &[u8], place: usize) -> usi
 
 // The message of a fault: the file that argument i names, the line, what was expected there and what there is.
 pub(crate) fn report(i: usize, s: &[u8], what: u32, place: usize) {
-    let mut page = [0u8; 32768];
+    let mut page = blank();
     let n = crate::args::put_argument(&mut page, 0, i);
     let n = put(&mut page, n, b", line ");
     let n = put_number(&mut page, n, line_of(s, place));
@@ -213,7 +214,7 @@ pub(crate) fn report(i: usize, s: &[u8], what: u32, place: usize) {
 
 // The message of a file that is too large.
 pub(crate) fn report_size(i: usize, most: u64) {
-    let mut page = [0u8; 32768];
+    let mut page = blank();
     let n = crate::args::put_argument(&mut page, 0, i);
     let n = put(&mut page, n, b": expected a file of at most ");
     let n = put_number(&mut page, n, most);

@@ -1,4 +1,5 @@
 // What the command says of itself.
+use crate::page::blank;
 use crate::page::put;
 use crate::page::say;
 use crate::page::write;
@@ -72,7 +73,7 @@ fn put_meanings(page: &mut [u8; 32768], at: usize) -> usize {
 
 // All of it, as an answer.
 pub(crate) fn show() {
-    let mut page = [0u8; 32768];
+    let mut page = blank();
     let n = put(
         &mut page,
         0,
@@ -86,7 +87,7 @@ pub(crate) fn show() {
 
 // How it is used, as a message.
 pub(crate) fn show_use() {
-    let mut page = [0u8; 32768];
+    let mut page = blank();
     let n = put_use(&mut page, 0);
     let n = put(&mut page, n, b"samburext --help says more\n");
     write(libc::STDERR_FILENO, &page, n);

@@ -11,6 +11,7 @@ mod answer; // the answer for people and for programs
 mod decode; // the decoder called on what the files gave
 mod args; // what the command was asked for
 mod files; // the board and the view, read from their files
+mod map; // the picture
 mod help; // what the command says of itself
 
 use args::Options;
@@ -24,27 +25,73 @@ fn give_up(o: Options) {
     }
 }
 
+// What became of the picture: nothing where none was asked for.
+fn put_map(page: &mut [u8; 32768], at: usize, o: Options, found: bool) -> usize {
+    if o.map == 0 {
+        return at;
+    }
+    if o.plain {
+        return if found {
+            page::put(page, at, b" map=written")
+        } else {
+            page::put(page, at, b" map=none")
+        };
+    }
+    if !found {
+        return page::put(
+            page,
+            at,
+            b"  map          none written: a refusal has no square to show\n",
+        );
+    }
+    let n = page::put(page, at, b"  map          ");
+    let n = args::put_argument(page, n, o.map);
+    page::put(page, n, b"\n")
+}
+
 // The answer written as it was asked for.
-fn tell(o: Options, a: Answer, view: View) {
+fn tell(o: Options, a: Answer, view: View, found: bool) {
     let soft = decode::is_soft(view);
-    let mut room = [0u8; 32768];
-    let n = if o.plain {
-        answer::put_plain(&mut room, 0, a, view, soft)
-    } else {
-        answer::put_answer(&mut room, 0, a, view, soft)
-    };
+    let mut room = page::blank();
+    if o.plain {
+        let n = answer::put_plain(&mut room, 0, a, view, soft);
+        let n = put_map(&mut room, n, o, found);
+        let n = page::put(&mut room, n, b"\n");
+        page::say(&room, n);
+        return;
+    }
+    let n = answer::put_answer(&mut room, 0, a, view, soft);
+    let n = put_map(&mut room, n, o, found);
     page::say(&room, n);
+}
+
+// The answer with its picture, if one is asked for. Where the picture cannot be written, no answer is given.
+fn conclude(o: Options, a: Answer, view: View) {
+    match a {
+        Answer::Found(d) => {
+            if o.map != 0 {
+                if !map::draw(o.map, d, view) {
+                    give_up(o);
+                    return;
+                }
+            }
+            tell(o, a, view, true);
+        }
+        Answer::Refused(_) => {
+            tell(o, a, view, false);
+        }
+    }
 }
 
 // The view of the options on a board whose tables are read: decoded, and the answer written.
 fn face<'a>(o: Options, h: &'a [u8; 167], v: &'a [u8; 167]) {
-    let mut rows = [0i32; 16384];
-    let mut cols = [0i32; 16384];
-    let mut orientations = [0u8; 16384];
-    let mut bits = [0u8; 16384];
-    let mut confidences = [0.0f32; 16384];
-    let mut hits = [0.0f32; 16384];
-    let mut misses = [0.0f32; 16384];
+    let mut rows = view_file::column_i32();
+    let mut cols = view_file::column_i32();
+    let mut orientations = view_file::column_u8();
+    let mut bits = view_file::column_u8();
+    let mut confidences = view_file::column_f32();
+    let mut hits = view_file::column_f32();
+    let mut misses = view_file::column_f32();
     let view = files::load_view(
         o.view,
         &mut rows,
@@ -71,11 +118,14 @@ fn face<'a>(o: Options, h: &'a [u8; 167], v: &'a [u8; 167]) {
         h,
         v,
     );
-    tell(o, a, view);
+    conclude(o, a, view);
 }
 
 // The board, then the view.
 fn run(o: Options) {
+    if o.map != 0 {
+        map::forget(o.map);
+    }
     let mut h = [0u8; 167];
     let mut v = [0u8; 167];
     if files::load_board(o.board, &mut h, &mut v) {

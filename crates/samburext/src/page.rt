@@ -2,6 +2,11 @@
 // page that is full takes no more.
 use libc::STDOUT_FILENO;
 
+// A page with nothing on it.
+pub(crate) fn blank() -> [u8; 32768] {
+    [0; 32768]
+}
+
 // The text after what stands on the page.
 pub(crate) fn put(page: &mut [u8; 32768], at: usize, text: &[u8]) -> usize {
     let mut n = at;

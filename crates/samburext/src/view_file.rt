@@ -14,6 +14,19 @@ use crate::text::next_word;
 use crate::text::none;
 use crate::text::start;
 
+// An empty column, one function for each type.
+pub(crate) fn column_i32() -> [i32; 16384] {
+    [0; 16384]
+}
+
+pub(crate) fn column_u8() -> [u8; 16384] {
+    [0; 16384]
+}
+
+pub(crate) fn column_f32() -> [f32; 16384] {
+    [0.0; 16384]
+}
+
 // How far a list is read: whether the file has it, its edges so far, and whether they have log likelihoods (0 not known yet, 1 none, 2 all).
 pub(crate) struct List {
     pub given: bool,

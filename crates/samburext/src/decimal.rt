@@ -1,6 +1,8 @@
 // Numbers as a person writes them. A number is its digits, read as a whole number, over a power of ten; both stay below 2^24, where every whole number is an f32,
 // so that one division gives the f32 nearest to what is written.
 use crate::text::Word;
+ghost use mathlib.Core.Path.{_≡_};
+ghost use Rattle.samburext.specs.Decimal.{floatOf};
 use crate::text::byte_after;
 
 // A number that was read: good if the word was one, its sign, its digits without the point, and the power of ten below them.
@@ -127,7 +129,9 @@ pub(crate) fn is_share(d: Decimal) -> bool {
 }
 
 // The f32 nearest to a number, by one division of two whole numbers that are f32 themselves.
-pub(crate) fn float(d: Decimal) -> f32 {
+pub(crate) fn float(d: Decimal) -> f32
+    ensures { λ r. ⌜ r ≡ floatOf (d .minus) (d .digits) (d .scale) ⌝ }
+{
     let x = std::num::nearest_u32_to_f32(d.digits) / std::num::nearest_u32_to_f32(d.scale);
     if d.minus { 0.0 - x } else { x }
 }

@@ -135,7 +135,7 @@ fn put_faced(page: &mut [u8; 32768], at: usize, s: Square) -> usize {
     let n = put(
         page,
         n,
-        b"\" fill=\"none\" stroke=\"#c00000\" stroke-width=\"1.5\">\n<path d=\"M0 0H26M20 -4L26 0L20 4\"/><path d=\"M0 0V18M-3 14L0 18L3 14\" stroke-dasharray=\"3 1.5\"/>\n</g>\n",
+        b"\" fill=\"none\" stroke=\"#c00000\" stroke-width=\"1.5\">\n<path d=\"M0 0H26M20 -4L26 0L20 4M-4 15L0 21L4 15\"/><path d=\"M0 0V21\" stroke-dasharray=\"2 1.5\"/>\n</g>\n",
     );
     let n = put_move(page, n, s);
     put(

@@ -1,0 +1,15 @@
+-- What a decimal becomes: its digits, read as a whole number, over a power of ten. Both are below 2^24, where an f32 is every whole number, so the two conversions
+-- are exact and the one division rounds once: to the f32 nearest to what is written.
+use mathlib.Core.Bool.{Bool, true, false}
+use Prim.Native.Nat.{ℕ}
+use lib.IntN.{pos}
+use lib.Ieee.{Float, binary32, ofInt, ofBits, div, sub}
+
+-- the digits n over the power of ten s
+abbrev pub quotient : ℕ → ℕ → Float
+quotient n s = div binary32 (ofInt binary32 (pos n)) (ofInt binary32 (pos s))
+
+-- the same with a sign: 0 minus it where there is a minus
+abbrev pub floatOf : Bool → ℕ → ℕ → Float
+floatOf true n s = sub binary32 (ofBits binary32 0) (quotient n s)
+floatOf false n s = quotient n s

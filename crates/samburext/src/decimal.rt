@@ -2,7 +2,7 @@
 // so that one division gives the f32 nearest to what is written.
 use crate::text::Word;
 ghost use mathlib.Core.Path.{_≡_};
-ghost use Rattle.samburext.specs.Decimal.{floatOf};
+ghost use Rattle.samburext.specs.Decimal.{floatOf, nextDigits, nextScale};
 use crate::text::byte_after;
 
 // A number that was read: good if the word was one, its sign, its digits without the point, and the power of ten below them.
@@ -35,18 +35,22 @@ fn spoilt(d: Decimal) -> Decimal {
 }
 
 // The power of ten below the digits after one digit more; 0 where that would be too large.
-fn next_scale(point: bool, scale: u32) -> u32 {
-    if !point {
-        return scale;
+fn next_scale(point: bool, scale: u32) -> u32
+    ensures { λ r. ⌜ r ≡ nextScale point scale ⌝ }
+{
+    if point {
+        if scale > 1000000 {
+            return 0;
+        }
+        return scale * 10;
     }
-    if scale > 1000000 {
-        return 0;
-    }
-    scale * 10
+    scale
 }
 
 // The digits with one more, up to 16,777,215; 16,777,216 where there are too many.
-fn next_digits(digits: u32, x: u8) -> u32 {
+fn next_digits(digits: u32, x: u8) -> u32
+    ensures { λ r. ⌜ r ≡ nextDigits digits x ⌝ }
+{
     if digits > 1677721 {
         return 16777216;
     }

@@ -3,6 +3,7 @@ pub mod Lex
 pub mod LexLaws
 pub mod RowMajor
 pub mod RowMajorLaws
+pub mod RowFloor
 pub mod Scan
 pub mod ScanLaws
 pub mod Lead

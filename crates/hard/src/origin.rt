@@ -28,7 +28,8 @@ pub fn key_of(h: usize, v: usize, long: usize, wide: usize) -> usize
     row * (3 * wide) + col
 }
 
-// The least of start and the keys of the horizontal cell h with each vertical cell of that count and weight.
+// The least of start and the keys of the horizontal cell h with each vertical cell of that count and weight. No origin of h stands above row h / 3, so where
+// start stands there or higher up, no vertical cell is looked at.
 fn lowest_key(
     counts: &[u32],
     weights: &[f32],
@@ -43,6 +44,9 @@ fn lowest_key(
     requires { ⌜ (length (now counts) ≡ 3 * wide) × (length (now weights) ≡ 3 * wide) ⌝ }
     ensures { λ r. ⌜ r ≡ lowest (optimal (now (counts .entry)) (now (weights .entry)) top heavy) (origins long wide .key h) start (length (now (counts .entry))) ⌝ }
 {
+    if start <= h / 3 * (3 * wide) {
+        return start;
+    }
     let mut best: usize = start;
     let mut v: usize = 0;
     while v < counts.len() {

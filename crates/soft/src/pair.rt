@@ -20,11 +20,15 @@ pub struct TwoBest {
     pub runner: usize,
 }
 
-// The least of start and the keys of the horizontal cell h with each vertical cell of that sum.
+// The least of start and the keys of the horizontal cell h with each vertical cell of that sum. No origin of h stands above row h / 3, so where start stands
+// there or higher up, no vertical cell is looked at.
 fn lowest_key(sums: &[i64], top: i64, h: usize, start: usize, long: usize, wide: usize) -> usize
     requires { ⌜ Period long × Period wide × (length (now sums) ≡ 3 * wide) × (h < 3 * long) ⌝ }
     ensures { λ r. ⌜ r ≡ lowest (level (now (sums .entry)) top) (origins long wide .key h) start (length (now (sums .entry))) ⌝ }
 {
+    if start <= h / 3 * (3 * wide) {
+        return start;
+    }
     let mut best: usize = start;
     let mut v: usize = 0;
     while v < sums.len() {

@@ -1,5 +1,6 @@
 use borrow.Author.Needs.{needs}
-use Prim.Native.Nat.{_≤_, _-_}
+use Prim.Native.Nat.{_*_, _/_, _≤_, _-_}
+use native.Mathlib.Nat.{mul-le-mul}
 use mathlib.Core.Path.{_≡_, refl, sym, _∙_}
 use mathlib.Core.Logic.{⊎-elim}
 use lib.ListN.{length}
@@ -8,6 +9,7 @@ use Rattle.hard.specs.Lex.{optimal}
 use Rattle.hard.specs.RowMajor.{lowest}
 use Rattle.hard.specs.RowMajorLaws.{lowest-no, lowest-new, lowest-old}
 use native.Mathlib.Omega.{arith}
+use Rattle.hard.specs.RowFloor.{floor-stays}
 use Rattle.hard.proofs.origin.lowest_key.Statement.{statement}
 use Rattle.hard.proofs.origin.lowest_key.Tie as tie
 
@@ -16,6 +18,15 @@ Inv-loop counts weights top heavy h start long wide best₀ v₀ best v = (v ≤
 
 abbrev μ-loop : tie.MeasureT-loop
 μ-loop counts weights top heavy h start long wide best₀ v₀ best v = length counts - v
+
+mul-if1 : tie.Need-mul-if1 Inv-loop μ-loop
+mul-if1 c = search needs
+
+mul-if1-2 : tie.Need-mul-if1-2 Inv-loop μ-loop
+mul-if1-2 c = record { fits = omega (arith, mul-le-mul {n₁ = c .before .before .args .h / 3} {m₁ = 3 * c .before .before .args .wide} {n₂ = 500} {m₂ = 1500} (omega (arith, c .before .before .pre .0 .2, c .before .before .pre .0 .0 .few)) (omega (arith, c .before .before .pre .0 .1 .few))) }
+
+returns : tie.Need-returns Inv-loop μ-loop
+returns c = let s = c .before .before .before in floor-stays (s .args .long) (s .args .wide) _ (s .args .h) (s .args .start) _ (s .pre .0 .0) (s .pre .0 .2) (c .if1 .taken)
 
 loop-holds : tie.Need-loop-holds Inv-loop μ-loop
 unfolding lowest
@@ -53,10 +64,10 @@ loop-again c =
     (⊎-elim
     (λ w. (omega arith, w .3 ∙ lowest-old _ _ _ _ _ (inv .1) (sym (c .before .is-optimal .ensures) ∙ w .0 .taken) (rw (w .1 .ensures) at (w .2 .left))))
     (λ w. (omega arith, w .1 ∙ lowest-no _ _ _ _ _ (inv .1) (sym (c .before .is-optimal .ensures) ∙ w .0 .left))))
-    (c .if1 .came)
+    (c .if2 .came)
 
-returns : tie.Need-returns Inv-loop μ-loop
-returns c = let e : c .before .loop .v ≡ length (c .before .before .before .before .args .counts .now) = omega arith in rw (← e) (c .before .loop .inv .1)
+returns-2 : tie.Need-returns-2 Inv-loop μ-loop
+returns-2 c = let e : c .before .loop .v ≡ length (c .before .before .before .before .before .args .counts .now) = omega arith in rw (← e) (c .before .loop .inv .1)
 
 pub lowest-key-spec : {M : Type 1} → statement M
 lowest-key-spec =
@@ -64,6 +75,9 @@ lowest-key-spec =
     (tie.spec
     Inv-loop
     μ-loop
+    mul-if1
+    mul-if1-2
+    returns
     loop-holds
     mul-is-optimal
     shared-slice-read-is-optimal
@@ -74,4 +88,4 @@ lowest-key-spec =
     add-v
     loop-less
     loop-again
-    returns)
+    returns-2)

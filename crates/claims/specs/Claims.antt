@@ -147,11 +147,25 @@ module _ (P : EdgeList) (X : Likelihoods) (L : EdgeList) (ts : List ℕ) (B : Bo
       let f = soft-complete P X L ts B limit least (length c) (length w) (length a) (taken h) k g Q R b m l in (f .0, done .answer ∙ rw (eq-eqb (softRefused .number) 0 h) (f .1))
 
 -- ---- MATCH STATISTICS
--- counted means: the hits are board's, edge by edge, of all the edges
-pub stats-hits : (E : EdgeList) (t row col : ℕ) (B : Board) (r : StatsAnswer) (s : MatchStats) → r ≡ statsAnswer E t row col B → r ≡ stats.Counted s → (s .hits ≡ hits B E t row col) × (s .edges ≡ size E)
-unfolding statsAnswer statsOf
-stats-hits E t row col B r s e k = go (eqb (statsRefusal E t row col B .number) 0) (sym k ∙ e)
-  where
-    go : (b : Bool) → stats.Counted s ≡ orCounted (statsRefusal E t row col B) b (statsOf E t row col B) → (s .hits ≡ hits B E t row col) × (s .edges ≡ size E)
-    go true q = let z : s ≡ statsOf E t row col B = cc in (ap (λ (x : MatchStats). x .hits) z, ap (λ (x : MatchStats). x .edges) z)
-    go false q = let z : _≡_ {A = ℕ} 0 1 = cc in absurd (omega arith)
+module _ (E : EdgeList) (t row col : ℕ) (B : Board) (r : StatsAnswer) (done : r ≡ statsAnswer E t row col B) where
+  abbrev statsNumber : ℕ
+  statsNumber = statsRefusal E t row col B .number
+
+  -- DEMAND 1, refusals: the number of document 01
+  pub stats-refused : (statsNumber ≡ 0 → ⊥) → r ≡ stats.Refused (statsRefusal E t row col B)
+  unfolding statsAnswer
+  stats-refused h = done ∙ rw (ne-eqb statsNumber 0 h)
+
+  -- DEMAND 2: every other call gives the statistics of document 01
+  pub stats-by-the-rules : statsNumber ≡ 0 → r ≡ stats.Counted (statsOf E t row col B)
+  unfolding statsAnswer
+  stats-by-the-rules h = done ∙ rw (eq-eqb statsNumber 0 h)
+
+  -- DEMAND 3, counted means: the hits are board's, edge by edge, of all the edges
+  pub stats-hits : (s : MatchStats) → r ≡ stats.Counted s → (s .hits ≡ hits B E t row col) × (s .edges ≡ size E)
+  unfolding statsAnswer statsOf
+  stats-hits s k = go (eqb statsNumber 0) (sym k ∙ done)
+    where
+      go : (b : Bool) → stats.Counted s ≡ orCounted (statsRefusal E t row col B) b (statsOf E t row col B) → (s .hits ≡ hits B E t row col) × (s .edges ≡ size E)
+      go true q = let z : s ≡ statsOf E t row col B = cc in (ap (λ (x : MatchStats). x .hits) z, ap (λ (x : MatchStats). x .edges) z)
+      go false q = let z : _≡_ {A = ℕ} 0 1 = cc in absurd (omega arith)

@@ -162,7 +162,8 @@ pub fn decode_hard(
     decoded(decode_hard_raw(logical, physical, transforms, patterns, error_limit, room))
 }
 
-/// The same, with the answer as the library gives it.
+/// The same, with the answer as the library gives it: look at `refusal` first, for on a refusal every other field is
+/// 0xFFFFFFFF or NaN. Programs want the function above.
 pub fn decode_hard_raw(
     logical: &EdgeList,
     physical: &EdgeList,
@@ -224,7 +225,8 @@ pub fn decode_soft(
     decoded(decode_soft_raw(physical, likelihoods, logical, transforms, patterns, error_limit, soft_margin, room))
 }
 
-/// The same, with the answer as the library gives it.
+/// The same, with the answer as the library gives it: look at `refusal` first, for on a refusal every other field is
+/// 0xFFFFFFFF or NaN. Programs want the function above.
 #[allow(clippy::too_many_arguments)]
 pub fn decode_soft_raw(
     physical: &EdgeList,
@@ -295,7 +297,8 @@ pub fn match_stats(list: &EdgeList, square: Square, patterns: Patterns) -> Resul
     }
 }
 
-/// The same, with the answer as the library gives it.
+/// The same, with the answer as the library gives it: look at `refusal` first, for on a refusal every other field is
+/// 0xFFFFFFFF or NaN. Programs want the function above.
 pub fn match_stats_raw(list: &EdgeList, square: Square, patterns: Patterns) -> raw::Stats {
     // Every pointer is a slice's with its length; nothing is written.
     unsafe {

@@ -121,10 +121,13 @@ fn face<'a>(o: Options, h: &'a [u8; 167], v: &'a [u8; 167]) {
     conclude(o, a, view);
 }
 
-// The board, then the view.
+// The board, then the view. Where an earlier picture cannot be removed, no answer is given.
 fn run(o: Options) {
     if o.map != 0 {
-        map::forget(o.map);
+        if !map::forget(o.map) {
+            give_up(o);
+            return;
+        }
     }
     let mut h = [0u8; 167];
     let mut v = [0u8; 167];

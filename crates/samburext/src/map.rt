@@ -322,9 +322,14 @@ pub(crate) fn draw(i: usize, d: Decoded, view: View) -> bool {
     save(front(&names, name), front(&names, beside), &page, n)
 }
 
-// The picture that an earlier run left in the file that argument i names is removed, so that a picture which is there belongs to this run.
-pub(crate) fn forget(i: usize) {
+// The picture that an earlier run left in the file that argument i names is removed, so that a picture which is there belongs to this run;
+// false after a message where it is there and cannot be removed.
+pub(crate) fn forget(i: usize) -> bool {
     let mut name = io::buffer();
     let n = os::arg(i, &mut name);
-    os::unlink(&name[..n]);
+    if os::unlink(&name[..n]) == 0 || os::errno() == libc::ENOENT {
+        return true;
+    }
+    os::fail(&name[..n]);
+    false
 }

@@ -1,9 +1,9 @@
 -- What Samburext promises, in one place. Each claim speaks of what a call gave: `HardDone ..`, `SoftDone ..` and `r ≡ statsAnswer ..` are the contracts of
 -- `decode_hard`, `decode_soft` and `match_stats`, which have no `requires`, so the claims hold for all inputs and every pair of pattern tables.
 use mathlib.Core.Path.{_≡_, refl, sym, ap, subst, _∙_}
-use mathlib.Core.Bool.{Bool, true, false, cond}
+use mathlib.Core.Bool.{Bool, true, false}
 use mathlib.Core.List.{List}
-use Prim.Native.Nat.{ℕ, _+_, _*_, _≤_, _<_}
+use Prim.Native.Nat.{ℕ, _≤_, _<_}
 use native.Mathlib.Omega.{arith}
 use lib.Dec.{eqb}
 use lib.ListN.{getD, length}
@@ -11,7 +11,7 @@ use lib.IntN.{ℤ, pos}
 use lib.Ieee.{Float, nan}
 use borrow.Author.Tests.{eq-eqb, ne-eqb, eqb-true}
 use Rattle.laws.specs.Weights.{zeroF}
-use Rattle.laws.specs.Cleared.{cleared, cleared-written}
+use Rattle.laws.specs.Cleared.{cleared-written}
 use Rattle.board.specs.Hits.{EdgeList, Board, Placing, size, hits}
 use Rattle.tables.specs.Sums.{Likelihoods}
 use Rattle.checks.specs.declared.refusal.Refusal.{Refusal}

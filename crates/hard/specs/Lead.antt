@@ -1,4 +1,4 @@
--- What a kept candidate sets to beat, as the direct scan holds it, and that this is document 01's rule of replacing.
+-- What a kept candidate sets to beat, and that being ahead of it is document 01's rule of replacing.
 use mathlib.Core.Path.{_≡_, refl}
 use mathlib.Core.Bool.{Bool, true, false, cond}
 use Prim.Native.Nat.{ℕ, _<_}
@@ -8,8 +8,7 @@ use borrow.Author.Tests.{lt-ltb}
 use Rattle.laws.specs.Weights.{zeroF}
 use Rattle.hard.specs.Lex.{wins}
 use Rattle.hard.specs.Scan.{takes, behind}
-use Rattle.hard.specs.declared.direct.Lead.{Lead}
-use Rattle.hard.specs.declared.scan.Candidate.{Candidate}
+use Rattle.hard.specs.declared.record.Lead.{Lead}
 use Rattle.hard.specs.declared.scan.Kept.{Kept}
 use Rattle.hard.specs.declared.scan.Kept.the-variants.{Nobody, One}
 

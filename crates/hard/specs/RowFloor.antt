@@ -1,11 +1,11 @@
 -- No origin of a horizontal cell h stands above row h / 3, so a key that stands there or higher up is not lowered by any of them.
 use mathlib.Core.Path.{_≡_, refl, subst}
 use mathlib.Core.Bool.{Bool, true, false}
-use Prim.Native.Nat.{ℕ, zero, suc, _+_, _*_, _/_, _≤_, _<_}
+use Prim.Native.Nat.{ℕ, zero, suc, _*_, _/_, _≤_, _<_}
 use native.Mathlib.Nat.{mod-le, mul-le-mul-right}
 use native.Mathlib.Numerals.{add-one}
 use native.Mathlib.Omega.{arith}
-use Rattle.laws.specs.Grid.{rowOf, colOf, origins}
+use Rattle.laws.specs.Grid.{rowOf, origins}
 use Rattle.laws.specs.Residues.{joint, joint-long}
 use Rattle.hard.specs.CellTables.{Period}
 use Rattle.hard.specs.RowMajor.{lowest}

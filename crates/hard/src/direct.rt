@@ -4,8 +4,8 @@ ghost use Prim.Native.Nat.{_+_, _*_, _%_, _≤_, _<_};
 ghost use Rattle.hard.specs.CellTables.{Period, TablesOk, cells};
 ghost use Rattle.hard.specs.Scan.{offeredWithin};
 ghost use Rattle.hard.specs.Direct.{tried};
-ghost use Rattle.hard.specs.Lead.{leadOf, aheadOf};
-use crate::lex::beats;
+use crate::record::is_ahead;
+use crate::record::lead_of;
 use crate::record::offer_within;
 use crate::scan::Candidate;
 use crate::scan::Kept;
@@ -17,41 +17,6 @@ fn next_class(k: usize, n: usize) -> usize
 {
     let next = k + 1;
     if next == n { 0 } else { next }
-}
-
-// What is to be beaten: nothing, or a candidate's hits and score.
-pub struct Lead {
-    pub some: bool,
-    pub hits: u32,
-    pub score: f32,
-}
-
-// What the kept candidate sets to beat.
-fn lead_of(kept: Kept) -> Lead
-    ensures { λ r. ⌜ r ≡ leadOf kept ⌝ }
-{
-    match kept {
-        Kept::Nobody => Lead {
-            some: false,
-            hits: 0,
-            score: 0.0,
-        },
-        Kept::One(k) => Lead {
-            some: true,
-            hits: k.hits,
-            score: k.score,
-        },
-    }
-}
-
-// Whether an origin with these hits and this score is ahead of it.
-fn is_ahead(lead: Lead, hits: u32, score: f32) -> bool
-    ensures { λ r. ⌜ r ≡ aheadOf lead hits score ⌝ }
-{
-    if lead.some {
-        return beats(hits, score, lead.hits, lead.score);
-    }
-    true
 }
 
 // One origin offered with its score.

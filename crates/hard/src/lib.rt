@@ -1,4 +1,4 @@
-// Hard selection: the best cells of each table, the best origin, the candidates of the listed transforms, the runner-up and the gate.
+// Hard selection: the best cells of each table, the best origin, the candidates of the listed transforms, and the runner-up.
 mod direct; // the direct scan: all origins of one transform in row-major order
 mod lex; // one table: the largest count, then the largest weight, how many cells have them, and the second-best cell
 pub mod origin; // two tables: the row-major first origin over the pairs of best cells

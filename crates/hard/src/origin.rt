@@ -4,7 +4,7 @@ ghost use Prim.Native.Nat.{_*_, _<_};
 ghost use lib.ListN.{length};
 ghost use Rattle.laws.specs.Residues.{joint};
 ghost use Rattle.laws.specs.Grid.{origins};
-ghost use Rattle.hard.specs.Lex.{isOptimal, optimal};
+ghost use Rattle.hard.specs.Lex.{optimal};
 ghost use Rattle.hard.specs.CellTables.{Period};
 ghost use Rattle.hard.specs.RowMajor.{lowest, rowMajor};
 use crate::lex::is_optimal;
@@ -62,7 +62,7 @@ fn lowest_key(
 }
 
 // The row-major first origin over the pairs of a horizontal cell (count ht, weight hh) and a vertical cell (vt, vh), as its key.
-pub fn row_major_first(
+pub(crate) fn row_major_first(
     hc: &[u32],
     hw: &[f32],
     ht: u32,

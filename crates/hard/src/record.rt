@@ -1,8 +1,9 @@
 // The steps of the scan record: a candidate is offered, a transform is added, and at the end the winner and its runner-up are read off.
 ghost use mathlib.Core.Path.{_≡_};
 ghost use Prim.Native.Nat.{_≤_, _<_};
-ghost use lib.Dec.{eqb};
 ghost use Rattle.hard.specs.Scan.{overLimit, takes, replaced, offeredWithin, emptyScan, pushed, stepped, runnerUp, SoundScan, chosen};
+ghost use Rattle.hard.specs.Lead.{leadOf, aheadOf};
+use crate::lex::beats;
 use crate::scan::Candidate;
 use crate::scan::Choice;
 use crate::scan::HardScan;
@@ -18,22 +19,46 @@ pub fn over_limit(edges: u32, hits: u32, limit: f32) -> bool
     figures::rate(edges, hits) > limit
 }
 
+// What is to be beaten: nothing, or a candidate's hits and score.
+pub struct Lead {
+    pub some: bool,
+    pub hits: u32,
+    pub score: f32,
+}
+
+// What the kept candidate sets to beat.
+pub fn lead_of(kept: Kept) -> Lead
+    ensures { λ r. ⌜ r ≡ leadOf kept ⌝ }
+{
+    match kept {
+        Kept::Nobody => Lead {
+            some: false,
+            hits: 0,
+            score: 0.0,
+        },
+        Kept::One(k) => Lead {
+            some: true,
+            hits: k.hits,
+            score: k.score,
+        },
+    }
+}
+
+// Whether these hits and this score are ahead of it.
+pub fn is_ahead(lead: Lead, hits: u32, score: f32) -> bool
+    ensures { λ r. ⌜ r ≡ aheadOf lead hits score ⌝ }
+{
+    if lead.some {
+        return beats(hits, score, lead.hits, lead.score);
+    }
+    true
+}
+
 // Whether a candidate with these hits and this score replaces the kept one.
 fn takes_over(kept: Kept, hits: u32, score: f32) -> bool
     ensures { λ r. ⌜ r ≡ takes kept hits score ⌝ }
 {
-    match kept {
-        Kept::Nobody => true,
-        Kept::One(k) => {
-            if hits > k.hits {
-                return true;
-            }
-            if hits == k.hits {
-                return score > k.score;
-            }
-            false
-        }
-    }
+    is_ahead(lead_of(kept), hits, score)
 }
 
 // The kept candidate after one more was offered.

@@ -12,7 +12,7 @@ use Rattle.hard.specs.ScanLaws.{behind-left, offered-left}
 use Rattle.hard.specs.Direct.{candidate, tried}
 use Rattle.hard.specs.DirectLaws.{RowTurn, row-start, row-next, row-turn}
 use Rattle.hard.specs.Lead.{leadOf, aheadOf, ahead-takes, below-behind}
-use Rattle.hard.specs.declared.direct.Lead.{Lead}
+use Rattle.hard.specs.declared.record.Lead.{Lead}
 use Rattle.hard.specs.declared.scan.Candidate.{Candidate}
 use borrow.Author.Needs.{needs}
 use native.Mathlib.Omega.{arith}

@@ -1,8 +1,7 @@
-use mathlib.Core.Path.{_≡_, _∙_}
 use borrow.Author.Needs.{needs}
 use borrow.Author.Needs.{needs}
-use Rattle.hard.proofs.direct.is_ahead.Statement.{statement}
-use Rattle.hard.proofs.direct.is_ahead.Tie as tie
+use Rattle.hard.proofs.record.is_ahead.Statement.{statement}
+use Rattle.hard.proofs.record.is_ahead.Tie as tie
 
 beats-requires : tie.Need-beats-requires
 beats-requires c κs = search needs

@@ -1,8 +1,8 @@
 use lib.Ieee.{ofBits}
 use borrow.Author.Needs.{needs}
 use borrow.Author.Needs.{needs}
-use Rattle.hard.proofs.direct.lead_of.Statement.{statement}
-use Rattle.hard.proofs.direct.lead_of.Tie as tie
+use Rattle.hard.proofs.record.lead_of.Statement.{statement}
+use Rattle.hard.proofs.record.lead_of.Tie as tie
 
 enum-told : tie.Need-enum-told
 enum-told c = search needs

@@ -45,10 +45,9 @@ optimal cs ws top heavy i = isOptimal (cAt cs i) (wAt ws i) top heavy
 abbrev pub secondCell : List ℕ → ℕ → ℕ
 secondCell cs k = second (above (cAt cs)) k (length cs)
 
--- all that the selection asks of one table
-unfoldable pub lexOf : List ℕ → List Float → LexMax
-lexOf cs ws =
-    let k = lexBest cs ws in
+-- all that the selection asks of one table, around cell k
+abbrev pub aroundOf : List ℕ → List Float → ℕ → LexMax
+aroundOf cs ws k =
     record {
       cell = k;
       count = cAt cs k;
@@ -58,3 +57,7 @@ lexOf cs ws =
       second = secondCell cs k;
       under = cAt cs (secondCell cs k);
     }
+
+-- the same, around its best cell
+unfoldable pub lexOf : List ℕ → List Float → LexMax
+lexOf cs ws = aroundOf cs ws (lexBest cs ws)

@@ -1,21 +1,41 @@
 -- What the definitions of one table say: the best cell has the largest count and, of those, the largest weight; the second-best cell is the best of the others.
 use mathlib.Core.Path.{_≡_, refl}
-use mathlib.Core.Bool.{true, false}
+use mathlib.Core.Bool.{Bool, true, false, cond}
+use mathlib.Core.Logic.{_⊎_, inl, inr, ⊎-elim}
 use mathlib.Core.List.{List}
-use Prim.Native.Nat.{ℕ, _≤_, _<_}
+use Prim.Native.Nat.{ℕ, zero, suc, _≤_, _<_}
 use native.Mathlib.Nat.{le-refl}
 use native.Mathlib.Omega.{arith}
 use lib.Dec.{T, eqb}
 use lib.ListN.{length}
 use lib.Ieee.{Float, lt, eq}
 use borrow.Author.Tests.{ltb-false, eq-eqb, eqb-true}
-use Rattle.laws.specs.Tests.{and-true}
-use Rattle.laws.specs.Best.{Weak, above, above-weak, lex-weak, lex-denies, in-bound, nothing-beats}
+use Rattle.laws.specs.Tests.{split, and-true}
+use Rattle.laws.specs.Best.{firstBest, lexBeats, lex-says, Weak, above, above-weak, lex-weak, lex-denies, in-bound, nothing-beats}
 use Rattle.laws.specs.Second.{second-in, second-not, second-best}
 use Rattle.laws.specs.Weights.{weightlike, heavier}
 use Rattle.laws.specs.WeightLaws.{heavier-weak, eq-self}
 use Rattle.hard.specs.CellTables.{cAt, wAt}
 use Rattle.hard.specs.Lex.{order, lexBest, optimal, secondCell}
+
+-- ---- no cell has a larger count than cell k
+abbrev pub Most : List ℕ → ℕ → Type 0
+Most cs k = (j : ℕ) → j < length cs → cAt cs j ≤ cAt cs k
+
+-- the first best by count and then by any other test has the largest count
+first-most : (f : ℕ → ℕ) (w : ℕ → ℕ → Bool) (n j : ℕ) → j < n → f j ≤ f (firstBest (lexBeats f w) n)
+unfolding firstBest
+first-most f w zero j h = absurd (omega arith)
+first-most f w (suc n) j h = go (lexBeats f w n (firstBest (lexBeats f w) n)) refl (first-most f w n j) (split j n h)
+  where
+    go : (t : Bool) → lexBeats f w n (firstBest (lexBeats f w) n) ≡ t → (j < n → f j ≤ f (firstBest (lexBeats f w) n)) → (j ≡ n) ⊎ (j < n) → f j ≤ f (cond t n (firstBest (lexBeats f w) n))
+    go true e ih (inl p) = rw p (le-refl (f n))
+    go true e ih (inr l) = ⊎-elim (λ m. omega (arith, ih l)) (λ m. omega (arith, ih l, m .0)) (lex-says f w n (firstBest (lexBeats f w) n) e)
+    go false e ih (inl p) = rw p (lex-denies f w n (firstBest (lexBeats f w) n) e .0)
+    go false e ih (inr l) = ih l
+
+pub best-most : (cs : List ℕ) (ws : List Float) → Most cs (lexBest cs ws)
+best-most cs ws = first-most (cAt cs) (heavier (wAt ws)) (length cs)
 
 module _ (cs : List ℕ) (ws : List Float) (two : 1 < length cs) where
   pub cell-in : lexBest cs ws < length cs

@@ -1,5 +1,5 @@
 -- The row-major first origin, with one cell more; it is at most each key of a pair that passes, and is one of them where there is one.
-use mathlib.Core.Path.{_≡_, refl, sym, ap, _∙_}
+use mathlib.Core.Path.{_≡_, refl, sym, ap, ap₂, _∙_}
 use mathlib.Core.Bool.{Bool, true, false, cond}
 use mathlib.Core.Logic.{_⊎_, inl, inr, ⊎-elim}
 use Prim.Native.Nat.{ℕ, zero, suc, _+_, _≤_, _<_}
@@ -8,6 +8,8 @@ use native.Mathlib.Numerals.{add-one}
 use lib.Dec.{ltb}
 use borrow.Author.Tests.{ltb-true, ltb-false, lt-ltb, le-ltb}
 use Rattle.laws.specs.Tests.{clash, split}
+use Rattle.laws.specs.Fold.{count}
+use Rattle.laws.specs.Counting.{count-one}
 use Rattle.laws.specs.Grid.{Grid}
 use Rattle.hard.specs.RowMajor.{lower, lowest, rowMajor}
 
@@ -116,3 +118,10 @@ module _ (G : Grid) (w : ℕ) (p q : ℕ → Bool) where
       go true e (inr u) = ⊎-elim (λ z. inr (u .0, u .1, omega (arith, u .2), u .3, u .4, u .5, z ∙ u .6)) (λ z. inr (n, z .0, omega arith, z .1, e, z .2, z .3)) (lowest-is q (G .key n) (rowMajor G w p q n) w)
       go false e (inl r) = inl r
       go false e (inr u) = inr (u .0, u .1, omega (arith, u .2), u .3, u .4, u .5, u .6)
+
+  -- where one cell of each kind passes, it is the key of the two
+  pub major-only : (n h v : ℕ) → h < n → v < w → p h ≡ true → q v ≡ true → count n p ≡ 1 → count w q ≡ 1 → G .key h v < G .none → rowMajor G w p q n ≡ G .key h v
+  major-only n h v l m s t one sole under = ⊎-elim
+      (λ z. absurd (omega (arith, z, under, major-le n h v l m s t)))
+      (λ u. u .6 ∙ ap₂ (G .key) (count-one p n (u .0) h one (u .2) l (u .4) s) (count-one q w (u .1) v sole (u .3) m (u .5) t))
+      (major-is n)

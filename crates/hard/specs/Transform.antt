@@ -31,13 +31,13 @@ pub record BestOk (L M : ℕ) (a b : LexMax) : Type 0 where
   pub across : a .under + b .count ≤ 8192
   pub down : a .count + b .under ≤ 8192
 
--- "its best origin is the row-major first over optimal pairs", on the grid G
+-- "its best origin is the row-major first over optimal pairs", on the grid G, where the tables say a and b
+abbrev pub firstOf : Grid → CellTables → LexMax → LexMax → ℕ
+firstOf G X a b = rowMajor G (length (X .vc)) (optimal (X .hc) (X .hw) (a .count) (a .weight)) (optimal (X .vc) (X .vw) (b .count) (b .weight)) (length (X .hc))
+
 unfoldable pub bestOrigin : Grid → CellTables → ℕ
 unfolding lexOf
-bestOrigin G X =
-    let a = lexOf (X .hc) (X .hw) in
-    let b = lexOf (X .vc) (X .vw) in
-    rowMajor G (length (X .vc)) (optimal (X .hc) (X .hw) (a .count) (a .weight)) (optimal (X .vc) (X .vw) (b .count) (b .weight)) (length (X .hc))
+bestOrigin G X = firstOf G X (lexOf (X .hc) (X .hw)) (lexOf (X .vc) (X .vw))
 
 -- "The transform's best hits are the two counts' sum"
 abbrev pub bestHits : LexMax → LexMax → ℕ

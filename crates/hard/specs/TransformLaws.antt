@@ -1,5 +1,5 @@
 -- Laws of one transform's fold: what is known of its two tables, how large its keys are, and the fold case by case and put together.
-use mathlib.Core.Path.{_≡_, refl, sym, _∙_}
+use mathlib.Core.Path.{_≡_, refl, sym, ap, _∙_}
 use mathlib.Core.Bool.{Bool, true, false, cond}
 use mathlib.Core.List.{List}
 use mathlib.Core.Logic.{_⊎_, inl, inr}
@@ -7,23 +7,24 @@ use Prim.Native.Nat.{ℕ, zero, suc, _+_, _*_, _≤_, _<_}
 use native.Mathlib.Nat.{mul-le-mul}
 use native.Mathlib.Omega.{arith}
 use native.Mathlib.Numerals.{add-one}
-use lib.Dec.{ltb}
+use lib.Dec.{T, ltb}
 use lib.ListN.{length, getD, set, length-set, length-replicate}
 use lib.Seq.{getD-set-same, getD-set-other}
 use lib.Ieee.{Float}
 use borrow.Author.Tests.{lt-ltb, le-ltb}
 use Rattle.laws.specs.Tests.{split}
+use Rattle.laws.specs.Fold.{count}
 use Rattle.laws.specs.Counting.{count-le}
+use Rattle.laws.specs.Weights.{weightlike}
 use Rattle.laws.specs.Grid.{Laws, origins}
 use Rattle.laws.specs.GridLaws.{origins-laws}
 use Rattle.hard.specs.CellTables.{CellTables, Period, TablesOk, cAt, wAt}
 use Rattle.hard.specs.Lex.{TableOk, level, optimal, lexBest, secondCell, lexOf}
-use Rattle.hard.specs.LexLaws.{cell-in, second-inside}
-use Rattle.hard.specs.RowMajor.{rowMajor}
-use Rattle.hard.specs.RowMajorLaws.{major-none}
+use Rattle.hard.specs.LexLaws.{cell-in, best-optimal, second-inside}
+use Rattle.hard.specs.RowMajorLaws.{major-none, major-only}
 use Rattle.hard.specs.Scan.{overLimit, replaced, noSummary, emptyScan, pushed}
 use Rattle.hard.specs.Direct.{tried}
-use Rattle.hard.specs.Transform.{BestOk, bestOrigin, bestHits, bestCandidate, tied, nextOrigin, summaryOf, transformSummary, offeredBy, foldTransform, selected}
+use Rattle.hard.specs.Transform.{BestOk, firstOf, bestOrigin, bestHits, bestCandidate, tied, nextOrigin, summaryOf, transformSummary, offeredBy, foldTransform, selected}
 use Rattle.hard.specs.declared.lex.LexMax.{LexMax}
 use Rattle.hard.specs.declared.scan.TransformSummary.{TransformSummary}
 use Rattle.hard.specs.declared.scan.HardScan.{HardScan}
@@ -36,6 +37,29 @@ pub record SaidOk (L M edges : ℕ) (a b : LexMax) (first : ℕ) : Type 0 where
   pub most : bestHits a b ≤ edges
   pub first-small : first ≤ 2250000
 
+-- what one table of n cells says of its best cell: inside, optimal itself, and how many cells are optimal
+pub record CellOk (n : ℕ) (cs : List ℕ) (ws : List Float) (a : LexMax) : Type 0 where
+  pub counts : length cs ≡ n
+  pub weights : length ws ≡ n
+  pub inside : a .cell < n
+  pub itself : optimal cs ws (a .count) (a .weight) (a .cell) ≡ true
+  pub number : a .optimal ≡ count n (optimal cs ws (a .count) (a .weight))
+
+-- the same of both tables
+abbrev pub PairOk : ℕ → ℕ → CellTables → LexMax → LexMax → Type 0
+PairOk L M X a b = CellOk (3 * L) (X .hc) (X .hw) a × CellOk (3 * M) (X .vc) (X .vw) b
+
+-- the best cell of a table is optimal, and the optimal cells are counted
+cell-ok : (n : ℕ) (cs : List ℕ) (ws : List Float) → 1 < length cs → length cs ≡ n → length ws ≡ n → ((i : ℕ) → i < n → T (weightlike (wAt ws i))) → CellOk n cs ws (lexOf cs ws)
+unfolding lexOf
+cell-ok n cs ws two c w ok = record {
+  counts = c;
+  weights = w;
+  inside = omega (arith, c, cell-in cs ws two);
+  itself = best-optimal cs ws two (λ i h. ok i (omega (arith, c)));
+  number = ap (λ (x : ℕ). count x (optimal cs ws (cAt cs (lexBest cs ws)) (wAt ws (lexBest cs ws)))) c;
+}
+
 module _ (L M : ℕ) (p : Period L) (q : Period M) where
   -- the board's grid
   pub grid : Laws (origins L M) (3 * L) (3 * M)
@@ -43,6 +67,13 @@ module _ (L M : ℕ) (p : Period L) (q : Period M) where
 
   pub none-small : 3 * L * (3 * M) ≤ 2250000
   none-small = mul-le-mul {n₁ = 3 * L} {m₁ = 3 * M} {n₂ = 1500} {m₂ = 1500} (omega (arith, p .few)) (omega (arith, q .few))
+
+  -- where each table has one optimal cell, the best origin is theirs
+  pub sole-pair : (X : CellTables) (a b : LexMax) → PairOk L M X a b → a .optimal ≡ 1 → b .optimal ≡ 1 → origins L M .key (a .cell) (b .cell) ≡ firstOf (origins L M) X a b
+  sole-pair X a b ok one sole =
+      let h = ok .0 in
+      let v = ok .1 in
+      rw (h .counts, v .counts) (sym (major-only (origins L M) (3 * M) (optimal (X .hc) (X .hw) (a .count) (a .weight)) (optimal (X .vc) (X .vw) (b .count) (b .weight)) (3 * L) (a .cell) (b .cell) (h .inside) (v .inside) (h .itself) (v .itself) (sym (h .number) ∙ one) (sym (v .number) ∙ sole) (grid .under (a .cell) (b .cell) (h .inside) (v .inside))))
 
   module _ (edges : ℕ) (X : CellTables) (ok : TablesOk L M edges X) where
     pub h-table : TableOk (X .hc) (X .hw)
@@ -81,11 +112,19 @@ module _ (L M : ℕ) (p : Period L) (q : Period M) where
     unfolding lexOf
     best-under = ok .bounded (lexBest (X .hc) (X .hw)) (lexBest (X .vc) (X .vw)) (omega (arith, ok .hcs, cell-in (X .hc) (X .hw) (h-table .two))) (omega (arith, ok .vcs, cell-in (X .vc) (X .vw) (v-table .two)))
 
+    -- the best cell of each table is optimal, and the optimal cells are counted
+    pair-ok : PairOk L M X (lexOf (X .hc) (X .hw)) (lexOf (X .vc) (X .vw))
+    unfolding lexOf
+    pair-ok = (cell-ok (3 * L) (X .hc) (X .hw) (h-table .two) (ok .hcs) (ok .hws) (ok .hweights), cell-ok (3 * M) (X .vc) (X .vw) (v-table .two) (ok .vcs) (ok .vws) (ok .vweights))
+
+    pub said-pair : (a b : LexMax) → a ≡ lexOf (X .hc) (X .hw) → b ≡ lexOf (X .vc) (X .vw) → PairOk L M X a b
+    said-pair a b ea eb = rw (ea, eb) pair-ok
+
     -- the same of values that are known to be what the tables say
     pub said-ok : (a b : LexMax) (first : ℕ)
         → a ≡ lexOf (X .hc) (X .hw)
         → b ≡ lexOf (X .vc) (X .vw)
-        → first ≡ rowMajor (origins L M) (length (X .vc)) (optimal (X .hc) (X .hw) (a .count) (a .weight)) (optimal (X .vc) (X .vw) (b .count) (b .weight)) (length (X .hc))
+        → first ≡ firstOf (origins L M) X a b
         → SaidOk L M edges a b first
     said-ok a b first ea eb ef =
         record {
@@ -134,7 +173,7 @@ module _ (L M edges : ℕ) (conf limit : Float) where
   pub folded : (t : ℕ) (X : CellTables) (scan : HardScan) (a b : LexMax) (first : ℕ) (next : Ranked) (s : TransformSummary) (kept : Kept)
       → a ≡ lexOf (X .hc) (X .hw)
       → b ≡ lexOf (X .vc) (X .vw)
-      → first ≡ rowMajor (origins L M) (length (X .vc)) (optimal (X .hc) (X .hw) (a .count) (a .weight)) (optimal (X .vc) (X .vw) (b .count) (b .weight)) (length (X .hc))
+      → first ≡ firstOf (origins L M) X a b
       → next ≡ nextOrigin L M a b first
       → s ≡ summaryOf M (record { hits = bestHits a b; key = first }) next t
       → kept ≡ offeredBy L M edges conf limit (scan .count) X a b first (scan .best)

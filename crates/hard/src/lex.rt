@@ -2,8 +2,8 @@
 ghost use mathlib.Core.Path.{_≡_};
 ghost use Prim.Native.Nat.{_<_};
 ghost use lib.ListN.{length};
-ghost use Rattle.laws.specs.Fold.{count};
-ghost use Rattle.hard.specs.Lex.{TableOk, wins, level, isOptimal, optimal, lexBest, secondCell, lexOf};
+ghost use Rattle.hard.specs.Lex.{TableOk, wins, isOptimal, lexBest, aroundOf, lexOf};
+ghost use Rattle.hard.specs.LexLaws.{Most};
 
 // What one table says: the first cell of largest count and then largest weight, both, how many cells have the count and how many have both,
 // and the first best of the other cells by count, with its count.
@@ -24,7 +24,7 @@ pub fn beats(c: u32, w: f32, d: u32, v: f32) -> bool
     c > d || (c == d && w > v)
 }
 
-// The first cell of largest count and, of those, largest weight.
+// The first cell of largest count and, of those, largest weight. Most cells stand below the largest count so far, and their weight is not looked at.
 fn lex_best(counts: &[u32], weights: &[f32]) -> usize
     requires { ⌜ TableOk (now counts) (now weights) ⌝ }
     ensures { λ r. ⌜ (r ≡ lexBest (now (counts .entry)) (now (weights .entry))) × (r < length (now (counts .entry))) ⌝ }
@@ -35,30 +35,17 @@ fn lex_best(counts: &[u32], weights: &[f32]) -> usize
     let mut i: usize = 0;
     while i < counts.len() {
         let c = counts[i];
-        let w = weights[i];
-        if beats(c, w, top, heavy) {
-            best = i;
-            top = c;
-            heavy = w;
+        if c >= top {
+            let w = weights[i];
+            if beats(c, w, top, heavy) {
+                best = i;
+                top = c;
+                heavy = w;
+            }
         }
         i += 1;
     }
     best
-}
-
-// How many cells have the count.
-fn level_number(counts: &[u32], top: u32) -> usize
-    ensures { λ r. ⌜ r ≡ count (length (now (counts .entry))) (level (now (counts .entry)) top) ⌝ }
-{
-    let mut n: usize = 0;
-    let mut i: usize = 0;
-    while i < counts.len() {
-        if counts[i] == top {
-            n += 1;
-        }
-        i += 1;
-    }
-    n
 }
 
 // Whether a cell has both the count and the weight.
@@ -68,58 +55,40 @@ pub fn is_optimal(c: u32, w: f32, top: u32, heavy: f32) -> bool
     c == top && w == heavy
 }
 
-// How many cells have both the count and the weight.
-fn optimal_number(counts: &[u32], weights: &[f32], top: u32, heavy: f32) -> usize
-    requires { ⌜ length (now weights) ≡ length (now counts) ⌝ }
-    ensures { λ r. ⌜ r ≡ count (length (now (counts .entry))) (optimal (now (counts .entry)) (now (weights .entry)) top heavy) ⌝ }
+// What one table says around its best cell: its count and weight, how many cells have the count and how many have both, and the first best of the other
+// cells by count. Most cells stand below the second best so far, and no more is asked of them.
+fn around(counts: &[u32], weights: &[f32], cell: usize) -> LexMax
+    requires { ⌜ TableOk (now counts) (now weights) × (cell < length (now counts)) × Most (now counts) cell ⌝ }
+    ensures { λ r. ⌜ r ≡ aroundOf (now (counts .entry)) (now (weights .entry)) cell ⌝ }
 {
-    let mut n: usize = 0;
-    let mut i: usize = 0;
-    while i < counts.len() {
-        if is_optimal(counts[i], weights[i], top, heavy) {
-            n += 1;
-        }
-        i += 1;
+    let top = counts[cell];
+    let heavy = weights[cell];
+    let mut level: usize = 0;
+    let mut optimal: usize = 0;
+    let mut second: usize = 0;
+    if cell == 0 {
+        second = 1;
     }
-    n
-}
-
-// The first cell of largest count, of all cells but one.
-fn second_cell(counts: &[u32], skip: usize) -> usize
-    requires { ⌜ (1 < length (now counts)) × (skip < length (now counts)) ⌝ }
-    ensures { λ r. ⌜ (r ≡ secondCell (now (counts .entry)) skip) × (r < length (now (counts .entry))) ⌝ }
-{
-    let mut best: usize = 0;
-    if skip == 0 {
-        best = 1;
-    }
-    let mut top = counts[best];
+    let mut under = counts[second];
     let mut i: usize = 0;
     while i < counts.len() {
         let c = counts[i];
-        if i != skip {
-            if c > top {
-                best = i;
-                top = c;
+        if c >= under {
+            if c == top {
+                level += 1;
+                if weights[i] == heavy {
+                    optimal += 1;
+                }
+            }
+            if c > under {
+                if i != cell {
+                    second = i;
+                    under = c;
+                }
             }
         }
         i += 1;
     }
-    best
-}
-
-// All that is asked of one table.
-pub fn lex_max(counts: &[u32], weights: &[f32]) -> LexMax
-    requires { ⌜ TableOk (now counts) (now weights) ⌝ }
-    ensures { λ r. ⌜ r ≡ lexOf (now (counts .entry)) (now (weights .entry)) ⌝ }
-{
-    let cell = lex_best(counts, weights);
-    let top = counts[cell];
-    let heavy = weights[cell];
-    let level = level_number(counts, top);
-    let optimal = optimal_number(counts, weights, top, heavy);
-    let second = second_cell(counts, cell);
-    let under = counts[second];
     LexMax {
         cell,
         count: top,
@@ -129,4 +98,12 @@ pub fn lex_max(counts: &[u32], weights: &[f32]) -> LexMax
         second,
         under,
     }
+}
+
+// All that is asked of one table, in two walks: for the best cell, and for what is around it.
+pub fn lex_max(counts: &[u32], weights: &[f32]) -> LexMax
+    requires { ⌜ TableOk (now counts) (now weights) ⌝ }
+    ensures { λ r. ⌜ r ≡ lexOf (now (counts .entry)) (now (weights .entry)) ⌝ }
+{
+    around(counts, weights, lex_best(counts, weights))
 }

@@ -1,8 +1,10 @@
 // One transform's four tables, folded into the scan.
 ghost use mathlib.Core.Path.{_≡_};
 ghost use Prim.Native.Nat.{_+_, _≤_, _<_};
+ghost use Rattle.laws.specs.Grid.{origins};
 ghost use Rattle.hard.specs.CellTables.{Period, TablesOk, cells};
-ghost use Rattle.hard.specs.Transform.{BestOk, nextOrigin, summaryOf, offeredBy, foldTransform, FoldReady};
+ghost use Rattle.hard.specs.Transform.{BestOk, firstOf, nextOrigin, summaryOf, offeredBy, foldTransform, FoldReady};
+ghost use Rattle.hard.specs.TransformLaws.{PairOk};
 use crate::direct::scan_direct;
 use crate::lex::LexMax;
 use crate::lex::lex_max;
@@ -20,6 +22,40 @@ use crate::scan::TransformSummary;
 pub struct Ranked {
     pub hits: u32,
     pub key: usize,
+}
+
+// The best origin of a transform, as its key, from what its horizontal table a and its vertical table b say: the row-major first over the optimal pairs.
+// Where each table has one optimal cell, their pair is the only one, and no table is walked again.
+fn best_origin(
+    a: LexMax,
+    b: LexMax,
+    hc: &[u32],
+    hw: &[f32],
+    vc: &[u32],
+    vw: &[f32],
+    long: usize,
+    wide: usize,
+) -> usize
+    requires { ⌜ Period long × Period wide × PairOk long wide (cells (now hc) (now hw) (now vc) (now vw)) a b ⌝ }
+    ensures { λ r. ⌜ r ≡ firstOf (origins long wide) (cells (now (hc .entry)) (now (hw .entry)) (now (vc .entry)) (now (vw .entry))) a b ⌝ }
+{
+    if a.optimal == 1 {
+        if b.optimal == 1 {
+            return key_of(a.cell, b.cell, long, wide);
+        }
+    }
+    row_major_first(
+        hc,
+        hw,
+        a.count,
+        a.weight,
+        vc,
+        vw,
+        b.count,
+        b.weight,
+        long,
+        wide,
+    )
 }
 
 // The runner-up inside a transform whose best origin is `first`, from what its horizontal table a and its vertical table b say.
@@ -127,18 +163,7 @@ pub fn fold_transform<'a>(
 {
     let a = lex_max(hc, hw);
     let b = lex_max(vc, vw);
-    let key = row_major_first(
-        hc,
-        hw,
-        a.count,
-        a.weight,
-        vc,
-        vw,
-        b.count,
-        b.weight,
-        long,
-        wide,
-    );
+    let key = best_origin(a, b, hc, hw, vc, vw, long, wide);
     let best = Ranked {
         hits: a.count + b.count,
         key,

@@ -31,10 +31,9 @@ level xs top i = eqZ (sAt xs i) top
 abbrev pub secondCell : List ℤ → ℕ → ℕ
 secondCell xs k = second (larger (sAt xs)) k (length xs)
 
--- all that the selection asks of one table
-unfoldable pub levelOf : List ℤ → LevelMax
-levelOf xs =
-    let k = levelBest xs in
+-- all that the selection asks of one table, around cell k
+abbrev pub aroundOf : List ℤ → ℕ → LevelMax
+aroundOf xs k =
     record {
       cell = k;
       top = sAt xs k;
@@ -42,3 +41,7 @@ levelOf xs =
       second = secondCell xs k;
       under = sAt xs (secondCell xs k);
     }
+
+-- the same, around its best cell
+unfoldable pub levelOf : List ℤ → LevelMax
+levelOf xs = aroundOf xs (levelBest xs)

@@ -1,20 +1,20 @@
 -- What the definitions of one table say: the best cell is the first of largest sum, the second-best the first of largest sum of the others.
-use mathlib.Core.Path.{_≡_}
+use mathlib.Core.Path.{_≡_, refl, ap, _∙_}
 use mathlib.Core.Bool.{true, false}
 use mathlib.Core.List.{List}
 use Prim.Native.Nat.{ℕ, _+_, _≤_, _<_}
 use native.Mathlib.Nat.{le-refl}
 use native.Mathlib.Omega.{arith}
-use lib.IntN.{ℤ, natAbs}
+use lib.IntN.{ℤ, pos, negsuc, natAbs}
 use lib.ListN.{length}
-use lib.Signed.{ltZ}
-use Rattle.laws.specs.Fold.{count}
+use lib.Signed.{leZ, ltZ}
+use borrow.Author.Tests.{lt-ltb, leb-false}
+use Rattle.laws.specs.Tests.{clash, not-so}
 use Rattle.laws.specs.Counting.{count-le, count-pos}
 use Rattle.laws.specs.Best.{Weak, in-bound, nothing-beats}
 use Rattle.laws.specs.Second.{second-in, second-not, second-best, second-first}
-use Rattle.laws.specs.Whole.{eqZ-refl, lt-raised, le-raised, raised-lt, raised-le}
+use Rattle.laws.specs.Whole.{eqZ, eqZ-true, eqZ-refl, lt-raised, le-raised, raised-lt, raised-le}
 use Rattle.soft.specs.Level.{sAt, larger, levelBest, level, secondCell, levelOf}
-use Rattle.soft.specs.declared.level.LevelMax.{LevelMax}
 
 -- ---- whole numbers in their order are weakly ordered
 pub larger-weak : (n : ℕ) (f : ℕ → ℤ) → Weak n (larger f)
@@ -28,11 +28,20 @@ larger-weak n f = record {
       (omega (arith, lt-raised B (f k) (f i) (omega arith) (omega arith) h, le-raised B (f k) (f j) (omega arith) (omega arith) g));
 }
 
--- ---- the record, from its parts
-pub level-made : (xs : List ℤ) (k n s : ℕ) (t u : ℤ) → k ≡ levelBest xs → t ≡ sAt xs k → n ≡ count (length xs) (level xs t) → s ≡ secondCell xs k → u ≡ sAt xs s
-    → _≡_ {A = LevelMax} (record { cell = k; top = t; level = n; second = s; under = u }) (levelOf xs)
-unfolding levelOf
-level-made xs k n s t u a b c d e = rw (e, d, c, b, a)
+-- ---- no cell has a greater sum than cell k
+abbrev pub Top : List ℤ → ℕ → Type 0
+Top xs k = (j : ℕ) → j < length xs → ltZ (sAt xs k) (sAt xs j) ≡ false
+
+-- what is not at least b is below it
+pub not-least : (a b : ℤ) → leZ b a ≡ false → ltZ a b ≡ true
+not-least (pos a) (pos b) e = lt-ltb a b (leb-false b a e)
+not-least (negsuc a) (pos b) e = refl
+not-least (pos a) (negsuc b) e = clash refl e
+not-least (negsuc a) (negsuc b) e = lt-ltb b a (leb-false a b e)
+
+-- a sum below one of the table is not the largest
+pub below-top : (xs : List ℤ) (k s : ℕ) (x : ℤ) → Top xs k → s < length xs → ltZ x (sAt xs s) ≡ true → eqZ x (sAt xs k) ≡ false
+below-top xs k s x top h l = not-so (eqZ x (sAt xs k)) (λ e. clash l (ap (λ (y : ℤ). ltZ y (sAt xs s)) (eqZ-true x (sAt xs k) e) ∙ top s h))
 
 -- ---- a table of at least two cells
 module _ (xs : List ℤ) (two : 1 < length xs) where

@@ -1,9 +1,10 @@
 -- The winner and the runner-up put together from what the two tables say, and one cell more in the search for another pair.
-use mathlib.Core.Path.{_≡_, refl, _∙_}
+use mathlib.Core.Path.{_≡_, refl, sym, _∙_}
 use mathlib.Core.Bool.{Bool, true, false, not, _&&_, cond}
 use mathlib.Core.List.{List}
-use Prim.Native.Nat.{ℕ, _+_, _*_, _^_, _≤_, _<_}
-use native.Mathlib.Nat.{mul-le-mul}
+use mathlib.Core.Logic.{⊎-elim}
+use Prim.Native.Nat.{ℕ, zero, suc, _+_, _*_, _^_, _≤_, _<_}
+use native.Mathlib.Nat.{mul-le-mul, mul-comm}
 use native.Mathlib.Numerals.{add-one}
 use native.Mathlib.Omega.{arith}
 use lib.Dec.{ltb, eqb}
@@ -11,15 +12,16 @@ use lib.IntN.{ℤ, natAbs, _+ℤ_}
 use lib.ListN.{length}
 use lib.Signed.{ltZ}
 use mir.Syntax.{w64}
-use borrow.Author.Tests.{lt-ltb, le-ltb}
+use borrow.Author.Tests.{lt-ltb, le-ltb, ne-eqb}
+use Rattle.laws.specs.Tests.{compared}
 use Rattle.laws.specs.Grid.{Grid, Laws, origins}
 use Rattle.laws.specs.Signed.{read}
 use Rattle.hard.specs.CellTables.{Period}
 use Rattle.hard.specs.RowMajor.{rowMajor}
-use Rattle.hard.specs.RowMajorLaws.{major-none}
+use Rattle.hard.specs.RowMajorLaws.{major-none, major-only}
 use Rattle.hard.specs.TransformLaws.{grid, none-small}
 use Rattle.soft.specs.Level.{sAt, level, levelBest, levelOf}
-use Rattle.soft.specs.LevelLaws.{cell-in, second-inside, few-level}
+use Rattle.soft.specs.LevelLaws.{cell-in, best-level, some-level, second-inside, few-level}
 use Rattle.soft.specs.Sums.{SumsOk}
 use Rattle.soft.specs.SumsLaws.{small-read, all-bounded, h-two, v-two}
 use Rattle.soft.specs.OtherLaws.{other-small}
@@ -32,6 +34,12 @@ pub other-step : (G : Grid) (q : ℕ → Bool) (h w a v x : ℕ) → x ≡ other
     → filled (G .none) x (q v && not (eqb (G .key h v) w)) (G .key h v) ≡ otherIn G q h w a (v + 1)
 unfolding otherIn
 other-step G q h w a v x e = rw (add-one v, ← e)
+
+-- a pair that was found stays
+pub other-kept : (G : Grid) (q : ℕ → Bool) (h w a v : ℕ) → (a ≡ G .none → ⊥) → a ≡ otherIn G q h w a v
+unfolding otherIn
+other-kept G q h w a zero n = refl
+other-kept G q h w a (suc v) n = rw (← other-kept G q h w a v n, ne-eqb a (G .none) n)
 
 pub pair-no : (G : Grid) (m : ℕ) (p q : ℕ → Bool) (w i x : ℕ) → x ≡ otherPair G m p q w i → p i ≡ false → x ≡ otherPair G m p q w (i + 1)
 unfolding otherPair
@@ -50,6 +58,10 @@ module _ (G : Grid) (a b : LevelMax) (k : ℕ) where
   pub next-across : ltZ (a .under +ℤ b .top) (a .top +ℤ b .under) ≡ false → k ≡ G .key (a .second) (b .cell) → k ≡ nextPair G a b
   unfolding nextPair
   next-across t e = rw t e
+
+-- ---- two numbers above 0 with a product of at most 1: the first is 1
+sole-factor : (m n : ℕ) → 0 < m → 0 < n → m * n ≤ 1 → m ≡ 1
+sole-factor m n a b h = ⊎-elim (λ l. absurd (omega (arith, mul-le-mul {n₁ = 2} {m₁ = 1} {n₂ = m} {m₂ = n} l b))) (λ l. omega arith) (compared 1 m)
 
 -- ---- the two tables
 module _ (L M : ℕ) (p : Period L) (q : Period M) (hs vs : List ℤ) (ok : SumsOk L M hs vs) (a b : LevelMax) (ea : a ≡ levelOf hs) (eb : b ≡ levelOf vs) where
@@ -99,12 +111,24 @@ module _ (L M : ℕ) (p : Period L) (q : Period M) (hs vs : List ℤ) (ok : Sums
         let e : r ≡ otherPair G (length vs) (level hs (levelOf hs .top)) (level vs (levelOf vs .top)) (winnerOf G hs vs) (length hs) = er ∙ rw (winner-is, et, eu, ea, eb) in
         rw (winner-is, e, lt-ltb 1 (levelOf hs .level * levelOf vs .level) g)
 
-    pub two-single : a .level * b .level ≤ 1 → r ≡ nextPair G a b → _≡_ {A = TwoBest} (record { winner = w; runner = r }) (twoOf G hs vs)
-    unfolding twoOf runnerOf
-    two-single h er =
-        let g : levelOf hs .level * levelOf vs .level ≤ 1 = rw (ea, eb) at h in
-        let e : r ≡ nextPair G (levelOf hs) (levelOf vs) = er ∙ rw (ea, eb) in
-        rw (winner-is, e, le-ltb 1 (levelOf hs .level * levelOf vs .level) g)
+  -- where one pair is alone, it is the pair of the best cells
+  sole-winner : a .level * b .level ≤ 1 → origins L M .key (a .cell) (b .cell) ≡ winnerOf (origins L M) hs vs
+  unfolding winnerOf levelOf
+  sole-winner h =
+      let m = levelOf hs .level in
+      let n = levelOf vs .level in
+      let g : m * n ≤ 1 = rw (ea, eb) at h in
+      let one = sole-factor m n (some-level hs two-h) (some-level vs two-v) g in
+      let sole = sole-factor n m (some-level vs two-v) (some-level hs two-h) (rw (mul-comm n m) g) in
+      rw (ea, eb) (sym (major-only (origins L M) (length vs) (isTop hs) (isTop vs) (length hs) (levelBest hs) (levelBest vs) (cell-in hs two-h) (cell-in vs two-v) (best-level hs two-h) (best-level vs two-v) one sole (grid L M p q .under (levelBest hs) (levelBest vs) (omega (arith, cell-in hs two-h, ok .hlen)) (omega (arith, cell-in vs two-v, ok .vlen)))))
+
+  pub two-single : (w r : ℕ) → w ≡ origins L M .key (a .cell) (b .cell) → a .level * b .level ≤ 1 → r ≡ nextPair (origins L M) a b
+      → _≡_ {A = TwoBest} (record { winner = w; runner = r }) (twoOf (origins L M) hs vs)
+  unfolding twoOf runnerOf
+  two-single w r ew h er =
+      let g : levelOf hs .level * levelOf vs .level ≤ 1 = rw (ea, eb) at h in
+      let e : r ≡ nextPair (origins L M) (levelOf hs) (levelOf vs) = er ∙ rw (ea, eb) in
+      rw (ew ∙ sole-winner h, e, le-ltb 1 (levelOf hs .level * levelOf vs .level) g)
 
 -- ---- both keys are small
 module _ (L M : ℕ) (p : Period L) (q : Period M) (hs vs : List ℤ) (ok : SumsOk L M hs vs) where

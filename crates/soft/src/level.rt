@@ -2,9 +2,9 @@
 ghost use mathlib.Core.Path.{_≡_};
 ghost use Prim.Native.Nat.{_<_};
 ghost use lib.ListN.{length};
-ghost use Rattle.laws.specs.Fold.{count};
 ghost use Rattle.laws.specs.Whole.{eqZ};
-ghost use Rattle.soft.specs.Level.{level, levelBest, secondCell, levelOf};
+ghost use Rattle.soft.specs.Level.{levelBest, aroundOf, levelOf};
+ghost use Rattle.soft.specs.LevelLaws.{Top};
 
 // The first cell of largest sum, that sum, how many cells have it, and the first of the second-best cells with its sum.
 pub struct LevelMax {
@@ -21,10 +21,13 @@ fn level_best(sums: &[i64]) -> usize
     ensures { λ r. ⌜ (r ≡ levelBest (now (sums .entry))) × (r < length (now (sums .entry))) ⌝ }
 {
     let mut best: usize = 0;
+    let mut top = sums[0];
     let mut i: usize = 0;
     while i < sums.len() {
-        if sums[i] > sums[best] {
+        let s = sums[i];
+        if s > top {
             best = i;
+            top = s;
         }
         i += 1;
     }
@@ -38,52 +41,35 @@ pub fn is_level(sum: i64, top: i64) -> bool
     sum == top
 }
 
-// How many cells have the sum.
-fn level_number(sums: &[i64], top: i64) -> usize
-    ensures { λ r. ⌜ r ≡ count (length (now (sums .entry))) (level (now (sums .entry)) top) ⌝ }
+// What one table says around its best cell: its sum, how many cells have it, and the first best of the other cells with its sum. Most cells stand below
+// the second best so far, and no more is asked of them.
+fn around(sums: &[i64], cell: usize) -> LevelMax
+    requires { ⌜ (1 < length (now sums)) × (cell < length (now sums)) × Top (now sums) cell ⌝ }
+    ensures { λ r. ⌜ r ≡ aroundOf (now (sums .entry)) cell ⌝ }
 {
-    let mut n: usize = 0;
+    let top = sums[cell];
+    let mut level: usize = 0;
+    let mut second: usize = 0;
+    if cell == 0 {
+        second = 1;
+    }
+    let mut under = sums[second];
     let mut i: usize = 0;
     while i < sums.len() {
-        if is_level(sums[i], top) {
-            n += 1;
-        }
-        i += 1;
-    }
-    n
-}
-
-// The first cell of largest sum, of all cells but one.
-fn second_cell(sums: &[i64], skip: usize) -> usize
-    requires { ⌜ (1 < length (now sums)) × (skip < length (now sums)) ⌝ }
-    ensures { λ r. ⌜ (r ≡ secondCell (now (sums .entry)) skip) × (r < length (now (sums .entry))) ⌝ }
-{
-    let mut best: usize = 0;
-    if skip == 0 {
-        best = 1;
-    }
-    let mut i: usize = 0;
-    while i < sums.len() {
-        if i != skip {
-            if sums[i] > sums[best] {
-                best = i;
+        let s = sums[i];
+        if s >= under {
+            if is_level(s, top) {
+                level += 1;
+            }
+            if s > under {
+                if i != cell {
+                    second = i;
+                    under = s;
+                }
             }
         }
         i += 1;
     }
-    best
-}
-
-// All that is asked of one table.
-pub fn level_max(sums: &[i64]) -> LevelMax
-    requires { ⌜ 1 < length (now sums) ⌝ }
-    ensures { λ r. ⌜ r ≡ levelOf (now (sums .entry)) ⌝ }
-{
-    let cell = level_best(sums);
-    let top = sums[cell];
-    let level = level_number(sums, top);
-    let second = second_cell(sums, cell);
-    let under = sums[second];
     LevelMax {
         cell,
         top,
@@ -91,4 +77,12 @@ pub fn level_max(sums: &[i64]) -> LevelMax
         second,
         under,
     }
+}
+
+// All that is asked of one table, in two walks: for the best cell, and for what is around it.
+pub fn level_max(sums: &[i64]) -> LevelMax
+    requires { ⌜ 1 < length (now sums) ⌝ }
+    ensures { λ r. ⌜ r ≡ levelOf (now (sums .entry)) ⌝ }
+{
+    around(sums, level_best(sums))
 }

@@ -60,11 +60,23 @@ fn row_major_first(hs: &[i64], ht: i64, vs: &[i64], vt: i64, long: usize, wide: 
 }
 
 // One pair more in the search for another pair than the winner: it is taken where none was found before it, its cells are level and it is not the winner.
-fn fill(found: usize, none: usize, level: bool, key: usize, winner: usize) -> usize
-    ensures { λ r. ⌜ r ≡ filled none found (level && not (eqb key winner)) key ⌝ }
+// Its key is worked out only where it may be taken.
+fn fill(
+    found: usize,
+    none: usize,
+    level: bool,
+    h: usize,
+    v: usize,
+    winner: usize,
+    long: usize,
+    wide: usize,
+) -> usize
+    requires { ⌜ Period long × Period wide × (h < 3 * long) × (v < 3 * wide) ⌝ }
+    ensures { λ r. ⌜ r ≡ filled none found (level && not (eqb (origins long wide .key h v) winner)) (origins long wide .key h v) ⌝ }
 {
     if found == none {
         if level {
+            let key = hard::origin::key_of(h, v, long, wide);
             if key != winner {
                 return key;
             }
@@ -73,7 +85,7 @@ fn fill(found: usize, none: usize, level: bool, key: usize, winner: usize) -> us
     found
 }
 
-// The same search over all vertical cells of sum top with the horizontal cell h.
+// The same search over all vertical cells of sum top with the horizontal cell h. Where a pair was found before, no vertical cell is looked at.
 fn other_in(
     sums: &[i64],
     top: i64,
@@ -87,12 +99,14 @@ fn other_in(
     ensures { λ r. ⌜ r ≡ otherIn (origins long wide) (level (now (sums .entry)) top) h winner start (length (now (sums .entry))) ⌝ }
 {
     let none = 3 * long * (3 * wide);
+    if start != none {
+        return start;
+    }
     let mut found: usize = start;
     let mut v: usize = 0;
     while v < sums.len() {
         let level = is_level(sums[v], top);
-        let key = hard::origin::key_of(h, v, long, wide);
-        found = fill(found, none, level, key, winner);
+        found = fill(found, none, level, h, v, winner, long, wide);
         v += 1;
     }
     found
@@ -135,19 +149,20 @@ fn next_pair(a: LevelMax, b: LevelMax, long: usize, wide: usize) -> usize
     hard::origin::key_of(a.second, b.cell, long, wide)
 }
 
-// The winner of a transform and its runner-up.
+// The winner of a transform and its runner-up. Where one pair is alone at the top, it is the pair of the best cells, and no table is walked again.
 pub fn two_best(hs: &[i64], vs: &[i64], long: usize, wide: usize) -> TwoBest
     requires { ⌜ Period long × Period wide × SumsOk long wide (now hs) (now vs) ⌝ }
     ensures { λ r. ⌜ r ≡ twoOf (origins long wide) (now (hs .entry)) (now (vs .entry)) ⌝ }
 {
     let a = level_max(hs);
     let b = level_max(vs);
-    let winner = row_major_first(hs, a.top, vs, b.top, long, wide);
     let pairs = a.level * b.level;
     if pairs > 1 {
+        let winner = row_major_first(hs, a.top, vs, b.top, long, wide);
         let runner = other_pair(hs, a.top, vs, b.top, winner, long, wide);
         return TwoBest { winner, runner };
     }
+    let winner = hard::origin::key_of(a.cell, b.cell, long, wide);
     let runner = next_pair(a, b, long, wide);
     TwoBest { winner, runner }
 }

@@ -3,7 +3,8 @@ use Prim.Native.Nat.{_≤_, _<_, _-_}
 use mathlib.Core.Path.{_≡_, refl, sym, ap, ap₂, _∙_}
 use mathlib.Core.Logic.{⊎-elim}
 use lib.ListN.{length}
-use Rattle.laws.specs.Best.{firstBest, best-new, best-old}
+use Rattle.laws.specs.Best.{firstBest, lex-not, best-new, best-old}
+use Rattle.laws.specs.Weights.{heavier}
 use Rattle.hard.specs.CellTables.{cAt, wAt}
 use Rattle.hard.specs.Lex.{wins, order}
 use native.Mathlib.Omega.{arith}
@@ -49,13 +50,15 @@ loop-less c = search needs
 
 loop-again : tie.Need-loop-again Inv-loop μ-loop
 loop-again c =
-    let l = c .before .before .before .before .before .loop in
+    let l = c .before .before .before .loop in
     let inv = l .inv in
-    let a = c .before .before .before .before .before .before .before .before .before .before .args in
-    let told : order (a .counts .now) (a .weights .now) (l .i) (l .best) ≡ c .before .beats .result = ap₂ (wins (cAt (a .counts .now) (l .i)) (wAt (a .weights .now) (l .i))) (sym (inv .3)) (sym (inv .4)) ∙ sym (c .before .beats .ensures) in
+    let a = c .before .before .before .before .before .before .before .before .args in
+    let told : order (a .counts .now) (a .weights .now) (l .i) (l .best) ≡ wins (cAt (a .counts .now) (l .i)) (wAt (a .weights .now) (l .i)) (l .top) (l .heavy) = ap₂ (wins (cAt (a .counts .now) (l .i)) (wAt (a .weights .now) (l .i))) (sym (inv .3)) (sym (inv .4)) in
     ⊎-elim
-    (λ w. (omega arith, omega (arith, w .1), w .1 ∙ best-new _ _ _ (inv .2) (told ∙ w .0 .taken), w .2 ∙ ap (cAt (a .counts .now)) (sym (w .1)), w .3 ∙ ap (wAt (a .weights .now)) (sym (w .1))))
-    (λ w. (omega arith, omega (arith, w .1), w .1 ∙ best-old _ _ _ (inv .2) (told ∙ w .0 .left), w .2 ∙ inv .3 ∙ ap (cAt (a .counts .now)) (sym (w .1)), w .3 ∙ inv .4 ∙ ap (wAt (a .weights .now)) (sym (w .1))))
+    (λ w. (omega arith, omega (arith, w .4), w .4 ∙ best-new _ _ _ (inv .2) (told ∙ sym (w .2 .ensures) ∙ w .3 .taken), w .5 ∙ ap (cAt (a .counts .now)) (sym (w .4)), w .6 ∙ ap (wAt (a .weights .now)) (sym (w .4))))
+    (⊎-elim
+    (λ w. (omega arith, omega (arith, w .4), w .4 ∙ best-old _ _ _ (inv .2) (told ∙ sym (w .2 .ensures) ∙ w .3 .left), w .5 ∙ inv .3 ∙ ap (cAt (a .counts .now)) (sym (w .4)), w .6 ∙ inv .4 ∙ ap (wAt (a .weights .now)) (sym (w .4))))
+    (λ w. (omega arith, omega (arith, w .1), w .1 ∙ best-old _ _ _ (inv .2) (lex-not (cAt (a .counts .now)) (heavier (wAt (a .weights .now))) (l .i) (l .best) (omega (arith, w .0 .left, inv .3)) (λ e. absurd (omega (arith, w .0 .left, inv .3)))), w .2 ∙ inv .3 ∙ ap (cAt (a .counts .now)) (sym (w .1)), w .3 ∙ inv .4 ∙ ap (wAt (a .weights .now)) (sym (w .1)))))
     (c .if1 .came)
 
 returns : tie.Need-returns Inv-loop μ-loop

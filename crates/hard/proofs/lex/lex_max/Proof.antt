@@ -1,4 +1,6 @@
-use Rattle.hard.specs.Lex.{lexOf}
+use mathlib.Core.Path.{sym, ap, subst, _∙_}
+use Rattle.hard.specs.Lex.{aroundOf, lexOf}
+use Rattle.hard.specs.LexLaws.{Most, best-most}
 use borrow.Author.Needs.{needs}
 use Rattle.hard.proofs.lex.lex_max.Statement.{statement}
 use Rattle.hard.proofs.lex.lex_max.Tie as tie
@@ -6,49 +8,14 @@ use Rattle.hard.proofs.lex.lex_max.Tie as tie
 lex-best-requires : tie.Need-lex-best-requires
 lex-best-requires c κs = search needs
 
-mul-top : tie.Need-mul-top
-mul-top c = search needs
-
-shared-slice-read-top : tie.Need-shared-slice-read-top
-shared-slice-read-top c = search needs
-
-mul-heavy : tie.Need-mul-heavy
-mul-heavy c = search needs
-
-shared-slice-read-heavy : tie.Need-shared-slice-read-heavy
-shared-slice-read-heavy c = search needs
-
-level-number-requires : tie.Need-level-number-requires
-level-number-requires c κs = search needs
-
-optimal-number-requires : tie.Need-optimal-number-requires
-optimal-number-requires c κs = search needs
-
-second-cell-requires : tie.Need-second-cell-requires
-second-cell-requires c κs = search needs
-
-mul-under : tie.Need-mul-under
-mul-under c = search needs
-
-shared-slice-read-under : tie.Need-shared-slice-read-under
-shared-slice-read-under c = search needs
+around-requires : tie.Need-around-requires
+around-requires c κs =
+    let s = c .before .before .before in
+    (s .pre, c .lex-best .ensures .1, subst (Most (s .args .counts .now)) (sym (c .lex-best .ensures .0)) (best-most (s .args .counts .now) (s .args .weights .now)))
 
 returns : tie.Need-returns
 unfolding lexOf
-returns c = simp (c .before .before .before .level-number .ensures, c .before .before .optimal-number .ensures, c .before .second-cell .ensures .0, c .before .before .before .before .before .before .lex-best .ensures .0)
+returns c = c .around .ensures ∙ ap (aroundOf (c .before .before .before .before .args .counts .now) (c .before .before .before .before .args .weights .now)) (c .before .lex-best .ensures .0)
 
 pub lex-max-spec : {M : Type 1} → statement M
-lex-max-spec =
-    tie.close
-    (tie.spec
-    lex-best-requires
-    mul-top
-    shared-slice-read-top
-    mul-heavy
-    shared-slice-read-heavy
-    level-number-requires
-    optimal-number-requires
-    second-cell-requires
-    mul-under
-    shared-slice-read-under
-    returns)
+lex-max-spec = tie.close (tie.spec lex-best-requires around-requires returns)

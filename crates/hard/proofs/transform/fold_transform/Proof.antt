@@ -1,7 +1,6 @@
 use mathlib.Core.Path.{_∙_}
-use Rattle.hard.specs.TransformLaws.{h-table, v-table, said-ok, next-small, folded}
+use Rattle.hard.specs.TransformLaws.{h-table, v-table, said-pair, said-ok, next-small, folded}
 use native.Mathlib.Omega.{arith}
-use borrow.Author.Needs.{needs}
 use Rattle.hard.proofs.transform.fold_transform.Statement.{statement}
 use Rattle.hard.proofs.transform.fold_transform.Tie as tie
 
@@ -11,32 +10,32 @@ lex-max-requires c κs = h-table _ _ (c .before .before .before .before .pre .0 
 lex-max-requires-2 : tie.Need-lex-max-requires-2
 lex-max-requires-2 c κs = v-table _ _ (c .before .before .before .before .before .pre .0 .0) (c .before .before .before .before .before .pre .0 .1) _ _ (c .before .before .before .before .before .pre .0 .2)
 
-row-major-first-requires : tie.Need-row-major-first-requires
-row-major-first-requires c κs = search needs
+best-origin-requires : tie.Need-best-origin-requires
+best-origin-requires c κs = (c .before .before .before .before .before .before .pre .0 .0, c .before .before .before .before .before .before .pre .0 .1, said-pair _ _ (c .before .before .before .before .before .before .pre .0 .0) (c .before .before .before .before .before .before .pre .0 .1) _ _ (c .before .before .before .before .before .before .pre .0 .2) _ _ (c .before .lex-max .ensures) (c .lex-max2 .ensures))
 
 add-t21 : tie.Need-add-t21
-add-t21 c = record { fits = omega (arith, said-ok _ _ (c .before .before .before .before .before .before .before .before .before .pre .0 .0) (c .before .before .before .before .before .before .before .before .before .pre .0 .1) _ _ (c .before .before .before .before .before .before .before .before .before .pre .0 .2) _ _ _ (c .before .before .before .before .lex-max .ensures) (c .before .before .before .lex-max2 .ensures) (c .before .before .row-major-first .ensures) .best .top) }
+add-t21 c = record { fits = omega (arith, said-ok _ _ (c .before .before .before .before .before .before .before .before .before .pre .0 .0) (c .before .before .before .before .before .before .before .before .before .pre .0 .1) _ _ (c .before .before .before .before .before .before .before .before .before .pre .0 .2) _ _ _ (c .before .before .before .before .lex-max .ensures) (c .before .before .before .lex-max2 .ensures) (c .before .before .best-origin .ensures) .best .top) }
 
 next-origin-requires : tie.Need-next-origin-requires
-next-origin-requires c κs = (c .before .before .before .before .before .before .before .before .before .pre .0 .0, c .before .before .before .before .before .before .before .before .before .pre .0 .1, said-ok _ _ (c .before .before .before .before .before .before .before .before .before .pre .0 .0) (c .before .before .before .before .before .before .before .before .before .pre .0 .1) _ _ (c .before .before .before .before .before .before .before .before .before .pre .0 .2) _ _ _ (c .before .before .before .before .lex-max .ensures) (c .before .before .before .lex-max2 .ensures) (c .before .before .row-major-first .ensures) .best)
+next-origin-requires c κs = (c .before .before .before .before .before .before .before .before .before .pre .0 .0, c .before .before .before .before .before .before .before .before .before .pre .0 .1, said-ok _ _ (c .before .before .before .before .before .before .before .before .before .pre .0 .0) (c .before .before .before .before .before .before .before .before .before .pre .0 .1) _ _ (c .before .before .before .before .before .before .before .before .before .pre .0 .2) _ _ _ (c .before .before .before .before .lex-max .ensures) (c .before .before .before .lex-max2 .ensures) (c .before .before .best-origin .ensures) .best)
 
 summary-requires : tie.Need-summary-requires
 summary-requires c κs =
     let s = c .before .before .before .before .before .before .before .before .before .before .pre .0 in
-    let k = said-ok _ _ (s .0) (s .1) _ _ (s .2) _ _ _ (c .before .before .before .before .before .lex-max .ensures) (c .before .before .before .before .lex-max2 .ensures) (c .before .before .before .row-major-first .ensures) in
+    let k = said-ok _ _ (s .0) (s .1) _ _ (s .2) _ _ _ (c .before .before .before .before .before .lex-max .ensures) (c .before .before .before .before .lex-max2 .ensures) (c .before .before .before .best-origin .ensures) in
     (s .1, k .first-small, next-small _ _ (s .0) (s .1) _ _ _ _ _ k (c .next-origin .ensures))
 
 offer-transform-requires : tie.Need-offer-transform-requires
 offer-transform-requires c κs =
     let s = c .before .before .before .before .before .before .before .before .before .before .before .pre .0 in
-    let k = said-ok _ _ (s .0) (s .1) _ _ (s .2) _ _ _ (c .before .before .before .before .before .before .lex-max .ensures) (c .before .before .before .before .before .lex-max2 .ensures) (c .before .before .before .before .row-major-first .ensures) in
+    let k = said-ok _ _ (s .0) (s .1) _ _ (s .2) _ _ _ (c .before .before .before .before .before .before .lex-max .ensures) (c .before .before .before .before .before .lex-max2 .ensures) (c .before .before .before .before .best-origin .ensures) in
     (s, (k .best, k .most, k .first-small))
 
 push-requires : tie.Need-push-requires
 push-requires c κs = c .before .before .before .before .before .before .before .before .before .before .before .before .pre .1
 
 returns : tie.Need-returns
-returns c = c .push .ensures ∙ folded _ _ _ _ _ _ _ _ _ _ _ _ _ _ (c .before .before .before .before .before .before .before .before .lex-max .ensures) (c .before .before .before .before .before .before .before .lex-max2 .ensures) (c .before .before .before .before .before .before .row-major-first .ensures) (c .before .before .before .next-origin .ensures) (c .before .before .summary .ensures) (c .before .offer-transform .ensures)
+returns c = c .push .ensures ∙ folded _ _ _ _ _ _ _ _ _ _ _ _ _ _ (c .before .before .before .before .before .before .before .before .lex-max .ensures) (c .before .before .before .before .before .before .before .lex-max2 .ensures) (c .before .before .before .before .before .before .best-origin .ensures) (c .before .before .before .next-origin .ensures) (c .before .before .summary .ensures) (c .before .offer-transform .ensures)
 
 pub fold-transform-spec : {M : Type 1} → statement M
 fold-transform-spec =
@@ -44,7 +43,7 @@ fold-transform-spec =
     (tie.spec
     lex-max-requires
     lex-max-requires-2
-    row-major-first-requires
+    best-origin-requires
     add-t21
     next-origin-requires
     summary-requires

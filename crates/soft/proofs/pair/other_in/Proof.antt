@@ -10,7 +10,7 @@ use Rattle.laws.specs.Grid.{origins}
 use Rattle.hard.specs.TransformLaws.{none-small}
 use Rattle.soft.specs.Level.{sAt, level}
 use Rattle.soft.specs.Pair.{otherIn}
-use Rattle.soft.specs.PairLaws.{other-step}
+use Rattle.soft.specs.PairLaws.{other-step, other-kept}
 use Rattle.soft.specs.SumsLaws.{read-eq}
 use Rattle.soft.proofs.pair.other_in.Statement.{statement}
 use Rattle.soft.proofs.pair.other_in.Tie as tie
@@ -30,6 +30,9 @@ mul-none-2 c = search needs
 mul-none-3 : tie.Need-mul-none-3 Inv-loop μ-loop
 mul-none-3 c = record { fits = omega (arith, none-small _ _ (c .pre .0) (c .pre .1)) }
 
+returns : tie.Need-returns Inv-loop μ-loop
+returns c = other-kept _ _ _ _ _ _ (c .if1 .taken)
+
 loop-holds : tie.Need-loop-holds Inv-loop μ-loop
 unfolding otherIn
 loop-holds c = (search needs, refl)
@@ -43,9 +46,6 @@ shared-slice-copy-out-is-level c = search needs
 is-level-requires : tie.Need-is-level-requires Inv-loop μ-loop
 is-level-requires c κs = search needs
 
-key-of-requires : tie.Need-key-of-requires Inv-loop μ-loop
-key-of-requires c κs = search needs
-
 fill-requires : tie.Need-fill-requires Inv-loop μ-loop
 fill-requires c κs = search needs
 
@@ -57,14 +57,14 @@ loop-less c = search needs
 
 loop-again : tie.Need-loop-again Inv-loop μ-loop
 loop-again c =
-    let at = c .before .before .before .before .before in
-    let said = read-eq (sAt (at .before .args .sums .now) (at .loop .v)) (toZ w64 (ofZ w64 (at .before .args .top))) (c .before .before .is-level .result) (c .before .before .before .is-level-arg .given) (c .before .before .is-level .ensures) in
-    (omega arith, c .fill .ensures ∙ rw (said, c .before .key-of .ensures) (other-step _ _ _ _ _ _ _ (at .loop .inv .1)))
+    let at = c .before .before .before .before in
+    let said = read-eq (sAt (at .before .before .args .sums .now) (at .loop .v)) (toZ w64 (ofZ w64 (at .before .before .args .top))) (c .before .is-level .result) (c .before .before .is-level-arg .given) (c .before .is-level .ensures) in
+    (omega arith, c .fill .ensures ∙ rw said (other-step _ _ _ _ _ _ _ (at .loop .inv .1)))
 
-returns : tie.Need-returns Inv-loop μ-loop
-returns c =
-    let e : c .before .loop .v ≡ length (c .before .before .args .sums .now) = omega arith in
-    rw (← e) (rw (toZ-ofZ (c .before .before .fits .top)) at (c .before .loop .inv .1))
+returns-2 : tie.Need-returns-2 Inv-loop μ-loop
+returns-2 c =
+    let e : c .before .loop .v ≡ length (c .before .before .before .args .sums .now) = omega arith in
+    rw (← e) (rw (toZ-ofZ (c .before .before .before .fits .top)) at (c .before .loop .inv .1))
 
 pub other-in-spec : {M : Type 1} → statement M
 other-in-spec =
@@ -75,13 +75,13 @@ other-in-spec =
     mul-none
     mul-none-2
     mul-none-3
+    returns
     loop-holds
     mul-is-level
     shared-slice-copy-out-is-level
     is-level-requires
-    key-of-requires
     fill-requires
     add-v
     loop-less
     loop-again
-    returns)
+    returns-2)

@@ -1,3 +1,3 @@
 // What the board predicts: the eight transforms, where an edge is looked up, and which bit the pattern tables give there.
 pub mod pattern; // bits of patterns, a part of a lent table, the predicted bit, and whether an edge is a hit
-pub mod transform; // the matrices, and the lookup of an edge
+pub mod transform; // the eight transforms, and the lookup of an edge

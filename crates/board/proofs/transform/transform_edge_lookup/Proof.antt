@@ -1,72 +1,129 @@
-use mathlib.Core.Path.{_≡_, refl, sym, subst, _∙_, ap, ap₂}
+use borrow.Author.Needs.{needs}
+use mathlib.Core.Path.{_≡_, sym, _∙_, ap, ap₂}
 use mathlib.Core.Bool.{Bool, true, false, cond}
+use mathlib.Core.Logic.{⊎-elim}
 use native.Mathlib.Omega.{arith}
-use Prim.Native.Nat.{ℕ, _≤_, _<_}
-use lib.IntN.{ℤ, pos, natAbs, _+ℤ_}
-use lib.Dec.{eqb}
-use borrow.Author.Tests.{eq-eqb, ne-eqb}
+use Prim.Native.Nat.{ℕ, _+_, _≤_}
+use lib.IntN.{ℤ, pos, natAbs, _-ℤ_}
 use mir.Syntax.{w32}
-use mir.Val.{SFits, toZ, ofZ}
+use mir.Val.{toZ}
 use mir.Facts.{toZ-ofZ}
-use Rattle.board.specs.Transform.{joined, lookupOf}
-use Rattle.board.specs.declared.transform.EdgeLookup.{EdgeLookup}
-use Rattle.laws.specs.Signed.{read, fit-at, read-at}
-use Rattle.laws.specs.Whole.{abs-add}
+use Rattle.laws.specs.Signed.{read, fits-abs, read-at}
+use Rattle.laws.specs.Whole.{abs-sub}
+use Rattle.board.specs.Transform.{mapped, lookupOf}
+use Rattle.board.specs.TransformLaws.{negates, lying, mapped-abs, levelAt, uprightAt, levelOf, uprightOf, lookup-signed}
 use Rattle.board.proofs.transform.transform_edge_lookup.Statement.{statement}
 use Rattle.board.proofs.transform.transform_edge_lookup.Tie as tie
 
-module _ (z : ℤ) (f : SFits w32 z) (h : natAbs z ≤ 1000000) where
-  more : read w32 z +ℤ pos 1 ≡ z +ℤ pos 1
-  more = ap (λ (x : ℤ). x +ℤ pos 1) (toZ-ofZ f)
+apply-requires : tie.Need-apply-requires
+apply-requires c κs = search needs
 
-  fits-more : SFits w32 (read w32 z +ℤ pos 1)
-  fits-more = fit-at w32 more (omega (arith, abs-add z (pos 1)))
+apply-requires-2 : tie.Need-apply-requires-2
+apply-requires-2 c κs = search needs
 
-  is-more : read w32 (read w32 z +ℤ pos 1) ≡ z +ℤ pos 1
-  is-more = read-at w32 more (omega (arith, abs-add z (pos 1)))
+level-requires : tie.Need-level-requires
+level-requires c κs = search needs
 
-  small : natAbs (read w32 z) ≤ 1000001
-  small = rw (toZ-ofZ f) (omega arith)
+negated-requires : tie.Need-negated-requires
+negated-requires c κs = search needs
 
-  small-more : natAbs (read w32 (read w32 z +ℤ pos 1)) ≤ 1000001
-  small-more = rw is-more (omega (arith, abs-add z (pos 1)))
+negated-requires-2 : tie.Need-negated-requires-2
+negated-requires-2 c κs = search needs
 
-add-map-ends : tie.Need-add-map-ends
-add-map-ends c = let s = c .before in fits-more (s .args .col) (s .fits .col) (s .pre .2)
+-- the mapped first end, as it is read back, and one less
+module _ (c : tie.After-apply2) where
+  abbrev s : tie.Start
+  s = c .before .before
 
-map-ends-requires : tie.Need-map-ends-requires
-map-ends-requires c κs =
-    let s = c .before in
-    let a = small (s .args .col) (s .fits .col) (s .pre .2) in
-    let b = small (s .args .row) (s .fits .row) (s .pre .1) in
-    (s .pre .0, a, b, small-more (s .args .col) (s .fits .col) (s .pre .2), b)
+  abbrev at : ℕ → ℤ
+  at i = mapped (s .args .t) i (s .args .col) (s .args .row)
 
-add-map-ends-2 : tie.Need-add-map-ends-2
-add-map-ends-2 c = let s = c .before in fits-more (s .args .row) (s .fits .row) (s .pre .1)
+  small : (i : ℕ) → natAbs (at i) ≤ 2000000
+  small i = omega (arith, mapped-abs (s .args .t) i (s .args .col) (s .args .row), s .pre .1, s .pre .2)
 
-map-ends-requires-2 : tie.Need-map-ends-requires-2
-map-ends-requires-2 c κs =
-    let s = c .before in
-    let a = small (s .args .col) (s .fits .col) (s .pre .2) in
-    let b = small (s .args .row) (s .fits .row) (s .pre .1) in
-    (s .pre .0, a, b, a, small-more (s .args .row) (s .fits .row) (s .pre .1))
+  small-less : (i : ℕ) → natAbs (at i -ℤ pos 1) ≤ 2000001
+  small-less i = omega (arith, small i, abs-sub (at i) (pos 1))
+
+  back : (i : ℕ) (x : ℤ) → x ≡ mapped (s .args .t) i (read w32 (s .args .col)) (read w32 (s .args .row)) → read w32 x ≡ at i
+  back i x e = read-at w32 (e ∙ ap₂ (mapped (s .args .t) i) (toZ-ofZ (s .fits .col)) (toZ-ofZ (s .fits .row))) (omega (arith, small i))
+
+  col-is : read w32 (c .before .apply .result) ≡ at 0
+  col-is = back 0 _ (c .before .apply .ensures)
+
+  row-is : read w32 (c .apply2 .result) ≡ at 1
+  row-is = back 1 _ (c .apply2 .ensures)
+
+  module _ (i : ℕ) (x : ℤ) (e : read w32 x ≡ at i) where
+    less : read w32 x -ℤ pos 1 ≡ at i -ℤ pos 1
+    less = ap (λ (z : ℤ). z -ℤ pos 1) e
+
+    is-less : read w32 (read w32 x -ℤ pos 1) ≡ at i -ℤ pos 1
+    is-less = read-at w32 less (omega (arith, small-less i))
+
+  -- a coordinate of it less 0, 1 or 2 fits, so that what is subtracted is judged by the lookup alone
+  small-by : (i d : ℕ) → natAbs (at i -ℤ pos d) ≤ 2000000 + d
+  small-by i d = omega (arith, small i, abs-sub (at i) (pos d))
+
+  looked-up : (b : Bool) → lying (s .args .t) (s .args .orientation) ≡ b
+      → cond b (levelOf (at 0) (at 1) (s .args .t)) (uprightOf (at 0) (at 1) (s .args .t)) ≡ lookupOf (s .args .t) (s .args .row) (s .args .col) (s .args .orientation)
+  looked-up b e =
+      sym (lookup-signed (s .args .t) (s .args .row) (s .args .col) (s .args .orientation) (s .pre .0)
+      ∙ ap (λ (x : Bool). cond x (levelOf (at 0) (at 1) (s .args .t)) (uprightOf (at 0) (at 1) (s .args .t))) e)
+
+sub-left : tie.Need-sub-left
+sub-left c = let k = c .before .before .before .before in rw (col-is k) (fits-abs {w = w32} _ (omega (arith, small-by k 0 0, small-by k 0 1, small-by k 0 2)))
+
+sub-t14 : tie.Need-sub-t14
+sub-t14 c = let k = c .before .before .before .before in rw (row-is k) (fits-abs {w = w32} _ (omega (arith, small-by k 1 0, small-by k 1 1, small-by k 1 2)))
+
+sub-top : tie.Need-sub-top
+sub-top c = let k = c .before .before .before .before in rw (row-is k) (fits-abs {w = w32} _ (omega (arith, small-by k 1 0, small-by k 1 1, small-by k 1 2)))
+
+sub-t17 : tie.Need-sub-t17
+sub-t17 c = let k = c .before .before .before .before in rw (col-is k) (fits-abs {w = w32} _ (omega (arith, small-by k 0 0, small-by k 0 1, small-by k 0 2)))
+
+-- the anchor's column, of a level edge
+left-is : (c : tie.Joined2) → let k = c .before .before .before .before in toZ w32 (c .if2 .left) ≡ cond (negates (s k .args .t) 0) (at k 0 -ℤ pos 1) (at k 0)
+left-is c =
+    let k = c .before .before .before .before in
+    let e = c .before .negated .ensures in
+    ⊎-elim
+    (λ w. ap (toZ w32) (w .1) ∙ is-less k 0 (k .before .apply .result) (col-is k) ∙ sym (ap (λ (b : Bool). cond b (at k 0 -ℤ pos 1) (at k 0)) (sym e ∙ w .0 .taken)))
+    (λ w. ap (toZ w32) (w .1) ∙ col-is k ∙ sym (ap (λ (b : Bool). cond b (at k 0 -ℤ pos 1) (at k 0)) (sym e ∙ w .0 .left)))
+    (c .if2 .came)
+
+-- the anchor's row, of an upright one
+top-is : (c : tie.Joined3) → let k = c .before .before .before .before in toZ w32 (c .if3 .top) ≡ cond (negates (s k .args .t) 1) (at k 1 -ℤ pos 1) (at k 1)
+top-is c =
+    let k = c .before .before .before .before in
+    let e = c .before .negated2 .ensures in
+    ⊎-elim
+    (λ w. ap (toZ w32) (w .1) ∙ is-less k 1 (k .apply2 .result) (row-is k) ∙ sym (ap (λ (b : Bool). cond b (at k 1 -ℤ pos 1) (at k 1)) (sym e ∙ w .0 .taken)))
+    (λ w. ap (toZ w32) (w .1) ∙ row-is k ∙ sym (ap (λ (b : Bool). cond b (at k 1 -ℤ pos 1) (at k 1)) (sym e ∙ w .0 .left)))
+    (c .if3 .came)
 
 returns : tie.Need-returns
-unfolding lookupOf
 returns c =
-    let s = c .before .before in
-    c .map-ends .ensures
-    ∙ (λ i. joined (s .args .t) (toZ-ofZ (s .fits .col) i) (toZ-ofZ (s .fits .row) i) (is-more (s .args .col) (s .fits .col) (s .pre .2) i) (toZ-ofZ (s .fits .row) i))
-    ∙ sym (rw (eq-eqb (s .args .orientation) 0 (c .before .if1 .taken)))
+    let k = c .before .before .before .before in
+    ap₂ levelAt (is-less k 1 (k .apply2 .result) (row-is k)) (left-is c) ∙ looked-up k true (sym (c .before .before .before .level .ensures) ∙ c .before .before .if1 .taken)
 
 returns-2 : tie.Need-returns-2
-unfolding lookupOf
 returns-2 c =
-    let s = c .before .before in
-    c .map-ends2 .ensures
-    ∙ (λ i. joined (s .args .t) (toZ-ofZ (s .fits .col) i) (toZ-ofZ (s .fits .row) i) (toZ-ofZ (s .fits .col) i) (is-more (s .args .row) (s .fits .row) (s .pre .1) i))
-    ∙ sym (rw (ne-eqb (s .args .orientation) 0 (c .before .if1 .left)))
+    let k = c .before .before .before .before in
+    ap₂ uprightAt (top-is c) (is-less k 0 (k .before .apply .result) (col-is k)) ∙ looked-up k false (sym (c .before .before .before .level .ensures) ∙ c .before .before .if1 .left)
 
 pub transform-edge-lookup-spec : {M : Type 1} → statement M
 transform-edge-lookup-spec =
-    tie.close (tie.spec add-map-ends map-ends-requires add-map-ends-2 map-ends-requires-2 returns returns-2)
+    tie.close
+    (tie.spec
+    apply-requires
+    apply-requires-2
+    level-requires
+    negated-requires
+    sub-left
+    sub-t14
+    negated-requires-2
+    sub-top
+    sub-t17
+    returns
+    returns-2)

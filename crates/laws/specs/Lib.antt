@@ -13,6 +13,7 @@ pub mod Whole
 pub mod Signed
 pub mod Remainder
 pub mod RemainderLaws
+pub mod Modulus
 pub mod Residues
 pub mod Grid
 pub mod GridLaws

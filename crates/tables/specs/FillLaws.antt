@@ -33,6 +33,10 @@ place-below L M l bit p h = go (horizontal l)
     go true = omega (arith, group-below L (l .row) (l .col) bit (p .some .0) h)
     go false = omega (arith, group-below M (l .col) (l .row) bit (p .some .1) h)
 
+-- ---- the place by two moduli is the place by the periods that they hold
+pub place-held : (L M n m : ℕ) (l : EdgeLookup) (bit p : ℕ) → n ≡ L → m ≡ M → (p ≡ placeOf n m l bit) × (p < rowLength n m) → (p ≡ placeOf L M l bit) × (p < rowLength L M)
+place-held L M n m l bit p e f h = rw (e, f) at h
+
 -- ---- one edge more, for any sum
 pub row-more : {A : Type 0} (d : A) (op : A → A → A) (z : A) (f : ℕ → A) (L M : ℕ) (E : EdgeList) (t base i p : ℕ) (old new : List A)
     → Zone d (rowSum op z f L M E t i) base (rowLength L M) old new → base + rowLength L M ≤ length old → p ≡ placeAt L M E t i → p < rowLength L M

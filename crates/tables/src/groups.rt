@@ -2,33 +2,47 @@
 ghost use mathlib.Core.Path.{_≡_};
 ghost use Prim.Native.Nat.{_+_, _*_, _<_, _≤_};
 ghost use lib.ListN.{length};
+ghost use lib.IntN.{natAbs};
+ghost use Rattle.laws.specs.Modulus.{ModulusOk};
 ghost use Rattle.board.specs.Transform.{lookupOf};
 ghost use Rattle.board.specs.Hits.{edges};
 ghost use Rattle.board.specs.Domain.{EdgeOk};
-ghost use Rattle.tables.specs.Groups.{group, placeOf, Periods};
+ghost use Rattle.tables.specs.Groups.{group, placeOf};
 ghost use Rattle.tables.specs.Fill.{FillReady, Filled};
+use laws::Modulus;
 
 // The group of an edge by its long and short coordinate and its bit.
-fn group_of(long: i32, short: i32, bit: u8, period: u32) -> u32
-    requires { ⌜ (0 < period) × (period ≤ 500) × (bit < 2) ⌝ }
-    ensures { λ r. ⌜ (r ≡ group period long short bit) × (r < period * 6) ⌝ }
+fn group_of(long: i32, short: i32, bit: u8, period: Modulus) -> u32
+    requires { ⌜ ModulusOk period × (bit < 2) ⌝ }
+    requires { ⌜ (natAbs long ≤ 2000001) × (natAbs short ≤ 2000001) ⌝ }
+    ensures { λ r. ⌜ (r ≡ group (period .n) long short bit) × (r < period .n * 6) ⌝ }
 {
-    laws::rem_euclid(long, period) * 6 + laws::rem_euclid(short, 3) * 2 + bit as u32
+    let three = laws::modulus_of(3);
+    laws::residue(long, period) * 6 + laws::residue(short, three) * 2 + bit as u32
 }
 
-// Where an edge's group stands when the groups of both sides stand in one row, the horizontal ones first.
-pub fn group_place(row: i32, col: i32, orientation: u8, bit: u8, t: u8, len: u32, tall: u32) -> u32
+// Where an edge's group stands when the groups of both sides stand in one row, the horizontal ones first. The periods come as moduli h and v, since the
+// same two serve all edges.
+pub fn group_place(
+    row: i32,
+    col: i32,
+    orientation: u8,
+    bit: u8,
+    t: u8,
+    h: Modulus,
+    v: Modulus,
+) -> u32
     requires { ⌜ EdgeOk row col bit t ⌝ }
-    requires { ⌜ Periods len tall ⌝ }
-    ensures { λ p. ⌜ (p ≡ placeOf len tall (lookupOf t row col orientation) bit) × (p < (len + tall) * 6) ⌝ }
+    requires { ⌜ ModulusOk h × ModulusOk v ⌝ }
+    ensures { λ p. ⌜ (p ≡ placeOf (h .n) (v .n) (lookupOf t row col orientation) bit) × (p < (h .n + v .n) * 6) ⌝ }
 {
     let l = board::transform::transform_edge_lookup(t, row, col, orientation);
     let r = l.row;
     let c = l.col;
     if l.orientation == 0 {
-        group_of(r, c, bit, len)
+        group_of(r, c, bit, h)
     } else {
-        len * 6 + group_of(c, r, bit, tall)
+        h.n * 6 + group_of(c, r, bit, v)
     }
 }
 
@@ -49,8 +63,10 @@ pub fn fill_groups(
     requires { ⌜ FillReady len tall (edges (now rows) (now cols) (now orientations) (now bits) (now confidences)) t base (now counts) (now weights) ⌝ }
     ensures { λ _. ⌜ Filled len tall (edges (now (rows .entry)) (now (cols .entry)) (now (orientations .entry)) (now (bits .entry)) (now (confidences .entry))) t base (length (now (rows .entry))) (now (counts .entry)) (now (counts .exit)) (now (weights .entry)) (now (weights .exit)) ⌝ }
 {
+    let h = laws::modulus_of(len);
+    let v = laws::modulus_of(tall);
     for i in 0..rows.len() {
-        let p = group_place(rows[i], cols[i], orientations[i], bits[i], t, len, tall);
+        let p = group_place(rows[i], cols[i], orientations[i], bits[i], t, h, v);
         let at = base + p as usize;
         counts[at] += 1;
         weights[at] += confidences[i];

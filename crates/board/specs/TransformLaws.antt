@@ -15,7 +15,8 @@ use Rattle.laws.specs.Whole.{abs-add, abs-sub, abs-mul, eq-eqZ, ne-eqZ}
 use Rattle.board.specs.declared.transform.EdgeLookup.{EdgeLookup}
 use Rattle.board.specs.Transform.{mat, matrices, mapped, lookupOfEnds, joined, lookupOf}
 
--- ---- the transforms as the code has them: whether transform t negates the new column (i = 0) or the new row, by one bit each
+-- ---- the transforms as the code has them: whether transform t negates the new column (i = 0) or the new row, by one bit each: 150 has the bits 1, 2, 4 and 7,
+-- the transforms that negate the new column, and 204 the bits 2, 3, 6 and 7, those that negate the new row
 unfoldable pub negates : ℕ → ℕ → Bool
 negates t i = eqb (cond (eqb i 0) 150 204 / 2 ^ t % 2) 1
 

@@ -1,6 +1,6 @@
 // Pairs of cells: the origin that a pair names, and the first one, row by row, over the pairs of best cells.
 ghost use mathlib.Core.Path.{_≡_};
-ghost use Prim.Native.Nat.{_*_, _<_};
+ghost use Prim.Native.Nat.{_*_, _/_, _≤_, _<_};
 ghost use lib.ListN.{length};
 ghost use Rattle.laws.specs.Residues.{joint};
 ghost use Rattle.laws.specs.Grid.{origins};
@@ -9,13 +9,29 @@ ghost use Rattle.hard.specs.CellTables.{Period};
 ghost use Rattle.hard.specs.RowMajor.{lowest, rowMajor};
 use crate::lex::is_optimal;
 
-// The number below 3 · long with the residue s by 3 and l by long: document 01's (334·s + 168·l) mod 501 where long is 167.
+// The number below 3 · long with the residue s by 3 and l by long, document 01's (334·s + 168·l) mod 501 where long is 167: it is l and as many steps of long
+// as its residue by 3 asks for, so no remainder by long is taken.
 fn joint_of(long: usize, s: usize, l: usize) -> usize
     requires { ⌜ Period long × (s < 3) × (l < long) ⌝ }
     ensures { λ r. ⌜ (r ≡ joint long s l) × (r < 3 * long) ⌝ }
 {
     let third = long % 3;
-    (third * long * s + ((3 - third) * long + 1) * l) % (3 * long)
+    let steps = third * (s + 3 - l % 3) % 3;
+    l + long * steps
+}
+
+// The row v / wide of the vertical cell v in its table of three rows, by comparing.
+fn short_of(v: usize, wide: usize) -> usize
+    requires { ⌜ Period wide × (v < 3 * wide) ⌝ }
+    ensures { λ r. ⌜ (r ≡ v / wide) × (r < 3) × (r * wide ≤ v) ⌝ }
+{
+    if v < wide {
+        return 0;
+    }
+    if v < 2 * wide {
+        return 1;
+    }
+    2
 }
 
 // The key of the origin that the horizontal cell h and the vertical cell v name: row · columns + column, of 3 · wide columns.
@@ -23,8 +39,9 @@ pub fn key_of(h: usize, v: usize, long: usize, wide: usize) -> usize
     requires { ⌜ Period long × Period wide × (h < 3 * long) × (v < 3 * wide) ⌝ }
     ensures { λ r. ⌜ r ≡ origins long wide .key h v ⌝ }
 {
-    let row = joint_of(long, v / wide, h / 3);
-    let col = joint_of(wide, h % 3, v % wide);
+    let s = short_of(v, wide);
+    let row = joint_of(long, s, h / 3);
+    let col = joint_of(wide, h % 3, v - s * wide);
     row * (3 * wide) + col
 }
 

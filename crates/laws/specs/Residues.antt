@@ -3,7 +3,7 @@ use mathlib.Core.Path.{_≡_, refl, sym, ap, _∙_}
 use mathlib.Core.Logic.{_≢_}
 use Prim.Native.Nat.{ℕ, zero, suc, _+_, _*_, _-_, _<_, _%_, _/_}
 use native.Mathlib.Omega.{arith}
-use native.Mathlib.Nat.{mod-lt, add-mod, mod-mod-of-dvd, mul-add-mod-self-left, mod-eq-of-lt, div-add-mod, div-lt-iff-lt-mul, dvd-mul-left, dvd-mul-right}
+use native.Mathlib.Nat.{mod-lt, add-comm, add-mod, mod-mod-of-dvd, mul-add-mod-self-left, mod-eq-of-lt, div-add-mod, div-lt-iff-lt-mul, dvd-mul-left, dvd-mul-right}
 use lib.Dec.{lit<}
 use borrow.Author.Tests.{eqb-false}
 
@@ -46,6 +46,29 @@ twice L n = below-3 (λ (l : ℕ). L % 3 ≡ l → (2 * L) % 3 ≢ 0) (λ z. abs
 
 step-3 : (L x y : ℕ) → L % 3 ≢ 0 → x % 3 ≡ y % 3 → (x ≡ y + L → ⊥) × (x ≡ y + 2 * L → ⊥)
 step-3 L x y n e = (λ h. away y L n (ap (λ (z : ℕ). z % 3) (sym h) ∙ e), λ h. away y (2 * L) (twice L n) (ap (λ (z : ℕ). z % 3) (sym h) ∙ e))
+
+-- a sum's residue by 3 is that of the residues
+sum-thirds : (l L t : ℕ) → (l + L * t) % 3 ≡ (l % 3 + L % 3 * t) % 3
+sum-thirds l L t = ap (λ (x : ℕ). x % 3) (regroup (l / 3) (l % 3) (L / 3) (L % 3) (sym (div-add-mod l 3)) (sym (div-add-mod L 3))) ∙ mul-add-mod-self-left 3 (l / 3 + L / 3 * t) (l % 3 + L % 3 * t)
+  where
+    regroup : (a b q e : ℕ) → l ≡ 3 * a + b → L ≡ 3 * q + e → l + L * t ≡ 3 * (a + q * t) + (b + e * t)
+    regroup a b q e x y = rw (x, y) (omega arith)
+
+-- e is its own inverse by 3: e (s - b) steps of e lead from b to s
+asked : (e b s : ℕ) → e < 3 → e ≢ 0 → b < 3 → s < 3 → (b + e * (e * (s + 3 - b) % 3)) % 3 ≡ s
+asked e b s h n j k = below-3 (λ (e : ℕ). e ≢ 0 → at e b s) (λ z. absurd (z refl)) (λ z. all 1 (refl, refl, refl) (refl, refl, refl) (refl, refl, refl)) (λ z. all 2 (refl, refl, refl) (refl, refl, refl) (refl, refl, refl)) e h n
+  where
+    at : ℕ → ℕ → ℕ → Type 0
+    at e b s = (b + e * (e * (s + 3 - b) % 3)) % 3 ≡ s
+
+    row : ℕ → ℕ → Type 0
+    row e b = at e b 0 × at e b 1 × at e b 2
+
+    one : (e b : ℕ) → row e b → at e b s
+    one e b r = below-3 (at e b) (r .0) (r .1) (r .2) s k
+
+    all : (e : ℕ) → row e 0 → row e 1 → row e 2 → at e b s
+    all e x y z = below-3 (λ (b : ℕ). at e b s) (one e 0 x) (one e 1 y) (one e 2 z) b j
 
 module _ (L : ℕ) (p : 0 < L) (n : L % 3 ≢ 0) where
   -- the same residue by L, and quotients i and j below 3
@@ -107,3 +130,23 @@ module _ (L : ℕ) (p : 0 < L) (n : L % 3 ≢ 0) where
   pub joint-back : (r : ℕ) → r < 3 * L → joint L (r % 3) (r % L) ≡ r
   joint-back r h =
       same-residues (joint L (r % 3) (r % L)) r (joint-below (r % 3) (r % L)) h (joint-short (r % 3) (r % L) (mod-lt r (lit< tt))) (joint-long (r % 3) (r % L) (mod-lt r p))
+
+  -- the same in steps: l, and as many times L more as its residue by 3 asks for
+  pub joint-steps : (s l : ℕ) → s < 3 → l < L → l + L * (L % 3 * (s + 3 - l % 3) % 3) ≡ joint L s l
+  joint-steps s l h k =
+      same-residues (l + L * steps) (joint L s l) under (joint-below s l) (by-3 ∙ sym (joint-short s l h)) (by-long ∙ sym (joint-long s l k))
+    where
+      steps : ℕ
+      steps = L % 3 * (s + 3 - l % 3) % 3
+
+      few : steps < 3
+      few = mod-lt (L % 3 * (s + 3 - l % 3)) (lit< tt)
+
+      under : l + L * steps < 3 * L
+      under = below-3 (λ (t : ℕ). l + L * t < 3 * L) (omega arith) (omega arith) (omega arith) steps few
+
+      by-long : (l + L * steps) % L ≡ l
+      by-long = ap (λ (x : ℕ). x % L) (add-comm l (L * steps)) ∙ mul-add-mod-self-left L steps l ∙ mod-eq-of-lt k
+
+      by-3 : (l + L * steps) % 3 ≡ s
+      by-3 = sum-thirds l L steps ∙ asked (L % 3) (l % 3) s (mod-lt L (lit< tt)) n (mod-lt l (lit< tt)) h

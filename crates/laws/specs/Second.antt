@@ -1,7 +1,7 @@
 -- The second best: the first best index below n that is not k.
 use mathlib.Core.Path.{_≡_, refl, sym, _∙_}
 use mathlib.Core.Bool.{Bool, true, false, cond}
-use mathlib.Core.Logic.{_⊎_, inl, inr}
+use mathlib.Core.Logic.{_⊎_, inl, inr, ⊎-elim}
 use Prim.Native.Nat.{ℕ, zero, suc, _+_, _≤_, _<_}
 use native.Mathlib.Omega.{arith}
 use native.Mathlib.Numerals.{add-one}
@@ -105,3 +105,7 @@ second-new b k i a e n t = rw (add-one i, ne-eqb i k n, ← e, t)
 pub second-old : (b : ℕ → ℕ → Bool) (k i a : ℕ) → a ≡ second b k i → (i ≡ k → ⊥) → b i a ≡ false → a ≡ second b k (i + 1)
 unfolding second
 second-old b k i a e n t = rw (add-one i, ne-eqb i k n, ← e, t)
+
+-- one that does not beat the second is no second
+pub second-low : (b : ℕ → ℕ → Bool) (k i a : ℕ) → a ≡ second b k i → b i a ≡ false → a ≡ second b k (i + 1)
+second-low b k i a e t = ⊎-elim (λ q. second-skip b k i a e (eqb-true i k q)) (λ q. second-old b k i a e (eqb-false i k q) t) (cases (eqb i k))

@@ -2,16 +2,14 @@ use borrow.Author.Needs.{needs}
 use Prim.Native.Nat.{ℕ, _+_, _≤_, _<_, _-_}
 use mathlib.Core.Path.{_≡_, refl, sym, ap, subst, _∙_}
 use mathlib.Core.Bool.{false}
-use mathlib.Core.List.{List}
 use mathlib.Core.Logic.{⊎-elim}
-use borrow.Author.Tests.{lt-ltb, le-ltb, ne-eqb, eq-eqb, eqb-true, eqb-false}
+use borrow.Author.Tests.{lt-ltb, le-ltb, ne-eqb, eq-eqb}
 use lib.Dec.{eqb}
 use lib.ListN.{length}
-use Rattle.laws.specs.Tests.{cases}
 use Rattle.laws.specs.Fold.{fold, count}
 use Rattle.laws.specs.Counting.{count-yes, count-no}
 use Rattle.laws.specs.Best.{above}
-use Rattle.laws.specs.Second.{second, second-skip, second-new, second-old}
+use Rattle.laws.specs.Second.{second, second-skip, second-new, second-low}
 use Rattle.hard.specs.CellTables.{cAt, wAt}
 use Rattle.hard.specs.Lex.{level, optimal, secondCell}
 use native.Mathlib.Omega.{arith}
@@ -91,10 +89,6 @@ counted c =
     (λ w. ((omega (arith, w .1), omega (arith, w .2)), w .1 ∙ count-no _ _ _ (inv .1) (ne-eqb _ _ (w .0 .left)), w .2 ∙ count-no _ _ _ (inv .2) (rw (ne-eqb _ _ (w .0 .left)) refl))))
     (c .if3 .came)
 
--- one that is not above the second is no second
-second-low : (cs : List ℕ) (k i s u : ℕ) → s ≡ second (above (cAt cs)) k i → u ≡ cAt cs s → cAt cs i ≤ u → s ≡ second (above (cAt cs)) k (i + 1)
-second-low cs k i s u e f h = ⊎-elim (λ q. second-skip (above (cAt cs)) k i s e (eqb-true i k q)) (λ q. second-old (above (cAt cs)) k i s e (eqb-false i k q) (le-ltb (cAt cs s) (cAt cs i) (omega arith))) (cases (eqb i k))
-
 loop-again : tie.Need-loop-again Inv-loop μ-loop
 loop-again c =
     let l = c .before .before .before .loop in
@@ -112,10 +106,10 @@ loop-again c =
     (⊎-elim
     (λ w.
     let n = counted (record { before = record { before = c .before; if2 = w .0 }; if3 = w .1 }) in
-    ((omega arith, omega (arith, w .3, n .0), omega (arith, w .4, n .0)), w .3 ∙ n .1, w .4 ∙ n .2, omega (arith, w .5), w .5 ∙ second-low cs _ _ _ _ (inv .4) (inv .5) (w .2 .left), w .6 ∙ inv .5 ∙ ap (cAt cs) (sym (w .5))))
+    ((omega arith, omega (arith, w .3, n .0), omega (arith, w .4, n .0)), w .3 ∙ n .1, w .4 ∙ n .2, omega (arith, w .5), w .5 ∙ second-low _ _ _ _ (inv .4) (le-ltb _ _ (subst (λ (x : ℕ). cAt cs (l .i) ≤ x) (inv .5) (w .2 .left))), w .6 ∙ inv .5 ∙ ap (cAt cs) (sym (w .5))))
     (λ w.
     let low : eqb (cAt cs (l .i)) (cAt cs (s .args .cell)) ≡ false = ne-eqb (cAt cs (l .i)) (cAt cs (s .args .cell)) (λ e. omega (arith, w .0 .left, inv .5, s .pre .2 (l .second) (inv .3))) in
-    ((omega arith, omega (arith, w .1), omega (arith, w .2)), w .1 ∙ count-no _ _ _ (inv .1) low, w .2 ∙ count-no _ _ _ (inv .2) (rw low refl), omega (arith, w .3), w .3 ∙ second-low cs _ _ _ _ (inv .4) (inv .5) (omega (arith, w .0 .left)), w .4 ∙ inv .5 ∙ ap (cAt cs) (sym (w .3))))))
+    ((omega arith, omega (arith, w .1), omega (arith, w .2)), w .1 ∙ count-no _ _ _ (inv .1) low, w .2 ∙ count-no _ _ _ (inv .2) (rw low refl), omega (arith, w .3), w .3 ∙ second-low _ _ _ _ (inv .4) (le-ltb (cAt cs (l .second)) (cAt cs (l .i)) (omega (arith, w .0 .left, inv .5))), w .4 ∙ inv .5 ∙ ap (cAt cs) (sym (w .3))))))
     (c .if2 .came)
 
 returns : tie.Need-returns Inv-loop μ-loop

@@ -4,17 +4,15 @@ use borrow.Author.Needs.{needs}
 use mathlib.Core.Path.{_≡_, refl, sym, ap, ap₂, subst, _∙_}
 use Prim.Native.Nat.{ℕ, _+_, _≤_, _<_, _-_, _^_}
 use mathlib.Core.Logic.{_⊎_, inl, inr, ⊎-elim}
-use borrow.Author.Tests.{ne-eqb, eqb-true, eqb-false}
-use lib.Dec.{eqb}
+use borrow.Author.Tests.{ne-eqb}
 use lib.ListN.{length}
 use lib.Signed.{leZ, ltZ, mag}
 use mir.Val.{toZ, ofZ}
 use mir.Facts.{toZ-ofZ}
 use mir.Syntax.{w64}
-use Rattle.laws.specs.Tests.{cases}
 use Rattle.laws.specs.Fold.{fold, count}
 use Rattle.laws.specs.Counting.{count-yes, count-no}
-use Rattle.laws.specs.Second.{second, second-skip, second-new, second-old}
+use Rattle.laws.specs.Second.{second, second-skip, second-new, second-low}
 use Rattle.laws.specs.Signed.{read, said-lt}
 use Rattle.laws.specs.Whole.{eqZ}
 use Rattle.soft.specs.Level.{sAt, larger, level, secondCell}
@@ -45,10 +43,6 @@ shared-slice-copy-out-under c = ⊎-elim (λ w. omega (arith, w .1)) (λ w. omeg
 one-level : (p : ℕ → Bool) (i m n : ℕ) → m ≤ i → m ≡ count i p → ((p i ≡ true) × (n ≡ m + 1)) ⊎ ((p i ≡ false) × (n ≡ m)) → (n ≤ i + 1) × (n ≡ count (i + 1) p)
 one-level p i m n h e (inl w) = (omega (arith, w .1), w .1 ∙ count-yes p i m e (w .0))
 one-level p i m n h e (inr w) = (omega (arith, w .1), w .1 ∙ count-no p i m e (w .0))
-
--- one that does not beat the second is no second
-second-low : (b : ℕ → ℕ → Bool) (k i s : ℕ) → s ≡ second b k i → b i s ≡ false → s ≡ second b k (i + 1)
-second-low b k i s e t = ⊎-elim (λ q. second-skip b k i s e (eqb-true i k q)) (λ q. second-old b k i s e (eqb-false i k q) t) (cases (eqb i k))
 
 loop-holds : tie.Need-loop-holds Inv-loop μ-loop
 unfolding fold second

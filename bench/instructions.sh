@@ -3,31 +3,48 @@
 # executes, halved, so that what the driver does before and after does not count. Counted by qemu's user emulator (Debian's package
 # qemu-user), on any machine. `bench/instructions.sh functions NAME` shows one case function by function.
 set -eu
+unset CDPATH
 cd "$(dirname "$0")/.."
 program=target/bench/x86_64-unknown-linux-gnu/release/bench
 plugin=target/bench/instructions.so
 [ -x "$program" ] || { echo "build it first: see docs/PERFORMANCE.md"; exit 1; }
 cc -O2 -Wall -Wextra -shared -fPIC bench/instructions.c -o "$plugin"
 
-# NAME SIDE: a line for each function, with what one call of the case executes in it
-per_call() {
+room=$(mktemp -d)
+trap 'rm -rf "$room"' EXIT
+
+# NAME SIDE: $room/calls gets a line for each function, with what one call of the case executes in it. A run that counts nothing ends this script.
+count() {
+    : >"$room/runs"
     for calls in 1 3; do
-        qemu-x86_64 -d plugin -plugin "$plugin" "$program" run "$1" "$2" "$calls" 2>&1 | sed -n "s/^executed /$calls /p"
-    done | awk '{ n = $2; at = $1; $1 = $2 = ""; sum[$0] += at == 3 ? n : -n } END { for (f in sum) if (sum[f] / 2 >= 1) printf "%d%s\n", sum[f] / 2, f }' | sort -nr
+        if ! qemu-x86_64 -d plugin -plugin "$plugin" "$program" run "$1" "$2" "$calls" >"$room/said" 2>&1 || ! grep -q '^executed ' "$room/said"; then
+            cat "$room/said" >&2
+            echo "bench/instructions.sh: nothing was counted of $1, $2" >&2
+            exit 1
+        fi
+        sed -n "s/^executed /$calls /p" "$room/said" >>"$room/runs"
+    done
+    awk '{ n = $2; at = $1; $1 = $2 = ""; sum[$0] += at == 3 ? n : -n } END { for (f in sum) if (sum[f] / 2 >= 1) printf "%d%s\n", sum[f] / 2, f }' "$room/runs" |
+        sort -nr >"$room/calls"
 }
 
-total() { per_call "$1" "$2" | awk '{ n += $1 } END { print n }'; }
+total() { awk '{ n += $1 } END { print n }' "$room/calls"; }
 
 if [ "${1:-}" = functions ]; then
     for side in ours rust; do
         echo "$2, $side:"
-        per_call "$2" "$side" | c++filt | awk '$1 >= 500'
+        count "$2" "$side"
+        c++filt <"$room/calls" | awk '$1 >= 500'
     done
     exit 0
 fi
+names=$(qemu-x86_64 "$program" list)
 echo "| case | ours | Rust | ours / Rust |"
 echo "|---|---|---|---|"
-qemu-x86_64 "$program" list | while read -r name; do
-    ours=$(total "$name" ours) rust=$(total "$name" rust)
+for name in $names; do
+    count "$name" ours
+    ours=$(total)
+    count "$name" rust
+    rust=$(total)
     echo "$name $ours $rust" | awk '{ printf "| %s | %d | %d | %.2f |\n", $1, $2, $3, $2 / $3 }'
 done

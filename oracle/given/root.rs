@@ -189,7 +189,7 @@ impl Ready {
             bit: 0,
             confidence: f32::NAN,
         }];
-        std::panic::catch_unwind(|| self.soft_with(&poison, 1.0)).is_err()
+        plain::quietly(|| std::panic::catch_unwind(|| self.soft_with(&poison, 1.0)).is_err())
     }
 
     /// 13 if the soft winner is the placing w, which the gate does not let pass, and 15 if it is another. A clean window at w in place

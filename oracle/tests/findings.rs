@@ -34,10 +34,12 @@ fn a_confidence_that_is_no_number_panics() {
 }
 
 #[test]
-fn a_negative_confidence_is_taken() {
-    let mut edges = window(8, &AT);
-    edges[0].confidence = -0.5;
-    assert!(oracle::hard(&case(&edges)).is_ok());
+fn a_confidence_out_of_range_is_taken() {
+    for confidence in [-0.5, 1.5] {
+        let mut edges = window(8, &AT);
+        edges[0].confidence = confidence;
+        assert!(oracle::hard(&case(&edges)).is_ok());
+    }
 }
 
 #[test]
@@ -58,6 +60,8 @@ fn a_limit_that_is_no_number_lets_everything_pass() {
     assert!(free.is_ok());
     c.limit = f32::NAN;
     assert_eq!(oracle::hard(&c), free);
+    c.limit = 2.0;
+    assert_eq!(oracle::hard(&c), free);
     c.limit = -1.0;
     assert_eq!(oracle::hard(&c), Err(11));
 }
@@ -67,8 +71,19 @@ fn a_margin_that_is_no_number_lets_everything_pass() {
     let mut c = case(&window(8, &AT));
     c.soft.margin = 1e9;
     assert_eq!(oracle::soft(&c), Err(14));
-    c.soft.margin = f32::NAN;
-    assert!(oracle::soft(&c).is_ok());
+    for margin in [f32::NAN, -1.0] {
+        c.soft.margin = margin;
+        assert!(oracle::soft(&c).is_ok());
+    }
+}
+
+#[test]
+fn a_likelihood_beyond_65536_is_taken() {
+    let mut c = case(&window(8, &AT));
+    c.soft = Soft { kappa: 1e6, floor: f32::NEG_INFINITY, ..SOFT };
+    let (_, mismatch) = oracle::likelihoods(&c)[0];
+    assert!(mismatch.is_finite() && mismatch < -65536.0);
+    assert_eq!(oracle::soft(&c).map(|f| f.square), Ok(AT));
 }
 
 #[test]

@@ -133,3 +133,15 @@ impl Random {
 }
 
 pub mod maps;
+
+/// What f answers, with no message of a panic inside it. Messages of other panics come through.
+pub fn quietly<A>(f: impl FnOnce() -> A) -> A {
+    static ONE_AT_A_TIME: std::sync::Mutex<()> = std::sync::Mutex::new(());
+    let held = ONE_AT_A_TIME.lock();
+    let aloud = std::panic::take_hook();
+    std::panic::set_hook(Box::new(|_| ()));
+    let answer = f();
+    std::panic::set_hook(aloud);
+    drop(held);
+    answer
+}

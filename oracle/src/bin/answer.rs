@@ -25,8 +25,8 @@ fn answer(map: usize, call: &Call) -> Words {
 }
 
 fn main() {
-    std::panic::set_hook(Box::new(|_| ()));
     let words: Vec<String> = std::env::args().collect();
+    assert!(words.len() > 2, "answer IN OUT [votes]");
     let mut out = File::default();
     let mut map = None;
     let (mut calls, mut changed) = (0, 0);

@@ -44,8 +44,8 @@ fn at_the_margin(case: &mut Case, r: &mut Random) {
 }
 
 fn main() {
-    std::panic::set_hook(Box::new(|_| ()));
     let words: Vec<String> = std::env::args().collect();
+    assert_eq!(words.len(), 5, "generate KIND COUNT SEED FILE");
     let sample = words[1] == "sample";
     let count: usize = words[2].parse().expect("a count");
     let seed: u64 = words[3].parse().expect("a seed");

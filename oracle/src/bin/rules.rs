@@ -208,8 +208,8 @@ fn wrong(file: &mut File) {
 }
 
 fn main() {
-    std::panic::set_hook(Box::new(|_| ()));
     let words: Vec<String> = std::env::args().collect();
+    assert_eq!(words.len(), 3, "rules RULES WRONG");
     let case = view(2);
     let (h, v) = oracle::patterns(0);
     let mut rules = File::default();

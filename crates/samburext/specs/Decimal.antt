@@ -15,7 +15,7 @@ abbrev pub floatOf : Bool → ℕ → ℕ → Float
 floatOf true n s = sub binary32 (ofBits binary32 0) (quotient n s)
 floatOf false n s = quotient n s
 
--- the digits n with the digit x behind them; 2^24, which no number has, where there are too many or x is no digit
+-- the digits n with the digit x behind them; 2^24 or more, which no number of the command has, where there are too many or x is no digit
 abbrev pub nextDigits : ℕ → ℕ → ℕ
 nextDigits n x = cond (ltb 1677721 n) 16777216 (cond (ltb 9 x) 16777216 (n * 10 + x))
 

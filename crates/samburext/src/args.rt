@@ -2,7 +2,8 @@
 use crate::page::put;
 use crate::text::is_name;
 
-// The options, and for each file the argument that names it (0 for none). Wrong: it cannot be understood. Awaits: the next argument names the picture.
+// The options, and for each file the argument that names it (0 for none). Wrong: it cannot be understood, as help beside anything else. Awaits: the next
+// argument names the picture.
 pub(crate) struct Options {
     pub wrong: bool,
     pub help: bool,
@@ -110,7 +111,10 @@ pub(crate) fn all_options() -> Options {
             o = with_argument(o, i);
         }
     }
-    if o.view == 0 || o.awaits {
+    if o.help && count == 2 {
+        return o;
+    }
+    if o.help || o.view == 0 || o.awaits {
         o.wrong = true;
     }
     o

@@ -47,7 +47,7 @@ fn next_scale(point: bool, scale: u32) -> u32
     scale
 }
 
-// The digits with one more, up to 16,777,215; 16,777,216 where there are too many.
+// The digits with one more; 16,777,216 or more where there are too many, which no number of the command has.
 fn next_digits(digits: u32, x: u8) -> u32
     ensures { λ r. ⌜ r ≡ nextDigits digits x ⌝ }
 {

@@ -62,7 +62,7 @@ fn put_meanings(page: &mut [u8; 32768], at: usize) -> usize {
     let n = put(
         page,
         n,
-        b"A refusal has a number and no square.\n\n--plain    one line of key=value, for programs\n--map FILE.svg writes a picture of the board; a refusal has none, and one of that name from an\n           earlier run is removed\n",
+        b"A refusal has a number and no square.\n\n--plain    one line of key=value, for programs\n--map FILE.svg writes a picture of the board; a refusal has none, and one of that name from an\n           earlier run is removed; any other file of that name is left as it is\n",
     );
     put(
         page,

@@ -121,7 +121,7 @@ fn face<'a>(o: Options, h: &'a [u8; 167], v: &'a [u8; 167]) {
     conclude(o, a, view);
 }
 
-// The board, then the view. Where an earlier picture cannot be removed, no answer is given.
+// The board, then the view. Where an earlier picture cannot be removed, or the file of that name is none, no answer is given.
 fn run(o: Options) {
     if o.map != 0 {
         if !map::forget(o.map) {
@@ -140,13 +140,13 @@ fn run(o: Options) {
 
 fn main() {
     let o = args::all_options();
-    if o.help {
-        help::show();
-        return;
-    }
     if o.wrong {
         help::show_use();
         give_up(o);
+        return;
+    }
+    if o.help {
+        help::show();
         return;
     }
     run(o);

@@ -10,6 +10,7 @@ use crate::page::put;
 use crate::page::put_count;
 use crate::page::put_float;
 use crate::page::write;
+use crate::text::is_name;
 use crate::view_file::View;
 use crate::words::put_matrix;
 use puzzleboard::answer::Decoded;
@@ -196,13 +197,18 @@ fn put_ticks(page: &mut [u8; 32768], at: usize) -> usize {
     n
 }
 
-// The start of the picture: the board with its squares, a line every 50.
-fn put_board(page: &mut [u8; 32768], at: usize) -> usize {
-    let n = put(
+// How every picture begins.
+fn put_head(page: &mut [u8; 32768], at: usize) -> usize {
+    put(
         page,
         at,
         b"<svg xmlns=\"http://www.w3.org/2000/svg\" viewBox=\"0 0 1130 1230\" width=\"1130\" height=\"1230\" font-family=\"sans-serif\" font-size=\"18\">\n<title>samburext: the square that the camera faces</title>\n",
-    );
+    )
+}
+
+// The start of the picture: the board with its squares, a line every 50.
+fn put_board(page: &mut [u8; 32768], at: usize) -> usize {
+    let n = put_head(page, at);
     let n = put(
         page,
         n,
@@ -322,12 +328,47 @@ pub(crate) fn draw(i: usize, d: Decoded, view: View) -> bool {
     save(front(&names, name), front(&names, beside), &page, n)
 }
 
+// Whether an open file is empty or begins as every picture does.
+fn is_drawn(fd: i32) -> bool {
+    let mut page = blank();
+    let n = put_head(&mut page, 0);
+    let mut first = io::buffer();
+    let k = io::read_full(fd, &mut first);
+    k == 0 || is_name(&first, 0, n, front(&page, n))
+}
+
+// The message of a file that the picture would take the place of.
+fn report_other(i: usize) {
+    let mut page = blank();
+    let n = put_argument(&mut page, 0, i);
+    let n = put(
+        &mut page,
+        n,
+        b": this is no picture of samburext's and is left as it is; give --map another name\n",
+    );
+    write(libc::STDERR_FILENO, &page, n);
+}
+
 // The picture that an earlier run left in the file that argument i names is removed, so that a picture which is there belongs to this run;
-// false after a message where it is there and cannot be removed.
+// false after a message where it is there and cannot be removed, or where the file is no such picture: a view or a board is never removed.
 pub(crate) fn forget(i: usize) -> bool {
     let mut name = io::buffer();
     let n = os::arg(i, &mut name);
-    if os::unlink(&name[..n]) == 0 || os::errno() == libc::ENOENT {
+    let fd = os::open_read(&name[..n]);
+    if fd < 0 {
+        if os::errno() == libc::ENOENT {
+            return true;
+        }
+        os::fail(&name[..n]);
+        return false;
+    }
+    let ours = is_drawn(fd);
+    libc::close(fd);
+    if !ours {
+        report_other(i);
+        return false;
+    }
+    if os::unlink(&name[..n]) == 0 {
         return true;
     }
     os::fail(&name[..n]);

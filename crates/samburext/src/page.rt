@@ -108,7 +108,9 @@ pub(crate) fn write(fd: i32, page: &[u8; 32768], n: usize) -> bool {
     io::write_all(fd, front(page, n))
 }
 
-// The page written as what the program says.
+// The page written as what the program says; a message where that fails.
 pub(crate) fn say(page: &[u8; 32768], n: usize) {
-    write(STDOUT_FILENO, page, n);
+    if !write(STDOUT_FILENO, page, n) {
+        os::fail(b"standard output");
+    }
 }

@@ -34,6 +34,9 @@ returns c = search needs
 returns-2 : tie.Need-returns-2 Inv-loop μ-loop
 returns-2 c = search needs
 
+returns-3 : tie.Need-returns-3 Inv-loop μ-loop
+returns-3 c = search needs
+
 pub all-options-spec : {M : Type 1} → statement M
 all-options-spec =
     tie.close
@@ -47,4 +50,5 @@ all-options-spec =
     loop-less
     loop-again
     returns
-    returns-2)
+    returns-2
+    returns-3)

@@ -1,8 +1,10 @@
 //! Samburext for Rust programs: which square of a 501 by 501 PuzzleBoard a camera faces, or a refusal. A safe wrapper over the
 //! proved static library: a found square is an `Ok`, a refusal an `Err`, so no program can go on with a square that was not found.
 
-pub mod raw;
+mod raw;
 mod refusal;
+#[cfg(test)]
+mod tests;
 
 pub use refusal::Refusal;
 
@@ -141,11 +143,7 @@ fn decoded(answer: raw::Answer) -> Result<Decoded, Refusal> {
             best_score: answer.best_score,
             runner_up_score: answer.runner_up_score,
             margin: answer.margin,
-            runner_up: Square {
-                transform: answer.runner_up_transform,
-                row: answer.runner_up_row,
-                col: answer.runner_up_col,
-            },
+            runner_up: Square { transform: answer.runner_up_transform, row: answer.runner_up_row, col: answer.runner_up_col },
         }),
     }
 }
@@ -162,9 +160,8 @@ pub fn decode_hard(
     decoded(decode_hard_raw(logical, physical, transforms, patterns, error_limit, room))
 }
 
-/// The same, with the answer as the library gives it: look at `refusal` first, for on a refusal every other field is
-/// 0xFFFFFFFF or NaN. Programs want the function above.
-pub fn decode_hard_raw(
+// The same, with the answer as the library gives it: on a refusal every field but `refusal` is 0xFFFFFFFF or NaN.
+fn decode_hard_raw(
     logical: &EdgeList,
     physical: &EdgeList,
     transforms: &[u8],
@@ -225,10 +222,9 @@ pub fn decode_soft(
     decoded(decode_soft_raw(physical, likelihoods, logical, transforms, patterns, error_limit, soft_margin, room))
 }
 
-/// The same, with the answer as the library gives it: look at `refusal` first, for on a refusal every other field is
-/// 0xFFFFFFFF or NaN. Programs want the function above.
+// The same, with the answer as the library gives it.
 #[allow(clippy::too_many_arguments)]
-pub fn decode_soft_raw(
+fn decode_soft_raw(
     physical: &EdgeList,
     likelihoods: &Likelihoods,
     logical: &EdgeList,
@@ -297,9 +293,8 @@ pub fn match_stats(list: &EdgeList, square: Square, patterns: Patterns) -> Resul
     }
 }
 
-/// The same, with the answer as the library gives it: look at `refusal` first, for on a refusal every other field is
-/// 0xFFFFFFFF or NaN. Programs want the function above.
-pub fn match_stats_raw(list: &EdgeList, square: Square, patterns: Patterns) -> raw::Stats {
+// The same, with the answer as the library gives it.
+fn match_stats_raw(list: &EdgeList, square: Square, patterns: Patterns) -> raw::Stats {
     // Every pointer is a slice's with its length; nothing is written.
     unsafe {
         raw::samburext_match_stats(

@@ -49,8 +49,8 @@ impl Refusal {
         self as u32
     }
 
-    /// The refusal with a number, and none for 0, which means found.
-    pub fn from_number(number: u32) -> Option<Refusal> {
+    // The refusal with a number, and none for 0, which means found.
+    pub(crate) fn from_number(number: u32) -> Option<Refusal> {
         let place = (number as usize).checked_sub(1)?;
         Some(*Refusal::ALL.get(place).expect("the library's refusals go from 1 to 15"))
     }

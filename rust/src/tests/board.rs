@@ -1,6 +1,6 @@
 //! A board and windows cut from it, by the rules document's words and by none of the library's code.
 
-use samburext::{Edge, EdgeList, Patterns, Square};
+use crate::{Edge, EdgeList, Patterns, Square};
 
 /// The eight matrices in the order of their numbers; a transform maps (column, row).
 const MATRICES: [[[i32; 2]; 2]; 8] = [

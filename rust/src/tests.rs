@@ -2,11 +2,11 @@
 
 mod board;
 
-use board::{Board, ALL_TRANSFORMS};
-use samburext::{
+use crate::{
     decode_hard, decode_hard_raw, decode_soft, decode_soft_raw, match_stats, match_stats_raw, raw, Decoded, Edge, EdgeList,
-    Likelihoods, Refusal, Room, Square, ROOM_COUNTS, ROOM_SUMS, ROOM_WEIGHTS,
+    Likelihoods, Patterns, Refusal, Room, Square, ROOM_COUNTS, ROOM_SUMS, ROOM_WEIGHTS,
 };
+use board::{Board, ALL_TRANSFORMS};
 
 const AT: Square = Square { transform: 5, row: 123, col: 456 };
 const ELSEWHERE: Square = Square { transform: 5, row: 77, col: 300 };
@@ -57,8 +57,8 @@ fn call() -> Call {
 }
 
 impl Call {
-    fn patterns(&self) -> samburext::Patterns<'_> {
-        samburext::Patterns { horizontal: &self.board_h, vertical: &self.board_v }
+    fn patterns(&self) -> Patterns<'_> {
+        Patterns { horizontal: &self.board_h, vertical: &self.board_v }
     }
 
     fn hard(&self, room: &mut Room) -> Result<Decoded, Refusal> {
@@ -66,7 +66,16 @@ impl Call {
     }
 
     fn soft(&self, room: &mut Room) -> Result<Decoded, Refusal> {
-        decode_soft(&self.physical, &self.likelihoods, &self.logical, &self.transforms, self.patterns(), self.limit, self.margin, room)
+        decode_soft(
+            &self.physical,
+            &self.likelihoods,
+            &self.logical,
+            &self.transforms,
+            self.patterns(),
+            self.limit,
+            self.margin,
+            room,
+        )
     }
 
     fn hard_raw(&self, room: &mut Room) -> raw::Answer {
@@ -74,7 +83,16 @@ impl Call {
     }
 
     fn soft_raw(&self, room: &mut Room) -> raw::Answer {
-        decode_soft_raw(&self.physical, &self.likelihoods, &self.logical, &self.transforms, self.patterns(), self.limit, self.margin, room)
+        decode_soft_raw(
+            &self.physical,
+            &self.likelihoods,
+            &self.logical,
+            &self.transforms,
+            self.patterns(),
+            self.limit,
+            self.margin,
+            room,
+        )
     }
 }
 
@@ -174,6 +192,8 @@ fn hard_finds_every_transform() {
         assert_eq!(found.best_score, 1.0);
         assert_eq!(found.margin, 264.0 - found.runner_up_score);
         assert_ne!(found.runner_up, square);
+        let next = match_stats(&list, found.runner_up, board.patterns()).unwrap();
+        assert_eq!(next.hits as f32, found.runner_up_score);
         room_after(&room, &used_room(), false);
     }
 }
@@ -528,7 +548,7 @@ fn stats_refuse_by_the_lowest_number() {
     let good = board.window(AT, 4);
     let far = Square { transform: 256, row: 501, col: u32::MAX };
     let mut tried = 0;
-    let mut refused = |list: &EdgeList, square: Square, patterns: samburext::Patterns, refusal: Refusal| {
+    let mut refused = |list: &EdgeList, square: Square, patterns: Patterns, refusal: Refusal| {
         assert_eq!(match_stats(list, square, patterns), Err(refusal));
         only_the_number_of_stats(match_stats_raw(list, square, patterns), refusal.number());
         tried += 1;
@@ -546,7 +566,7 @@ fn stats_refuse_by_the_lowest_number() {
     }
     refused(&long, far, board.patterns(), Refusal::ListSize);
     refused(&good, far, board.patterns(), Refusal::BadTransform);
-    let short = samburext::Patterns { horizontal: &board.horizontal[1..], vertical: &board.vertical };
+    let short = Patterns { horizontal: &board.horizontal[1..], vertical: &board.vertical };
     refused(&good, Square { transform: 7, ..far }, short, Refusal::BadTable);
     for square in [Square { row: 501, ..AT }, Square { col: 501, ..AT }, Square { row: u32::MAX, ..AT }] {
         refused(&good, square, board.patterns(), Refusal::BadSetting);
@@ -567,7 +587,34 @@ fn refusals_have_numbers_and_words() {
 }
 
 #[test]
-fn the_answers_have_the_header_s_layout() {
-    assert_eq!(std::mem::size_of::<raw::Answer>(), 60);
-    assert_eq!(std::mem::size_of::<raw::Stats>(), 20);
+fn the_answers_have_the_header_s_fields_in_its_order() {
+    use std::mem::{offset_of, size_of};
+    assert_eq!(size_of::<raw::Answer>(), 60);
+    let answer = [
+        offset_of!(raw::Answer, refusal),
+        offset_of!(raw::Answer, transform),
+        offset_of!(raw::Answer, row),
+        offset_of!(raw::Answer, col),
+        offset_of!(raw::Answer, hits),
+        offset_of!(raw::Answer, edges),
+        offset_of!(raw::Answer, weighted_score),
+        offset_of!(raw::Answer, error_rate),
+        offset_of!(raw::Answer, mean_confidence),
+        offset_of!(raw::Answer, best_score),
+        offset_of!(raw::Answer, runner_up_score),
+        offset_of!(raw::Answer, margin),
+        offset_of!(raw::Answer, runner_up_transform),
+        offset_of!(raw::Answer, runner_up_row),
+        offset_of!(raw::Answer, runner_up_col),
+    ];
+    assert!(answer.iter().enumerate().all(|(i, at)| *at == 4 * i), "{answer:?}");
+    assert_eq!(size_of::<raw::Stats>(), 20);
+    let stats = [
+        offset_of!(raw::Stats, refusal),
+        offset_of!(raw::Stats, edges),
+        offset_of!(raw::Stats, hits),
+        offset_of!(raw::Stats, error_rate),
+        offset_of!(raw::Stats, mean_confidence),
+    ];
+    assert!(stats.iter().enumerate().all(|(i, at)| *at == 4 * i), "{stats:?}");
 }

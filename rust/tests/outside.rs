@@ -1,0 +1,54 @@
+//! The three functions as another crate calls them, with the types that it sees.
+
+use samburext::{decode_hard, decode_soft, match_stats, Edge, EdgeList, Likelihoods, Patterns, Refusal, Room, Square};
+
+/// Two tables in which no two windows are alike, from a small generator.
+fn tables() -> (Vec<u8>, Vec<u8>) {
+    let mut state = 2024u32;
+    let mut next = |_| {
+        state = state.wrapping_mul(1664525).wrapping_add(1013904223);
+        (state >> 24) as u8 % 8
+    };
+    ((0..167).map(&mut next).collect(), (0..167).map(&mut next).collect())
+}
+
+/// What an upright camera at (row, col) sees of 10 by 10 squares: the lookup of transform 0 is one row up for a horizontal edge and one column back for
+/// a vertical one.
+fn seen(h: &[u8], v: &[u8], row: usize, col: usize) -> EdgeList {
+    let mut list = EdgeList::new();
+    for r in 0..10 {
+        for c in 0..10 {
+            let across = h[(row + r + 166) % 167] >> ((col + c) % 3) & 1;
+            let down = v[(col + c + 166) % 167] >> ((row + r) % 3) & 1;
+            for (orientation, bit) in [(0, across), (1, down)] {
+                list.push(Edge { row: r as i32, col: c as i32, orientation, bit, confidence: 0.5 });
+            }
+        }
+    }
+    list
+}
+
+#[test]
+fn found_and_refused() {
+    let (h, v) = tables();
+    let patterns = Patterns { horizontal: &h, vertical: &v };
+    let list = seen(&h, &v, 311, 58);
+    let likelihoods = Likelihoods { matches: vec![-0.25; 200], mismatches: vec![-1.5; 200] };
+    let mut room = Room::new();
+    let square = Square { transform: 0, row: 311, col: 58 };
+
+    let hard = decode_hard(&list, &list, &[0, 1, 2, 3], patterns, 0.25, &mut room).expect("hard decode finds it");
+    assert_eq!((hard.square, hard.hits, hard.edges), (square, 200, 200));
+    let soft =
+        decode_soft(&list, &likelihoods, &list, &[0, 1, 2, 3], patterns, 0.25, 0.02, &mut room).expect("soft decode finds it");
+    assert_eq!((soft.square, soft.best_score), (square, -50.0));
+    let fit = match_stats(&list, square, patterns).expect("the square is on the board");
+    assert_eq!((fit.edges, fit.hits), (200, 200));
+
+    let refused: Refusal = decode_hard(&list, &list, &[], patterns, 0.25, &mut room).unwrap_err();
+    assert_eq!((refused, refused.number()), (Refusal::BadTransform, 7));
+    let words: Box<dyn std::error::Error> =
+        Box::new(decode_soft(&list, &likelihoods, &list, &[0], patterns, 0.25, -1.0, &mut room).unwrap_err());
+    assert_eq!(words.to_string(), "refused (9): the error limit, the soft margin or the given origin is out of range");
+    assert_eq!(match_stats(&list, Square { row: 501, ..square }, patterns), Err(Refusal::BadSetting));
+}

@@ -31,9 +31,11 @@ pub record Placing : Type 0 where
   pub row : ℕ
   pub col : ℕ
 
+-- five columns as one edge list
 abbrev pub edges : List ℤ → List ℤ → List ℕ → List ℕ → List Float → EdgeList
 edges r c o b w = record { rows = r; cols = c; orientations = o; bits = b; confidences = w }
 
+-- two pattern tables as one board
 abbrev pub tables : List ℕ → List ℕ → Board
 tables h v = record { h = h; v = v }
 
@@ -56,7 +58,7 @@ horizontal l = eqb (l .orientation) 0
 abbrev pub bitAt : ℕ → ℕ → ℕ
 bitAt p j = p / 2 ^ j % 2
 
--- "bit (short) mod 3 of pattern (long) mod 167", of one table. "Remainders are never negative": see `emod`
+-- bit (short) mod 3 of pattern (long) mod 167, of one table. "Remainders are never negative": see `emod`
 abbrev pub patternBit : List ℕ → ℤ → ℤ → ℕ
 patternBit ps long short = bitAt (getD ps (emod long (length ps)) 0) (emod short 3)
 

@@ -1,4 +1,4 @@
--- The answers as structs of plain numbers. "On a refusal every other field is 0xFFFFFFFF or NaN: no square, no zeros, nothing of an earlier call."
+-- The answers as structs of plain numbers. As asked of the boundary (docs/CONTRACTS.md): "On a refusal every other field is 0xFFFFFFFF or NaN: no square, no zeros, nothing of an earlier call."
 use mathlib.Core.Bool.{cond}
 use Prim.Native.Nat.{ℕ}
 use lib.Dec.{ltb}

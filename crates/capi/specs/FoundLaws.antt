@@ -1,4 +1,4 @@
--- The number tells found from refused: it is 0 exactly where the public library found or counted. A refusal never has the number 0.
+-- The number tells found from refused: where it is 0 the public library found or counted (and `flat` makes it 0 there). A refusal never has the number 0.
 use mathlib.Core.Path.{_≡_, refl, sym, ap, subst, _∙_}
 use mathlib.Core.Bool.{Bool, true, false}
 use mathlib.Core.List.{List}
@@ -85,7 +85,7 @@ unfolding hardAnswer hardCore selection
 tells-hard L P ts B limit m n =
     tells-or (hardRefusal L P ts B limit m n .number) _ (hardRefusal L P ts B limit m n) refl (tells-logical L P ts B (noConfidence L) (chosen (scanOf B L ts limit (length ts))))
 
--- HARD: the number is 0 exactly where the library found, and then each field is the found answer's
+-- HARD: the number is 0 only where the library found
 pub hard-zero-found : (L P : EdgeList) (ts : List ℕ) (B : Board) (limit : Float) (c c' : List ℕ) (w w' : List Float) (r : FlatAnswer) → (h : HardFlat L P ts B limit c c' w w' r) → r .refusal ≡ 0
     → (d : Decoded) × (h .told ≡ Found d)
 hard-zero-found L P ts B limit c c' w w' r h e =

@@ -20,9 +20,11 @@ far z = ltZ z (negsuc 999999) || ltZ (pos 1000000) z
 abbrev pub farAt : List ℤ → ℕ → Bool
 farAt xs i = far (getD xs i (pos 0))
 
+-- edge i has a row or a column out of range
 abbrev pub badCoordinate : List ℤ → List ℤ → ℕ → Bool
 badCoordinate rows cols i = farAt rows i || farAt cols i
 
+-- the first such edge, or the length where there is none
 unfoldable pub firstBadCoordinate : List ℤ → List ℤ → ℕ
 firstBadCoordinate rows cols = first (badCoordinate rows cols) (length rows)
 
@@ -30,6 +32,7 @@ firstBadCoordinate rows cols = first (badCoordinate rows cols) (length rows)
 abbrev pub badByte : ℕ → List ℕ → ℕ → Bool
 badByte top xs i = ltb top (getD xs i 0)
 
+-- the first such place, or the length where there is none
 unfoldable pub firstBadByte : ℕ → List ℕ → ℕ
 firstBadByte top xs = first (badByte top xs) (length xs)
 
@@ -41,6 +44,7 @@ inRange top x = le zeroF x && le x top
 abbrev pub badConfidence : List Float → ℕ → Bool
 badConfidence xs i = not (inRange oneF (getD xs i nan))
 
+-- the first such edge, or the length where there is none
 unfoldable pub firstBadConfidence : List Float → ℕ
 firstBadConfidence xs = first (badConfidence xs) (length xs)
 
@@ -48,9 +52,11 @@ firstBadConfidence xs = first (badConfidence xs) (length xs)
 abbrev pub unlikelyAt : List Float → ℕ → Bool
 unlikelyAt xs i = not (acceptable (getD xs i nan))
 
+-- edge i has a likelihood out of range, of a match or of a mismatch
 abbrev pub badLikelihood : List Float → List Float → ℕ → Bool
 badLikelihood ms us i = unlikelyAt ms i || unlikelyAt us i
 
+-- the first such edge, or the length where there is none
 unfoldable pub firstBadLikelihood : List Float → List Float → ℕ
 firstBadLikelihood ms us = first (badLikelihood ms us) (length ms)
 

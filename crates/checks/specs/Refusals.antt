@@ -18,6 +18,7 @@ numbered n = record { number = n }
 abbrev pub fieldsBad : EdgeList → Bool
 fieldsBad E = fieldBad (E .rows) (E .cols) (E .orientations) (E .bits)
 
+-- one of the two pattern tables is bad
 abbrev pub tablesBad : Board → Bool
 tablesBad B = tableBad (B .h) || tableBad (B .v)
 

@@ -1,5 +1,6 @@
 -- What Samburext promises, in one place. Each claim speaks of what a call gave: `HardDone ..`, `SoftDone ..` and `r ≡ statsAnswer ..` are the contracts of
 -- `decode_hard`, `decode_soft` and `match_stats`, which have no `requires`, so the claims hold for all inputs and every pair of pattern tables.
+-- Quotes are of the demands (docs/CONTRACTS.md).
 use mathlib.Core.Path.{_≡_, refl, sym, ap, subst, _∙_}
 use mathlib.Core.Bool.{Bool, true, false}
 use mathlib.Core.List.{List}

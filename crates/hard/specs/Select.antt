@@ -66,6 +66,7 @@ builtTo E ts = stop (noConfidence E)
     stop true = 0
     stop false = length ts
 
+-- what a selection did: its answer is the definition's, and the room holds the tables of the last transform that was built
 pub record SelectDone (B : Board) (E : EdgeList) (ts : List ℕ) (limit : Float) (c c' : List ℕ) (w w' : List Float) (r : Selection) : Type 0 where
   pub answer : r ≡ selection B E ts limit
   pub rooms : Rooms B E ts (builtTo E ts) c c' w w'

@@ -34,6 +34,7 @@ use Rattle.hard.specs.Select.{tablesOf, scanOf, ofChoice, orRefused, sel
 unfoldable pub roomCells : ℕ → ℕ → List ℕ → List Float → CellTables
 roomCells L M c w = cells (view 0 (3 * L) c) (view 0 (3 * L) w) (view (3 * L) (3 * M) c) (view (3 * L) (3 * M) w)
 
+-- a room whose cells can be folded into the scan: both periods in range, all cells there, and in range for a list of so many edges
 pub record RoomReady (L M edges : ℕ) (c : List ℕ) (w : List Float) : Type 0 where
   pub long : Period L
   pub wide : Period M
@@ -115,6 +116,7 @@ module _ (B : Board) (E : EdgeList) (ts : List ℕ) (c : List ℕ) (w : List Flo
 abbrev pub scanBy : Board → EdgeList → List ℕ → Float → Float → ℕ → HardScan
 scanBy B E ts conf limit n = selected (periodOf B true) (periodOf B false) (size E) conf limit (λ p. getD ts p 0) (λ p. tablesOf B E (getD ts p 0)) n
 
+-- what a scan of the first n transforms did, given the list's total confidence: its record is the definition's, and the room holds the last one's tables
 pub record ScanDone (B : Board) (E : EdgeList) (ts : List ℕ) (conf limit : Float) (n : ℕ) (c c' : List ℕ) (w w' : List Float) (r : HardScan) : Type 0 where
   pub answer : r ≡ scanBy B E ts conf limit n
   pub rooms : Rooms B E ts n c c' w w'

@@ -15,6 +15,7 @@ factorOf n = 4294967296 / n + 1
 abbrev pub liftOf : ℕ → ℕ
 liftOf n = (2000002 / n + 1) * n
 
+-- a number to divide by, with its lift and its factor
 unfoldable pub modulusOf : ℕ → Modulus
 modulusOf n = record { n = n; lift = liftOf n; factor = factorOf n }
 

@@ -1,4 +1,5 @@
--- What customers are promised of a decoded view, in terms of board's hits alone: no table occurs here.
+-- What customers are promised of a decoded view, in terms of board's hits. Only `AgreesPhysical` speaks of more: of the physical list's selection, which goes by
+-- tables and weights. Quotes are of the demands (docs/CONTRACTS.md).
 use mathlib.Core.Path.{_≡_}
 use mathlib.Core.Bool.{true, false}
 use mathlib.Core.List.{List}

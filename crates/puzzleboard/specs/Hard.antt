@@ -75,7 +75,7 @@ unfoldable pub hardAnswer : EdgeList → EdgeList → List ℕ → Board → Flo
 unfolding hardCore
 hardAnswer L P ts B limit m n = pick (eqb (hardRefusal L P ts B limit m n .number) 0) (hardCore L P ts B limit) (Refused (hardRefusal L P ts B limit m n))
 
--- what a room slice holds at exit, of which n places are used: "After refusals 1 to 9 the lent room is untouched; after every other call the used room is zero"
+-- what a room slice holds at exit, of which n places are used (demand 1): "After refusals 1 to 9 the lent room is untouched; after every other call the used room is zero"
 unfoldable pub left : {A : Type 0} → A → ℕ → Refusal → List A → List A
 left zero n r room = cond (eqb (r .number) 0) (cleared zero n room) room
 

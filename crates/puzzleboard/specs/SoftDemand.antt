@@ -1,4 +1,5 @@
--- What customers are promised of a soft answer, by likelihood sums and hits, both edge by edge: no table occurs here.
+-- What customers are promised of a soft answer, by likelihood sums and hits, both edge by edge: no table occurs here. Quotes are of the
+-- demands (docs/CONTRACTS.md).
 use mathlib.Core.Path.{_≡_}
 use mathlib.Core.Bool.{true, false}
 use mathlib.Core.List.{List}

@@ -45,5 +45,6 @@ statsAnswer E t row col B = orCounted (statsRefusal E t row col B) (eqb (statsRe
 abbrev pub added : HitsWeight → Bool → Float → HitsWeight
 added s b w = record { hits = put _+_ b (s .hits) 1; weight = put (add binary32) b (s .weight) w }
 
+-- the hits of a placing, and their confidences added in list order
 unfoldable pub hitsAndWeight : EdgeList → ℕ → ℕ → ℕ → Board → HitsWeight
 hitsAndWeight E t row col B = record { hits = hits B E t row col; weight = hitWeight B E t row col (size E) }

@@ -1,5 +1,6 @@
 -- What soft selection keeps, by sums alone. A placing is a list position p with the key k of an origin, and `S p k` is its whole sum, however it is counted; its
--- total is that sum as an f32. How the sums were found, and in which order placings were offered, does not occur. This is what "its own best placing" means.
+-- total is that sum as an f32. How the sums were found, and in which order placings were offered, does not occur. This is what "its own best placing" of
+-- demand 3 (docs/CONTRACTS.md) means.
 use mathlib.Core.Path.{_≡_}
 use mathlib.Core.Bool.{true, false}
 use mathlib.Core.Logic.{_⊎_}

@@ -42,6 +42,7 @@ unfoldable pub SumRoom : Board → EdgeList → Likelihoods → List ℕ → ℕ
 SumRoom B E X ts zero a a' = a' ≡ a
 SumRoom B E X ts (suc p) a a' = SumsBuilt B E X (getD ts p 0) a a'
 
+-- what a scan of the first n transforms did: its record is the definition's, and the room holds the sums of the last of them
 pub record SoftScanned (B : Board) (E : EdgeList) (X : Likelihoods) (ts : List ℕ) (n : ℕ) (a a' : List ℤ) (r : SoftScan) : Type 0 where
   pub answer : r ≡ softScanOf B E X ts n
   pub room : SumRoom B E X ts n a a'

@@ -31,6 +31,7 @@ use Rattle.soft.specs.Select.{sumTables, softScanOf, softSelection, Soft
 unfoldable pub roomSums : ℕ → ℕ → List ℤ → SumTables
 roomSums L M a = sums (view 0 (3 * L) a) (view (3 * L) (3 * M) a)
 
+-- a room whose cells can be folded into the scan: both periods in range, all cells there, and their sums in range
 pub record RoomReady (L M : ℕ) (a : List ℤ) : Type 0 where
   pub long : Period L
   pub wide : Period M

@@ -12,6 +12,7 @@ pub record SumTables : Type 0 where
   pub hs : List ℤ
   pub vs : List ℤ
 
+-- two tables of sums as one record
 abbrev pub sums : List ℤ → List ℤ → SumTables
 sums hs vs = record { hs = hs; vs = vs }
 

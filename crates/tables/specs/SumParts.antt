@@ -31,6 +31,7 @@ valueAt X (suc i) = mismatchAt X
 abbrev pub rowsSum : ℕ → ℕ → EdgeList → Likelihoods → ℕ → ℕ → ℕ → ℤ
 rowsSum L M E X t n k = rowSum _+ℤ_ (pos 0) (valueAt X (k / rowLength L M)) L M E t n (k % rowLength L M)
 
+-- what the groups of likelihoods can be filled from: an accepted list with its likelihoods, a transform, and room for both rows of groups
 pub record SumsFillReady (L M : ℕ) (E : EdgeList) (X : Likelihoods) (t base : ℕ) (a : List ℤ) : Type 0 where
   pub list : ListOk E
   pub likelihoods : LikelihoodsOk E X
@@ -51,6 +52,7 @@ termZ n m u p s = fold _+ℤ_ (pos 0) n all (λ j. cond (agrees p s j) (m j) (u 
 abbrev pub rowZ : (ℕ → ℤ) → (ℕ → ℤ) → ℕ → List ℤ
 rowZ m u p = termZ 6 m u p 0 ∷ termZ 6 m u p 1 ∷ termZ 6 m u p 2 ∷ []
 
+-- the table of a family's terms: a row for each of the eight patterns
 pub record TermsZ (m u : ℕ → ℤ) (t : List (List ℤ)) : Type 0 where
   pub size : length t ≡ 8
   pub rows : (p : ℕ) → p < 8 → getD t p [] ≡ rowZ m u p
@@ -71,6 +73,7 @@ pub record RunReadyZ (terms : List (List ℤ)) (part : List ℕ) (n at long shor
 abbrev pub RunCellsZ : List (List ℤ) → List ℕ → ℕ → ℕ → ℕ → ℕ → List ℤ → List ℤ → Type 0
 RunCellsZ terms part at long short q a a' = Spread (pos 0) _+ℤ_ (runPlace at long short) (runTerm (pos 0) terms part) q a a'
 
+-- a run of n classes credited, three cells each
 abbrev pub RunCreditedZ : List (List ℤ) → List ℕ → ℕ → ℕ → ℕ → ℕ → List ℤ → List ℤ → Type 0
 RunCreditedZ terms part n at long short a a' = RunCellsZ terms part at long short (n * 3) a a'
 
@@ -78,6 +81,7 @@ RunCreditedZ terms part n at long short a a' = RunCellsZ terms part at long shor
 abbrev pub gainZ : Board → Bool → ℕ → ℕ → ℕ → List ℤ → ℕ → ℤ
 gainZ B s f from also a k = termZ 6 (placesZ from a) (placesZ also a) (cellPattern B s f k) (shortClass B s k)
 
+-- what a family can be credited from: its places, its twelve groups, and room for the cells
 pub record FamilyReadyZ (B : Board) (s : Bool) (f long short cells from also : ℕ) (a : List ℤ) : Type 0 where
   pub places : FamilyPlaces B s f long short
   pub twelve : Twelve (from + f * 6) (also + f * 6) a
@@ -97,6 +101,7 @@ familyZ m u f = termZ 6 (family m f) (family u f)
 abbrev pub cellZ : Board → Bool → ℕ → ℕ → List ℤ → ℕ → ℕ → ℤ
 cellZ B s from also a n k = cellSum _+ℤ_ (pos 0) (familyZ (placesZ from a) (placesZ also a)) (tableOf B s) n (longClass B s k) (shortClass B s k)
 
+-- what one side can be built from: accepted tables, the steps between its cells, and groups that lie beyond them
 pub record SideReadyZ (B : Board) (s : Bool) (long short cells from also : ℕ) (a : List ℤ) : Type 0 where
   pub board : BoardOk B
   pub steps : (long ≡ longStep s) × (short ≡ shortStep B s)
@@ -110,5 +115,6 @@ pub record SideReadyZ (B : Board) (s : Bool) (long short cells from also : ℕ) 
 abbrev pub SideCellsZ : Board → Bool → ℕ → ℕ → ℕ → ℕ → List ℤ → List ℤ → Type 0
 SideCellsZ B s cells from also n a a' = Zone (pos 0) (cellZ B s from also a n) cells (3 * periodOf B s) a a'
 
+-- all families of one side credited
 abbrev pub SideBuiltZ : Board → Bool → ℕ → ℕ → ℕ → List ℤ → List ℤ → Type 0
 SideBuiltZ B s cells from also a a' = SideCellsZ B s cells from also (periodOf B s) a a'

@@ -19,6 +19,7 @@ pub record Likelihoods : Type 0 where
   pub matches : List Float
   pub mismatches : List Float
 
+-- two columns of likelihoods as one record
 abbrev pub likelihoods : List Float → List Float → Likelihoods
 likelihoods m u = record { matches = m; mismatches = u }
 

@@ -1,4 +1,4 @@
--- What the tables of one transform are good for. All of it holds for every list, transform, pair of pattern tables and origin.
+-- What the tables of one transform are good for. All of it holds for every list, transform, pair of accepted pattern tables and origin.
 use mathlib.Core.Path.{_≡_, refl, sym, ap₂, _∙_}
 use mathlib.Core.Bool.{Bool, true, false, _&&_}
 use mathlib.Core.List.{List}

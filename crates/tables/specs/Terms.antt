@@ -35,7 +35,7 @@ term c w p s = record { count = termC 6 c p s; weight = termW 6 c w p s }
 abbrev pub row : (ℕ → ℕ) → (ℕ → Float) → ℕ → List FamilyTerm
 row c w p = term c w p 0 ∷ term c w p 1 ∷ term c w p 2 ∷ []
 
--- `FamilyTerms`, the table of a family: a row for each of the eight patterns
+-- the table of a family (document 01's FamilyTerms): a row for each of the eight patterns
 pub record Terms (c : ℕ → ℕ) (w : ℕ → Float) (t : List (List FamilyTerm)) : Type 0 where
   pub size : length t ≡ 8
   pub rows : (p : ℕ) → p < 8 → getD t p [] ≡ row c w p

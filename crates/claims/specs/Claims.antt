@@ -29,7 +29,8 @@ use Rattle.puzzleboard.specs.declared.answer.StatsAnswer.the-variants as stats
 use Rattle.puzzleboard.specs.Hard.{pick, hardCore, hardAnswer, left, HardDone}
 use Rattle.puzzleboard.specs.Soft.{softCore, softAnswer, SoftDone}
 use Rattle.puzzleboard.specs.Stats.{statsAnswer, statsOf, orCounted}
-use Rattle.puzzleboard.specs.Demand.{Leads, AgreesPhysical}
+use Rattle.puzzleboard.specs.Demand.{Leads, Names, AgreesPhysical}
+use Rattle.puzzleboard.specs.DemandLaws.{leader-named}
 use Rattle.puzzleboard.specs.SoftDemand.{marginOf, BestByLikelihood, SoftAnswered}
 use Rattle.puzzleboard.specs.HardTheorems.{Answered, hard-sound, hard-complete}
 use Rattle.puzzleboard.specs.SoftTheorems.{soft-sound, soft-complete}
@@ -96,11 +97,13 @@ module _ (L P : EdgeList) (ts : List ℕ) (B : Board) (limit : Float) (c c' : Li
       let h = eqb-true hardNumber 0 (f .0) in
       (h, hard-sound L P ts B limit (length c) (length w) (hard-accepted L P ts B limit (length c) (length w) h) d (f .1))
 
-  -- DEMAND 3, a true square is found
-  pub hard-finds : hardNumber ≡ 0 → noConfidence L ≡ false → (Q : Placing) → Leads B L ts limit Q → AgreesPhysical B P ts Q → (d : Decoded) × (r ≡ Found d)
+  -- DEMAND 3, a true square is found, and it is the one that the answer names
+  pub hard-finds : hardNumber ≡ 0 → noConfidence L ≡ false → (Q : Placing) → Leads B L ts limit Q → AgreesPhysical B P ts Q → (d : Decoded) × (r ≡ Found d) × Names ts Q (d .square)
   unfolding hardAnswer
   hard-finds h k Q l a =
-      let f = hard-complete L P ts B limit (length c) (length w) (accepted h) k Q l a in (f .0, done .answer ∙ rw (eq-eqb hardNumber 0 h) (f .1))
+      let f = hard-complete L P ts B limit (length c) (length w) (accepted h) k Q l a in
+      let s = hard-sound L P ts B limit (length c) (length w) (accepted h) (f .0) (f .1) in
+      (f .0, done .answer ∙ rw (eq-eqb hardNumber 0 h) (f .1), leader-named B L ts limit Q (s .square) (f .0 .square) l (s .leads) (s .tells .square))
 
 -- ---- SOFT DECODE
 module _ (P : EdgeList) (X : Likelihoods) (L : EdgeList) (ts : List ℕ) (B : Board) (limit least : Float) (c c' : List ℕ) (w w' : List Float) (a a' : List ℤ) (r : Answer) (done : SoftDone P X L ts B limit least c c' w w' a a' r) where
@@ -140,12 +143,14 @@ module _ (P : EdgeList) (X : Likelihoods) (L : EdgeList) (ts : List ℕ) (B : Bo
       let f = found-only (eqb (softRefused .number) 0) (softCore P X L ts B limit least) softRefused d (sym e ∙ done .answer) in
       soft-sound P X L ts B limit least (length c) (length w) (length a) (taken (eqb-true (softRefused .number) 0 (f .0))) d (f .1)
 
-  -- DEMAND 3, a true square is found
+  -- DEMAND 3, a true square is found, and it is the one that the answer names
   pub soft-finds : softRefusal P (X .matches) (X .mismatches) L ts B limit least (length c) (length w) (length a) .number ≡ 0 → noConfidence P ≡ false → noConfidence L ≡ false → (Q R : Placing) → BestByLikelihood B P X ts Q R
-      → belowMargin (marginOf B P X ts Q R) least ≡ false → Leads B L ts limit Q → (d : Decoded) × (r ≡ Found d)
+      → belowMargin (marginOf B P X ts Q R) least ≡ false → Leads B L ts limit Q → (d : Decoded) × (r ≡ Found d) × Names ts Q (d .square)
   unfolding softAnswer
   soft-finds h k g Q R b m l =
-      let f = soft-complete P X L ts B limit least (length c) (length w) (length a) (taken h) k g Q R b m l in (f .0, done .answer ∙ rw (eq-eqb (softRefused .number) 0 h) (f .1))
+      let f = soft-complete P X L ts B limit least (length c) (length w) (length a) (taken h) k g Q R b m l in
+      let s = soft-sound P X L ts B limit least (length c) (length w) (length a) (taken h) (f .0) (f .1) in
+      (f .0, done .answer ∙ rw (eq-eqb (softRefused .number) 0 h) (f .1), leader-named B L ts limit Q (s .square) (f .0 .square) l (s .leads) (s .names))
 
 -- ---- MATCH STATISTICS
 module _ (E : EdgeList) (t row col : ℕ) (B : Board) (r : StatsAnswer) (done : r ≡ statsAnswer E t row col B) where

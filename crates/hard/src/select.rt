@@ -85,13 +85,14 @@ fn scan_transforms<'a>(
             counts,
             weights,
         );
+        let number = transforms[i];
         scan = fold_room(
             scan,
             counts,
             weights,
             h.len(),
             v.len(),
-            t,
+            number,
             rows.len() as u32,
             conf,
             limit,

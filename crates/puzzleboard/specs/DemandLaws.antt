@@ -2,12 +2,15 @@
 use mathlib.Core.Path.{_≡_, refl, sym, ap, ap₂, subst, _∙_}
 use mathlib.Core.Bool.{Bool, true, false}
 use mathlib.Core.List.{List}
+use mathlib.Core.Logic.{_⊎_, inl, inr, ⊎-elim}
 use Prim.Native.Nat.{ℕ, _+_, _*_, _-_, _/_, _%_, _≤_, _<_}
 use native.Mathlib.Nat.{mod-lt, div-lt-iff-lt-mul, div-add-mod'}
 use native.Mathlib.Omega.{arith}
 use lib.Arith.{digits-div, digits-mod, digits-lt}
+use lib.Dec.{eqb}
 use lib.ListN.{getD, length}
 use lib.Ieee.{Float}
+use borrow.Author.Tests.{eqb-true, eqb-false}
 use Rattle.board.specs.Hits.{EdgeList, Board, Placing, size, hits, misses, hitsAt}
 use Rattle.board.specs.HitsLaws.{hits-misses}
 use Rattle.board.specs.Sides.{periodOf}
@@ -16,8 +19,31 @@ use Rattle.hard.specs.Scan.{overLimit}
 use Rattle.hard.specs.Placings.{Sole, MostOther}
 use Rattle.hard.specs.OneList.{originNumber, keyAt}
 use Rattle.hard.specs.SelectTheorems.{hitsAtKey}
-use Rattle.puzzleboard.specs.Demand.{OnBoard, Same, missesAt, Leads, RunsUp}
+use Rattle.puzzleboard.specs.declared.answer.Square.{Square}
+use Rattle.puzzleboard.specs.Demand.{OnBoard, Same, missesAt, Leads, RunsUp, Names}
 
+-- ---- one list has one leading placing
+-- two placings are the same one, or not
+same-or-not : (P Q : Placing) → Same P Q ⊎ (Same P Q → ⊥)
+same-or-not P Q = go (eqb (P .place) (Q .place)) (eqb (P .row) (Q .row)) (eqb (P .col) (Q .col)) refl refl refl
+  where
+    go : (x y z : Bool) → eqb (P .place) (Q .place) ≡ x → eqb (P .row) (Q .row) ≡ y → eqb (P .col) (Q .col) ≡ z → Same P Q ⊎ (Same P Q → ⊥)
+    go true true true e f g = inl (eqb-true (P .place) (Q .place) e, eqb-true (P .row) (Q .row) f, eqb-true (P .col) (Q .col) g)
+    go false y z e f g = inr (λ s. eqb-false (P .place) (Q .place) e (s .0))
+    go true false z e f g = inr (λ s. eqb-false (P .row) (Q .row) f (s .1))
+    go true true false e f g = inr (λ s. eqb-false (P .col) (Q .col) g (s .2))
+
+-- no two placings of one list lead
+leads-once : (B : Board) (E : EdgeList) (ts : List ℕ) (limit : Float) (P Q : Placing) → Leads B E ts limit P → Leads B E ts limit Q → Same P Q
+leads-once B E ts limit P Q l m =
+    ⊎-elim (λ s. s) (λ n. absurd (omega (arith, l .ahead Q (m .on-board) (λ s. n (sym (s .0), sym (s .1), sym (s .2))), m .ahead P (l .on-board) n))) (same-or-not P Q)
+
+-- the square that one leading placing names is named by every leading one
+pub leader-named : (B : Board) (E : EdgeList) (ts : List ℕ) (limit : Float) (P Q : Placing) (s : Square) → Leads B E ts limit P → Leads B E ts limit Q → Names ts Q s → Names ts P s
+leader-named B E ts limit P Q s l m n =
+    let e = leads-once B E ts limit P Q l m in (ap (λ (p : ℕ). getD ts p 0) (e .0) ∙ n .0, e .1 ∙ n .1, e .2 ∙ n .2)
+
+-- ---- placings and keys
 module _ (B : Board) (board : BoardOk B) where
   abbrev pub rows : ℕ
   rows = 3 * periodOf B true

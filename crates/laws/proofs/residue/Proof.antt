@@ -1,5 +1,6 @@
 use mathlib.Core.Path.{sym, ap₂, subst, _∙_}
 use Prim.Native.Nat.{ℕ, _<_}
+use native.Mathlib.Omega.{arith}
 use lib.IntN.{ℤ, pos, _+ℤ_}
 use mir.Facts.{toZ-ofZ}
 use borrow.Author.Needs.{needs}
@@ -11,7 +12,7 @@ use Rattle.laws.proofs.residue.Tie as tie
 lifted-requires : tie.Need-lifted-requires
 lifted-requires c κs =
     let l = lift-in (c .args .m) (c .pre .0) in
-    (rw (toZ-ofZ (c .fits .x)) (c .pre .1), l .0, l .1)
+    (rw (toZ-ofZ (c .fits .x)) (c .pre .1), omega (arith, l .0), omega (arith, l .1))
 
 remainder-requires : tie.Need-remainder-requires
 remainder-requires c κs = search needs

@@ -1,5 +1,6 @@
 use mathlib.Core.Path.{_≡_, sym, _∙_}
 use Prim.Native.Nat.{_≤_}
+use native.Mathlib.Omega.{arith}
 use lib.ListN.{length}
 use borrow.Rule.Slice.PartAt.{part-to-end}
 use borrow.Author.Tests.{eq-eqb, ne-eqb}
@@ -15,19 +16,19 @@ in-v : (c : tie.Else1) → c .before .args .family ≤ length (c .before .args .
 in-v c = rw (ne-eqb (c .before .args .orientation) 0 (c .if1 .left)) at (c .before .pre)
 
 sub-result : tie.Need-sub-result
-sub-result c = in-h c
+sub-result c = omega (arith, in-h c)
 
 part-result-start : tie.Need-part-result-start
-part-result-start c = in-h c
+part-result-start c = omega (arith, in-h c)
 
 part-result-end : tie.Need-part-result-end
 part-result-end c = search needs
 
 sub-result-2 : tie.Need-sub-result-2
-sub-result-2 c = in-v c
+sub-result-2 c = omega (arith, in-v c)
 
 part-result-start-2 : tie.Need-part-result-start-2
-part-result-start-2 c = in-v c
+part-result-start-2 c = omega (arith, in-v c)
 
 part-result-end-2 : tie.Need-part-result-end-2
 part-result-end-2 c = search needs

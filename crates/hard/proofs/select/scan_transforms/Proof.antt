@@ -57,26 +57,29 @@ build-tables-requires c κs =
     let l = c .before .before .before in
     rooms-ready (B l) (E l) (ts l) _ _ (st l .pre) (at l) (l .before .loop .counts) (l .before .loop .weights) (done l .rooms) (l .loop-test .taken)
 
+shared-slice-read-number : tie.Need-shared-slice-read-number Inv-loop μ-loop
+shared-slice-read-number c = omega arith
+
 cast-fold-room : tie.Need-cast-fold-room Inv-loop μ-loop
-cast-fold-room c = let l = c .before .before .before .before .before .before .before .before .before .before in omega (arith, st l .pre .list .few)
+cast-fold-room c = let l = c .before .before .before .before .before .before .before .before .before .before .before in omega (arith, st l .pre .list .few)
 
 fold-room-requires : tie.Need-fold-room-requires Inv-loop μ-loop
 fold-room-requires c κs =
-    let l = c .before .before .before .before .before .before .before .before .before .before in (
-      room-ready (B l) (E l) (getD (ts l) (at l) 0) (l .before .loop .counts) _ (l .before .loop .weights) _ (rooms-ready (B l) (E l) (ts l) _ _ (st l .pre) (at l) _ _ (done l .rooms) (l .loop-test .taken)) (c .before .before .before .before .before .before .build-tables .ensures),
+    let l = c .before .before .before .before .before .before .before .before .before .before .before in (
+      room-ready (B l) (E l) (getD (ts l) (at l) 0) (l .before .loop .counts) _ (l .before .loop .weights) _ (rooms-ready (B l) (E l) (ts l) _ _ (st l .pre) (at l) _ _ (done l .rooms) (l .loop-test .taken)) (c .before .before .before .before .before .before .before .build-tables .ensures),
       omega (arith, scan-count (B l) (E l) (ts l) (st l .args .conf) (st l .args .limit) _ _ (at l) _ _ _ (done l), l .loop-test .taken, st l .pre .transforms .1),
     )
 
 add-i : tie.Need-add-i Inv-loop μ-loop
-add-i c = let l = c .before .before .before .before .before .before .before .before .before .before .before in omega (arith, l .loop-test .taken, st l .pre .transforms .1)
+add-i c = let l = c .before .before .before .before .before .before .before .before .before .before .before .before in omega (arith, l .loop-test .taken, st l .pre .transforms .1)
 
 loop-less : tie.Need-loop-less Inv-loop μ-loop
 loop-less c = omega arith
 
 loop-again : tie.Need-loop-again Inv-loop μ-loop
 loop-again c =
-    let l = c .before .before .before .before .before .before .before .before .before .before .before in
-    (omega arith, scan-more (B l) (E l) (ts l) (st l .args .conf) (st l .args .limit) _ _ (st l .pre) (at l) _ _ _ _ _ _ (l .loop-test .taken) (done l) (c .before .before .before .before .before .before .before .build-tables .ensures) (c .fold-room .ensures))
+    let l = c .before .before .before .before .before .before .before .before .before .before .before .before in
+    (omega arith, scan-more (B l) (E l) (ts l) (st l .args .conf) (st l .args .limit) _ _ (st l .pre) (at l) _ _ _ _ _ _ (l .loop-test .taken) (done l) (c .before .before .before .before .before .before .before .before .build-tables .ensures) (c .fold-room .ensures))
 
 same-length : tie.Need-same-length Inv-loop μ-loop
 same-length c = let s = c .before .before .before .before .before .before .before .before .before .before .before in rooms-length _ _ _ _ _ (s .pre) (c .before .loop .i) _ _ (c .before .loop .inv .1 .rooms) .0
@@ -100,6 +103,7 @@ scan-transforms-spec =
     loop-holds
     shared-slice-read-t
     build-tables-requires
+    shared-slice-read-number
     cast-fold-room
     fold-room-requires
     add-i

@@ -63,10 +63,10 @@ enum-known-first : tie.Need-enum-known-first
 enum-known-first c = search needs
 
 cast-soft-margin : tie.Need-cast-soft-margin
-cast-soft-margin c = let s = st (c .before .before .before .before .before .before .before .before) in omega (arith, s .pre .physical .few)
+cast-soft-margin c = let s = st (c .before .before .before .before .before .before .before .before) in omega (arith, s .pre .physical .few, s .pre .logical .few)
 
 soft-margin-requires : tie.Need-soft-margin-requires
-soft-margin-requires c κs = let s = st (c .before .before .before .before .before .before .before .before) in s .pre .physical .few
+soft-margin-requires c κs = let s = st (c .before .before .before .before .before .before .before .before) in omega (arith, s .pre .physical .few, s .pre .logical .few)
 
 below-requires : tie.Need-below-requires
 below-requires c κs = search needs

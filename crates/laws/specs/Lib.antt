@@ -19,3 +19,4 @@ pub mod Grid
 pub mod GridLaws
 pub mod Weights
 pub mod WeightLaws
+pub mod PlusZero

@@ -2,8 +2,9 @@
 use mathlib.Core.Path.{_≡_}
 use mathlib.Core.Bool.{Bool, true, false}
 use Prim.Native.Nat.{ℕ, _*_, _≤_}
+use lib.Dec.{T}
 use lib.IntN.{pos}
-use lib.Ieee.{Float, nan, inf, fin, up, down, lt}
+use lib.Ieee.{Float, nan, inf, fin, binary32, up, down, lt, fits}
 
 -- 0 and 1
 abbrev pub zeroF : Float
@@ -32,6 +33,11 @@ weightlike nan = false
 weightlike (inf s) = false
 weightlike (fin true m e) = false
 weightlike (fin false m e) = true
+
+-- Request C-14: "adding +0 to a weight without a minus sign, zero included, changes no bit." Such a weight: one that f32 holds, finite, with no minus
+-- sign. `add-plus-zero` (PlusZero.antt) is the sentence itself.
+abbrev pub Unsigned : Float → Type 0
+Unsigned x = T (weightlike x) × T (fits binary32 x)
 
 -- weight i is greater than weight j
 abbrev pub heavier : (ℕ → Float) → ℕ → ℕ → Bool

@@ -187,3 +187,10 @@ pub(crate) fn turn_bits(bits: &mut [u8; 8193], n: usize) {
         }
     }
 }
+
+// Eight values, one after the other and again.
+pub(crate) fn repeat(xs: &mut [f32; 8193], eight: &[f32; 8]) {
+    for i in 0..8193 {
+        xs[i] = eight[i % 8];
+    }
+}

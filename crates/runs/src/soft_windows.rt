@@ -2,6 +2,7 @@
 // sigmoid of slope 6, not below -6. Both lists have the same edges and the error limit is 1.
 use crate::cut::fill_patterns;
 use crate::cut::put_window;
+use crate::cut::repeat;
 use crate::cut::turn_bits;
 use crate::part::front_f32;
 use crate::part::front_i32;
@@ -10,13 +11,6 @@ use crate::print::print;
 use crate::print::print_answer;
 use crate::room::print_room;
 use crate::room::print_sums;
-
-// Eight values, one after the other and again.
-fn repeat(xs: &mut [f32; 8193], eight: &[f32; 8]) {
-    for i in 0..8193 {
-        xs[i] = eight[i % 8];
-    }
-}
 
 // Soft decode of the first n edges, with bits of their own for each list, over all transforms.
 fn show<'a>(
@@ -194,6 +188,23 @@ fn refused(c: &[f32; 8193]) {
     );
 }
 
+// Confidences of 0 and of -0 among others: the likelihoods decide, and a weight is the same as without these edges.
+fn zeros() {
+    let mixed = [0.0f32, -0.0, 0.375, -0.0, 0.0, 0.75, -0.0, 1.0];
+    let mut confidences = [0.0f32; 8193];
+    repeat(&mut confidences, &mixed);
+    show_noisy(
+        b"confidences of 0 and -0 among others",
+        0,
+        17,
+        400,
+        17,
+        12,
+        &confidences,
+        0.0,
+    );
+}
+
 // All runs.
 pub(crate) fn show_all() {
     let eighths = [0.125f32, 0.25, 0.375, 0.5, 0.625, 0.75, 0.875, 1.0];
@@ -201,4 +212,5 @@ pub(crate) fn show_all() {
     repeat(&mut confidences, &eighths);
     noisy(&confidences);
     refused(&confidences);
+    zeros();
 }

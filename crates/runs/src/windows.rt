@@ -3,6 +3,7 @@
 use crate::cut::fill_ones;
 use crate::cut::fill_patterns;
 use crate::cut::put_window;
+use crate::cut::repeat;
 use crate::cut::turn_bits;
 use crate::part::front_f32;
 use crate::part::front_i32;
@@ -368,10 +369,64 @@ fn faulty() {
     show_faulty(b"confidence 0", 0, 17, 0.0, 1.0);
 }
 
+// A clean 12 by 12 window whose confidences are eight values, one after the other and again.
+fn show_weighted(name: &[u8], eight: &[f32; 8]) {
+    let mut h = [0u8; 167];
+    let mut v = [0u8; 167];
+    fill_patterns(&mut h, 1);
+    fill_patterns(&mut v, 2);
+    let mut rows = [0i32; 8193];
+    let mut cols = [0i32; 8193];
+    let mut orientations = [0u8; 8193];
+    let mut bits = [0u8; 8193];
+    let n = put_window(
+        &mut rows,
+        &mut cols,
+        &mut orientations,
+        &mut bits,
+        12,
+        &h,
+        &v,
+        0,
+        17,
+        400,
+    );
+    let mut confidences = [0.0f32; 8193];
+    repeat(&mut confidences, eight);
+    let all = [0u8, 1, 2, 3, 4, 5, 6, 7];
+    show(
+        name,
+        &rows,
+        &cols,
+        &orientations,
+        &bits,
+        &confidences,
+        &bits,
+        &confidences,
+        n,
+        &all,
+        8,
+        &h,
+        &v,
+        1.0,
+    );
+}
+
+// Confidences of 0 and of -0, which count as 0: hits are counted all the same, and a list with no other confidence is refused.
+fn zeros() {
+    let mixed = [0.0f32, -0.0, 0.375, -0.0, 0.0, 0.75, -0.0, 1.0];
+    show_weighted(b"confidences of 0 and -0 among others", &mixed);
+    let last = [-0.0f32, -0.0, -0.0, -0.0, -0.0, -0.0, -0.0, 0.5];
+    show_weighted(b"confidence -0 but for every eighth edge", &last);
+    let minus = [-0.0f32, -0.0, -0.0, -0.0, -0.0, -0.0, -0.0, -0.0];
+    show_weighted(b"confidence -0", &minus);
+}
+
 // All runs.
 pub(crate) fn show_all() {
     clean();
     listed_and_long();
     many_pairs();
     faulty();
+    zeros();
 }

@@ -5,10 +5,10 @@ use mathlib.Core.List.{List}
 use Prim.Native.Nat.{ℕ, zero, suc, _+_, _*_, _/_, _%_, _^_, _≤_, _<_}
 use native.Mathlib.Nat.{le-trans, le-of-eq, add-zero, add-assoc, add-comm, div-add-mod'}
 use native.Mathlib.Omega.{arith}
-use lib.Dec.{eqb, ltb, lit<, eqb·suc-zero}
+use lib.Dec.{T, eqb, ltb, lit<, eqb·suc-zero}
 use lib.IntN.{ℤ, pos, _+ℤ_}
 use lib.ListN.{getD, length}
-use lib.Ieee.{Float, binary32, add}
+use lib.Ieee.{Float, binary32, add, fits}
 use borrow.Author.Tests.{lt-ltb}
 use Rattle.laws.specs.Tests.{and-ext}
 use Rattle.laws.specs.Fold.{fold, put, all, one, fold-zero, fold-hit, sum-some, sum-mono, sum-le}
@@ -18,6 +18,7 @@ use Rattle.laws.specs.Remainder.{emod}
 use Rattle.laws.specs.RemainderLaws.{emod-lt, emod-add}
 use Rattle.laws.specs.Weights.{zeroF, Upto, Weight}
 use Rattle.laws.specs.WeightLaws.{sum-upto, upto-weight}
+use Rattle.laws.specs.PlusZero.{sum-fits}
 use Rattle.laws.specs.Zone.{Zone}
 use Rattle.board.specs.Hits.{EdgeList, Board, size, seen, bitAt, patternBit, hit}
 use Rattle.board.specs.Sides.{onSide, tableOf, periodOf, longOf, shortOf, sideHits}
@@ -103,6 +104,11 @@ module _ (g : ℕ → ℕ) (w : ℕ → Float) (n : ℕ) (small : (k : ℕ) → 
       sum-upto all (λ f. familyW g w f (patternAt ps lc f) s) (λ f. familyC g f (patternAt ps lc f) s) n
       (λ f l. upto-weight (familyW g w f (patternAt ps lc f) s) (familyC g f (patternAt ps lc f) s) (term-upto f l (patternAt ps lc f) s))
       (le-trans (cell-total g ps n lc s) few)
+
+-- a cell's weight is a value of f32
+pub cell-fits : (g : ℕ → ℕ) (w : ℕ → Float) (n : ℕ) (ps : List ℕ) (lc s : ℕ) → T (fits binary32 (cellSum (add binary32) zeroF (familyW g w) ps n lc s))
+unfolding cellSum
+cell-fits g w n ps lc s = sum-fits all (λ f. familyW g w f (patternAt ps lc f) s) n
 
 -- ---- the counts are those of the edges
 keep-zero : (b : Bool) (a x : ℕ) → put _+_ (not (eqb x 0) && b) a x ≡ put _+_ b a x

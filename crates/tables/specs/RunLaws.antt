@@ -71,10 +71,10 @@ module _ (ps : List ℕ) (f : ℕ) (h : f < length ps) where
       under = omega arith
 
 -- a cell of the second run, counted from the first
-after-long : (n j : ℕ) → (n * 3 + j) / 3 ≡ n + j / 3
+pub after-long : (n j : ℕ) → (n * 3 + j) / 3 ≡ n + j / 3
 after-long n j = omega arith
 
-after-short : (n j : ℕ) → (n * 3 + j) % 3 ≡ j % 3
+pub after-short : (n j : ℕ) → (n * 3 + j) % 3 ≡ j % 3
 after-short n j = omega arith
 
 module _ (B : Board) (s : Bool) (f long short cells : ℕ) (R : FamilyPlaces B s f long short) where

@@ -17,7 +17,7 @@ use Rattle.board.specs.Sides.{tableOf, periodOf}
 use Rattle.tables.specs.Terms.{placesN, placesF}
 use Rattle.tables.specs.TermsLaws.{same-termC, same-termW}
 use Rattle.tables.specs.Cells.{longClass, shortClass, cellSum, family, familyC, familyW}
-use Rattle.tables.specs.CellsLaws.{cell-none, cell-more, zone-family, cell-total, family-total, total-mono, cell-upto}
+use Rattle.tables.specs.CellsLaws.{cell-none, cell-more, zone-family, cell-total, family-total, total-mono, cell-upto, cell-fits}
 use Rattle.tables.specs.Credit.{cellPattern, gainC, gainW, FamilyReady, FamilyCredited}
 use Rattle.tables.specs.Side.{total, SideReady, SideCells}
 
@@ -65,9 +65,11 @@ module _ (B : Board) (s : Bool) (long short cells groups : ℕ) (c : List ℕ) (
           let m : total (placesN groups c) (f + 1) ≤ total (placesN groups c) (periodOf B s) = total-mono (placesN groups c) (f + 1) (periodOf B s) (omega arith) in
           omega (arith, next k l, R .few);
       plain = λ k l.
-          rw (b .weights .inside k l)
-          (upto-weightlike (cellSum (add binary32) zeroF (familyW (placesN groups c) (placesF groups w)) (tableOf B s) f (longClass B s k) (shortClass B s k)) (cellSum _+_ 0 (familyC (placesN groups c)) (tableOf B s) f (longClass B s k) (shortClass B s k))
-          (cell-upto (placesN groups c) (placesF groups w) f (λ j m. R .light j (omega arith)) (omega (arith, R .few, total-mono (placesN groups c) f (periodOf B s) (omega arith))) (tableOf B s) (longClass B s k) (shortClass B s k)));
+          rw (b .weights .inside k l) (
+            upto-weightlike (cellSum (add binary32) zeroF (familyW (placesN groups c) (placesF groups w)) (tableOf B s) f (longClass B s k) (shortClass B s k)) (cellSum _+_ 0 (familyC (placesN groups c)) (tableOf B s) f (longClass B s k) (shortClass B s k))
+                (cell-upto (placesN groups c) (placesF groups w) f (λ j m. R .light j (omega arith)) (omega (arith, R .few, total-mono (placesN groups c) f (periodOf B s) (omega arith))) (tableOf B s) (longClass B s k) (shortClass B s k)),
+            cell-fits (placesN groups c) (placesF groups w) f (tableOf B s) (longClass B s k) (shortClass B s k),
+          );
     }
 
     pub side-more : (c'' : List ℕ) (w'' : List Float) → FamilyCredited B s f cells groups c' c'' w' w'' → SideCells B s cells groups (f + 1) c c'' w w''

@@ -1,5 +1,5 @@
 -- A list in which n places, e 0, .., e (n - 1), had something added each, and no other place changed.
-use mathlib.Core.Path.{_≡_, refl, sym, ap, ap₂, _∙_}
+use mathlib.Core.Path.{_≡_, refl, sym, ap, ap₂, subst, _∙_}
 use mathlib.Core.Logic.{_⊎_, inl, inr}
 use mathlib.Core.List.{List}
 use Prim.Native.Nat.{ℕ, _+_, _-_, _≤_, _<_}
@@ -14,6 +14,12 @@ module _ {A : Type 0} (d : A) (op : A → A → A) where
     pub len : length new ≡ length old
     pub front : (j : ℕ) → j < n → getD new (e j) d ≡ op (getD old (e j) d) (T j)
     pub rest : (k : ℕ) → ((j : ℕ) → j < n → k ≡ e j → ⊥) → getD new k d ≡ getD old k d
+
+  -- what adding T 0, .., T (n - 1) at the places e 0, .., e (n - 1) asks: the places are there, no two are one, and each takes what it is given
+  pub record Fits (takes : A → A → Type 0) (e : ℕ → ℕ) (T : ℕ → A) (n : ℕ) (l : List A) : Type 0 where
+    pub inside : (j : ℕ) → j < n → e j < length l
+    pub apart : (i j : ℕ) → i < n → j < n → e i ≡ e j → i ≡ j
+    pub taken : (j : ℕ) → j < n → takes (getD l (e j) d) (T j)
 
   pub spread-none : (e : ℕ → ℕ) (T : ℕ → A) (l : List A) → Spread e T 0 l l
   spread-none e T l = record { len = refl; front = λ j h. absurd (none j h); rest = λ k h. refl }
@@ -77,3 +83,68 @@ module _ {A : Type 0} (d : A) (op : A → A → A) where
     below = λ k h. s .rest k (λ j l r. omega arith);
     above = λ k h. s .rest k (λ j l r. omega (arith, inside j l));
   }
+
+  -- the same places in another order: the j-th is the one that was the `turn j`-th, and `back` finds each of them
+  module _ (e e' : ℕ → ℕ) (T T' : ℕ → A) (n : ℕ) (turn back : ℕ → ℕ) (to : (j : ℕ) → j < n → (turn j < n) × (back (turn j) ≡ j)) (from : (i : ℕ) → i < n → (back i < n) × (turn (back i) ≡ i))
+      (places : (j : ℕ) → j < n → e (turn j) ≡ e' j) (terms : (j : ℕ) → j < n → T (turn j) ≡ T' j) where
+    pub fits-perm : (takes : A → A → Type 0) (l : List A) → Fits takes e T n l → Fits takes e' T' n l
+    fits-perm takes l F = record {
+      inside = λ j h. subst (λ x. x < length l) (places j h) (F .inside (turn j) (to j h .0));
+      apart = λ i j h m r. sym (to i h .1) ∙ ap back (F .apart (turn i) (turn j) (to i h .0) (to j m .0) (places i h ∙ r ∙ sym (places j m))) ∙ to j m .1;
+      taken = λ j h. subst (λ x. takes (getD l x d) (T' j)) (places j h) (subst (takes (getD l (e (turn j)) d)) (terms j h) (F .taken (turn j) (to j h .0)));
+    }
+
+    pub spread-perm : (old new : List A) → Spread e' T' n old new → Spread e T n old new
+    spread-perm old new s = record {
+      len = s .len;
+      front = λ i h.
+          let b = from i h in
+          let p : e i ≡ e' (back i) = ap e (sym (b .1)) ∙ places (back i) (b .0) in
+          let t : T' (back i) ≡ T i = sym (terms (back i) (b .0)) ∙ ap T (b .1) in
+          ap (λ x. getD new x d) p ∙ s .front (back i) (b .0) ∙ ap₂ (λ x y. op (getD old x d) y) (sym p) t;
+      rest = λ k h. s .rest k (λ j l r. h (turn j) (to j l .0) (r ∙ sym (places j l)));
+    }
+
+  -- where n additions fit and the first q are made
+  module _ (takes : A → A → Type 0) (e : ℕ → ℕ) (T : ℕ → A) (n : ℕ) (old : List A) (F : Fits takes e T n old) (q : ℕ) (mid : List A) (s : Spread e T q old mid) where
+    -- a later place is as it was
+    fresh : (j : ℕ) → q ≤ j → j < n → getD mid (e j) d ≡ getD old (e j) d
+    fresh j a h = s .rest (e j) (λ i l r. let z = F .apart j i h (omega arith) r in omega arith)
+
+    -- the next m, said in their own way
+    module _ (e' : ℕ → ℕ) (T' : ℕ → A) (m : ℕ) (room : q + m ≤ n) (places : (j : ℕ) → j < m → e (q + j) ≡ e' j) (terms : (j : ℕ) → j < m → T (q + j) ≡ T' j) where
+      -- they fit
+      pub fits-next : Fits takes e' T' m mid
+      fits-next = record {
+        inside = λ j h. subst (λ x. x < length mid) (places j h) (within j h);
+        apart = λ i j h l r. cancel i j (F .apart (q + i) (q + j) (omega arith) (omega arith) (places i h ∙ r ∙ sym (places j l)));
+        taken = λ j h.
+            subst (λ x. takes (getD mid x d) (T' j)) (places j h)
+            (subst (takes (getD mid (e (q + j)) d)) (terms j h) (subst (λ x. takes x (T (q + j))) (sym (fresh (q + j) (omega arith) (omega arith))) (F .taken (q + j) (omega arith))));
+      }
+        where
+          within : (j : ℕ) → j < m → e (q + j) < length mid
+          within j h = let a = F .inside (q + j) (omega arith) in omega (arith, s .len)
+
+          cancel : (i j : ℕ) → q + i ≡ q + j → i ≡ j
+          cancel i j r = omega arith
+
+      -- and make q + m
+      pub spread-next : (n' : ℕ) → n' ≡ q + m → (new : List A) → Spread e' T' m mid new → Spread e T n' old new
+      spread-next n' r new u =
+          rw r (spread-then e T q m old mid new (λ i j h l. F .apart i j (omega arith) (omega arith)) s
+          (spread-ext e' (λ j. e (q + j)) T' (λ j. T (q + j)) m mid new (λ j h. sym (places j h)) (λ j h. sym (terms j h)) u))
+
+    -- the next one: x, at place k
+    module _ (k : ℕ) (x : A) (here : q < n) (ek : k ≡ e q) (ex : x ≡ T q) where
+      pub place-takes : (k < length mid) × takes (getD mid k d) x
+      place-takes = (within, subst (λ y. takes (getD mid k d) y) (sym ex) (subst (λ y. takes (getD mid y d) (T q)) (sym ek) (subst (λ y. takes y (T q)) (sym (fresh q (omega arith) here)) (F .taken q here))))
+        where
+          within : k < length mid
+          within = let a = F .inside q here in omega (arith, s .len, ek)
+
+      pub place-more : (q' : ℕ) → q' ≡ q + 1 → (new : List A) → new ≡ set mid k (op (getD mid k d) x) → Spread e T q' old new
+      place-more q' r new p = rw (r, p, ek) (spread-more e T q old mid x s apart (F .inside q here) ex)
+        where
+          apart : (j : ℕ) → j < q → e q ≡ e j → ⊥
+          apart j h r = let z = F .apart q j here (omega arith) r in omega arith

@@ -63,6 +63,10 @@ pub record Twelve (from also : ℕ) (a : List ℤ) : Type 0 where
   pub mismatch : also + 6 ≤ length a
   pub small : (j : ℕ) → j < 6 → (natAbs (placesZ from a j) ≤ 2 ^ 53) × (natAbs (placesZ also a j) ≤ 2 ^ 53)
 
+-- the first n match sums and the first n mismatch sums are all 0
+abbrev pub NoSum : ℕ → (ℕ → ℤ) → (ℕ → ℤ) → Type 0
+NoSum n m u = (j : ℕ) → j < n → (m j ≡ pos 0) × (u j ≡ pos 0)
+
 -- ---- a run of classes
 pub record RunReadyZ (terms : List (List ℤ)) (part : List ℕ) (n at long short : ℕ) (a : List ℤ) : Type 0 where
   pub places : RunPlaces part n at long short

@@ -1,18 +1,20 @@
 -- Laws of the parts of `build_sums`: an edge more in the groups, a cell more of a run, two runs that make a family, a family more of a side.
-use mathlib.Core.Path.{_≡_, sym, ap, ap₂, _∙_}
+use mathlib.Core.Path.{_≡_, refl, sym, ap, ap₂, _∙_}
 use mathlib.Core.Bool.{Bool, true, false, cond}
 use mathlib.Core.List.{List}
-use mathlib.Core.Logic.{_⊎_, inl, inr}
+use mathlib.Core.Logic.{_⊎_, inl, inr, ⊎-elim}
 use Prim.Native.Nat.{ℕ, _+_, _*_, _-_, _/_, _%_, _^_, _≤_, _<_}
 use native.Mathlib.Nat.{div-lt-iff-lt-mul, div-add-mod'}
+use native.Mathlib.Numerals.{add-one}
 use native.Mathlib.Omega.{arith}
 use lib.Arith.{digits-div, digits-mod, digits-lt}
 use lib.Dec.{eqb, ltb}
-use lib.IntN.{ℤ, pos, natAbs, _+ℤ_}
+use lib.IntN.{ℤ, pos, natAbs, _+ℤ_, +ℤ-idr}
 use lib.ListN.{getD, length, set, drop}
 use borrow.Author.Tests.{lt-ltb, le-ltb, eq-eqb, ne-eqb}
-use Rattle.laws.specs.Tests.{apart}
-use Rattle.laws.specs.Fold.{fold-zero, fold-hit, fold-miss}
+use Rattle.laws.specs.Tests.{apart, split}
+use Rattle.laws.specs.Fold.{fold, all, fold-zero, fold-hit, fold-miss}
+use Rattle.laws.specs.DoubleCounting.{fold-ext}
 use Rattle.laws.specs.Zone.{Zone, zone-none, zone-ext, zone-set}
 use Rattle.board.specs.Hits.{EdgeList, Board, size}
 use Rattle.board.specs.Sides.{tableOf, periodOf}
@@ -20,6 +22,7 @@ use Rattle.board.specs.HitsLaws.{side-some}
 use Rattle.likelihood.specs.SumLaws.{cell-size}
 use Rattle.tables.specs.Groups.{rowLength}
 use Rattle.tables.specs.Fill.{placeAt, rowSum}
+use Rattle.tables.specs.Terms.{agrees}
 use Rattle.tables.specs.Cells.{longClass, shortClass, family}
 use Rattle.tables.specs.CellsLaws.{cell-none, cell-more, zone-family}
 use Rattle.tables.specs.Spread.{spread-none}
@@ -28,7 +31,7 @@ use Rattle.tables.specs.LayoutLaws.{stand, short-below}
 use Rattle.tables.specs.RunLaws.{in-run, cell-place, cell-term, cell-fresh, cell-added, pattern-small, first-places, first-inside, first-holds, second-place, second-places, second-inside, second-fresh, second-holds, family-zone}
 use Rattle.tables.specs.SideLaws.{same-groups}
 use Rattle.tables.specs.Sums.{Likelihoods, matchAt, mismatchAt}
-use Rattle.tables.specs.SumParts.{placesZ, valueAt, rowsSum, SumsFillReady, SumsFilled, TermsZ, RunReadyZ, RunCellsZ, RunCreditedZ, gainZ, FamilyReadyZ, FamilyCreditedZ, familyZ, cellZ, SideReadyZ, SideCellsZ}
+use Rattle.tables.specs.SumParts.{placesZ, valueAt, rowsSum, SumsFillReady, SumsFilled, termZ, NoSum, TermsZ, RunReadyZ, RunCellsZ, RunCreditedZ, gainZ, FamilyReadyZ, FamilyCreditedZ, familyZ, cellZ, SideReadyZ, SideCellsZ}
 use Rattle.tables.specs.SumsLaws.{terms-atZ, same-termZ, value-small}
 
 -- ---- groups
@@ -193,6 +196,23 @@ module _ (B : Board) (s : Bool) (f long short cells from also : ℕ) (a : List �
 
     pub family-creditedZ : (a₂ : List ℤ) → RunCreditedZ t (drop 0 ps) f (cells + n₁ * long) long short a₁ a₂ → FamilyCreditedZ B s f cells from also a a₂
     family-creditedZ a₂ r₂ = family-zone B s f long short cells (R .places) (pos 0) t gain gains (pos 0) _+ℤ_ (λ x. x) a a₁ a₂ r₁ r₂
+
+-- ---- a family whose twelve sums are all 0: nothing is stored
+pub no-sum-more : (n : ℕ) (m u : ℕ → ℤ) → NoSum n m u → m n ≡ pos 0 → u n ≡ pos 0 → NoSum (n + 1) m u
+no-sum-more n m u h a b j l = ⊎-elim (λ e. (ap m e ∙ a, ap u e ∙ b)) (λ k. h j k) (split j n (rw add-one at l))
+
+no-termZ : (m u : ℕ → ℤ) → NoSum 6 m u → (p s : ℕ) → termZ 6 m u p s ≡ pos 0
+unfolding termZ fold
+no-termZ m u none p s = fold-ext _+ℤ_ (pos 0) 6 all all (λ j. cond (agrees p s j) (m j) (u j)) (λ j. pos 0) (λ j h. refl) (λ j h. either (agrees p s j) (m j) (u j) (none j h .0) (none j h .1))
+  where
+    either : (b : Bool) (x y : ℤ) → x ≡ pos 0 → y ≡ pos 0 → cond b x y ≡ pos 0
+    either true x y e d = e
+    either false x y e d = d
+
+pub family-emptyZ : (B : Board) (s : Bool) (f cells from also : ℕ) (a : List ℤ) → NoSum 6 (placesZ (from + f * 6) a) (placesZ (also + f * 6) a) → FamilyCreditedZ B s f cells from also a a
+family-emptyZ B s f cells from also a none =
+    zone-none (pos 0) _ cells (3 * periodOf B s) a
+    (λ k h. sym (ap (λ x. placesZ cells a k +ℤ x) (no-termZ (placesZ (from + f * 6) a) (placesZ (also + f * 6) a) none (cellPattern B s f k) (shortClass B s k)) ∙ +ℤ-idr (placesZ cells a k)))
 
 -- ---- a side, family by family
 module _ (B : Board) (s : Bool) (long short cells from also : ℕ) (a : List ℤ) (R : SideReadyZ B s long short cells from also a) where

@@ -3,6 +3,7 @@ use mathlib.Core.Path.{_≡_, refl, sym, ap, _∙_}
 use mathlib.Core.Bool.{true, false, not, _&&_}
 use mathlib.Core.List.{List, [], _∷_}
 use Prim.Native.Nat.{ℕ, zero, suc, _+_, _/_, _%_, _≤_, _<_}
+use native.Mathlib.Nat.{add-zero}
 use native.Mathlib.Omega.{arith}
 use lib.Dec.{eqb}
 use lib.ListN.{getD}
@@ -13,7 +14,7 @@ use Rattle.laws.specs.DoubleCounting.{fold-ext}
 use Rattle.laws.specs.Weights.{zeroF}
 use Rattle.board.specs.Hits.{bitAt}
 use Rattle.tables.specs.declared.terms.FamilyTerm.{FamilyTerm}
-use Rattle.tables.specs.Terms.{agrees, adds, termC, termW, term, Terms, noTerm}
+use Rattle.tables.specs.Terms.{agrees, adds, termC, termW, term, Terms, noTerm, placesN}
 
 -- ---- one group more: c j edges of weight w j, b the pattern's bit
 module _ (c : ℕ → ℕ) (w : ℕ → Float) (p s j : ℕ) where
@@ -76,3 +77,31 @@ module _ (n : ℕ) (c c' : ℕ → ℕ) (p s : ℕ) (e : (j : ℕ) → j < n →
   pub same-termW : (w w' : ℕ → Float) → ((j : ℕ) → j < n → w j ≡ w' j) → termW n c w p s ≡ termW n c' w' p s
   unfolding termW
   same-termW w w' f = fold-ext (add binary32) zeroF n (adds c p s) (adds c' p s) w w' same-adds f
+
+-- ---- six groups together
+pub six-sum : (l : List ℕ) (from : ℕ)
+    → fold _+_ 0 6 all (placesN from l) ≡ getD l from 0 + getD l (from + 1) 0 + (getD l (from + 2) 0 + getD l (from + 3) 0) + (getD l (from + 4) 0 + getD l (from + 5) 0)
+unfolding fold
+six-sum l from = ap (λ x. 0 + getD l x 0 + getD l (from + 1) 0 + getD l (from + 2) 0 + getD l (from + 3) 0 + getD l (from + 4) 0 + getD l (from + 5) 0) (add-zero from) ∙ six (getD l from 0) (getD l (from + 1) 0) (getD l (from + 2) 0) (getD l (from + 3) 0) (getD l (from + 4) 0) (getD l (from + 5) 0)
+  where
+    six : (a b c d e f : ℕ) → 0 + a + b + c + d + e + f ≡ a + b + (c + d) + (e + f)
+    six a b c d e f = omega arith
+
+-- ---- groups that hold no edge add nothing
+module _ (c : ℕ → ℕ) (none : fold _+_ 0 6 all c ≡ 0) (p s : ℕ) where
+  no-edge : (j : ℕ) → j < 6 → c j ≡ 0
+  no-edge j h =
+      let b : fold _+_ 0 (j + 1) all c ≤ fold _+_ 0 6 all c = sum-mono all c (j + 1) 6 (omega arith) in
+      let d : fold _+_ 0 (j + 1) all c ≡ fold _+_ 0 j all c + c j = fold-hit _+_ 0 all c j refl in
+      omega arith
+
+  left-out : (j : ℕ) → j < 6 → adds c p s j ≡ false
+  left-out j h = ap (λ x. not (eqb x 0) && agrees p s j) (no-edge j h)
+
+  pub no-count : termC 6 c p s ≡ 0
+  unfolding termC fold
+  no-count = fold-ext _+_ 0 6 (adds c p s) (λ j. false) c c left-out (λ j h. refl)
+
+  pub no-weight : (w : ℕ → Float) → termW 6 c w p s ≡ zeroF
+  unfolding termW fold
+  no-weight w = fold-ext (add binary32) zeroF 6 (adds c p s) (λ j. false) w w left-out (λ j h. refl)

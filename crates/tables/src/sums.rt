@@ -1,13 +1,14 @@
 // The likelihood sums of one transform, in lent room: as the counts, with two rows of groups, match then mismatch, and no skipping of empty groups,
 // since adding 0 to a whole number changes nothing.
 ghost use mathlib.Core.Path.{_≡_};
+ghost use mathlib.Core.Bool.{false};
 ghost use Prim.Native.Nat.{_<_, _^_};
 ghost use lib.Dec.{eqb};
 ghost use lib.ListN.{length, getD, set};
 ghost use lib.IntN.{pos, natAbs, _+ℤ_};
 ghost use Rattle.board.specs.Hits.{edges, tables};
 ghost use Rattle.tables.specs.Sums.{likelihoods};
-ghost use Rattle.tables.specs.SumParts.{placesZ, termZ, rowZ, Twelve, TermsZ, SumsFillReady, SumsFilled, RunReadyZ, RunCreditedZ, FamilyReadyZ, FamilyCreditedZ, SideReadyZ, SideBuiltZ};
+ghost use Rattle.tables.specs.SumParts.{placesZ, termZ, rowZ, Twelve, NoSum, TermsZ, SumsFillReady, SumsFilled, RunReadyZ, RunCreditedZ, FamilyReadyZ, FamilyCreditedZ, SideReadyZ, SideBuiltZ};
 ghost use Rattle.tables.specs.SumsRoom.{SumsReady, SumsBuilt};
 
 // Adds x to place k.
@@ -119,7 +120,7 @@ fn credit_sum_run(
 }
 
 // Folds one family of a side and credits it to the side's cells, in two runs, as `credit_family` does counts.
-fn credit_sum_family<'a>(
+fn credit_sum_held<'a>(
     h: &'a [u8],
     v: &'a [u8],
     orientation: u8,
@@ -140,6 +141,54 @@ fn credit_sum_family<'a>(
     credit_sum_run(sums, terms, part, n, cells, long, short);
     let whole = board::pattern::patterns_from(h, v, orientation, 0);
     credit_sum_run(sums, terms, whole, family, cells + n * long, long, short);
+}
+
+// Whether one of the twelve sums of a family is not 0.
+fn some_sum(sums: &[i64], from: usize, also: usize) -> bool
+    requires { ⌜ Twelve from also (now sums) ⌝ }
+    ensures { λ r. ⌜ (r ≡ false → NoSum 6 (placesZ from (now (sums .entry))) (placesZ also (now (sums .entry)))) ⌝ }
+{
+    for j in 0..6 {
+        if sums[from + j] != 0 {
+            return true;
+        }
+        if sums[also + j] != 0 {
+            return true;
+        }
+    }
+    false
+}
+
+// Credits one family of a side. A family whose twelve sums are all 0 stores nothing.
+fn credit_sum_family<'a>(
+    h: &'a [u8],
+    v: &'a [u8],
+    orientation: u8,
+    family: usize,
+    long: usize,
+    short: usize,
+    cells: usize,
+    from: usize,
+    also: usize,
+    sums: &mut [i64],
+)
+    requires { ⌜ FamilyReadyZ (tables (now h) (now v)) (eqb orientation 0) family long short cells from also (now sums) ⌝ }
+    ensures { λ _. ⌜ FamilyCreditedZ (tables (now (h .entry)) (now (v .entry))) (eqb orientation 0) family cells from also (now (sums .entry)) (now (sums .exit)) ⌝ }
+{
+    if some_sum(sums, from + family * 6, also + family * 6) {
+        credit_sum_held(
+            h,
+            v,
+            orientation,
+            family,
+            long,
+            short,
+            cells,
+            from,
+            also,
+            sums,
+        );
+    }
 }
 
 // Adds all families of one side to its cells. The cells were cleared, and the groups stand.

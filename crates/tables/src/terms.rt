@@ -1,12 +1,25 @@
 // Family terms: what the six groups of one long residue add to a class, by the pattern that the class reads and its short class.
 ghost use mathlib.Core.Path.{_≡_};
-ghost use Prim.Native.Nat.{_<_};
+ghost use Prim.Native.Nat.{_+_, _≤_, _<_};
+ghost use lib.ListN.{length};
+ghost use Rattle.laws.specs.Fold.{fold, all};
 ghost use Rattle.tables.specs.Terms.{placesN, placesF, term, row, Six, Terms};
 
 // What a family adds to one cell.
 pub struct FamilyTerm {
     pub count: u32,
     pub weight: f32,
+}
+
+// How many edges the six groups from `from` on hold together.
+pub fn edges_held(counts: &[u32], from: usize) -> u32
+    requires { ⌜ (from + 6 ≤ length (now counts)) × (fold _+_ 0 6 all (placesN from (now counts)) ≤ 8192) ⌝ }
+    ensures { λ n. ⌜ n ≡ fold _+_ 0 6 all (placesN from (now (counts .entry))) ⌝ }
+{
+    let a = counts[from] + counts[from + 1];
+    let b = counts[from + 2] + counts[from + 3];
+    let c = counts[from + 4] + counts[from + 5];
+    a + b + c
 }
 
 // What the six groups from `from` on add at short class s of a class that reads the pattern: non-empty groups, in order.

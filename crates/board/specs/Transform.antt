@@ -22,10 +22,14 @@ matrices =
     ∷ ((pos 0 ∷ negsuc 0 ∷ []) ∷ (negsuc 0 ∷ pos 0 ∷ []) ∷ [])
     ∷ []
 
+-- the matrix of transform t
+abbrev pub matrixOf : ℕ → List (List ℤ)
+matrixOf t = getD matrices t []
+
 -- entry (i, j) of the matrix of transform t
 unfoldable pub mat : ℕ → ℕ → ℕ → ℤ
 unfolding matrices
-mat t i j = getD (getD (getD matrices t []) i []) j (pos 0)
+mat t i j = getD (getD (matrixOf t) i []) j (pos 0)
 
 -- "A transform maps (column, row) by a matrix, translation zero": row i of the matrix times (col, row), so 0 gives the column and 1 the row
 unfoldable pub mapped : ℕ → ℕ → ℤ → ℤ → ℤ

@@ -1,28 +1,17 @@
--- Laws of the transforms: a mapped coordinate is at most the sum of both in size, what the lookup is in each of its three cases, and that the
--- transforms and lookups as the code has them, by signs, are those of the matrices.
-use mathlib.Core.Path.{_≡_, refl, sym, ap, ap₂, subst, _∙_}
+-- Laws of the transforms: a mapped coordinate is at most the sum of both in size, what a column or a row more makes of it, what the lookup is in each
+-- of its three cases, and that it lies near.
+use mathlib.Core.Path.{_≡_, sym, ap, subst, _∙_}
 use mathlib.Core.Bool.{Bool, true, false, _&&_, cond}
 use mathlib.Core.List.{List, [], _∷_}
-use Prim.Native.Nat.{ℕ, zero, suc, _+_, _*_, _/_, _%_, _^_, _≤_, _<_}
+use Prim.Native.Nat.{ℕ, zero, suc, _+_, _*_, _≤_}
 use native.Mathlib.Omega.{arith}
 use lib.Dec.{T, eqb, leb, leb→le}
 use lib.ListN.{getD}
-use lib.IntN.{ℤ, pos, negsuc, negℤ, sucℤ, predℤ, natAbs, _+ℤ_, _-ℤ_, _*ℤ_, +ℤ-idl, +ℤ-idr, +ℤ-one, -ℤ-one, +ℤ-assoc, +ℤ-comm, -ℤ-+ℤ-cancel, zero-*ℤ, *ℤ-comm, sucℤ-*ℤ}
+use lib.IntN.{ℤ, pos, sucℤ, natAbs, _+ℤ_, _-ℤ_, _*ℤ_, +ℤ-one, +ℤ-assoc, +ℤ-comm, *ℤ-comm, sucℤ-*ℤ}
 use lib.Signed.{ltZ}
-use borrow.Author.Tests.{lt-ltb, le-ltb}
-use Rattle.laws.specs.Tests.{clash}
-use Rattle.laws.specs.Whole.{abs-add, abs-sub, abs-mul, eq-eqZ, ne-eqZ}
+use Rattle.laws.specs.Whole.{abs-add, abs-sub, abs-mul, eqZ, eq-eqZ, ne-eqZ}
 use Rattle.board.specs.declared.transform.EdgeLookup.{EdgeLookup}
 use Rattle.board.specs.Transform.{mat, matrices, mapped, lookupOfEnds, joined, lookupOf}
-
--- ---- the transforms as the code has them: whether transform t negates the new column (i = 0) or the new row, by one bit each: 150 has the bits 1, 2, 4 and 7,
--- the transforms that negate the new column, and 204 the bits 2, 3, 6 and 7, those that negate the new row
-unfoldable pub negates : ℕ → ℕ → Bool
-negates t i = eqb (cond (eqb i 0) 150 204 / 2 ^ t % 2) 1
-
--- whether an edge is horizontal after transform t: an odd one exchanges the axes
-unfoldable pub lying : ℕ → ℕ → Bool
-lying t orientation = cond (eqb orientation 0) (eqb (t % 2) 0) (eqb (t % 2) 1)
 
 -- ---- what holds of every element of a list and of the default holds of `getD`
 left : (a b : Bool) → T (a && b) → T a
@@ -74,6 +63,27 @@ pub mapped-abs : (t i : ℕ) (col row : ℤ) → natAbs (mapped t i col row) ≤
 unfolding mapped
 mapped-abs t i col row = omega (arith, abs-add (mat t i 0 *ℤ col) (mat t i 1 *ℤ row), entry-abs t i 0 col, entry-abs t i 1 row)
 
+-- ---- a column or a row further is mapped a column of the matrix further
+more-times : (m z : ℤ) → m *ℤ (z +ℤ pos 1) ≡ m *ℤ z +ℤ m
+more-times m z = ap (λ (x : ℤ). m *ℤ x) (+ℤ-one z) ∙ *ℤ-comm m (sucℤ z) ∙ sucℤ-*ℤ z m ∙ ap (λ (x : ℤ). x +ℤ m) (*ℤ-comm z m)
+
+module _ (t i : ℕ) (col row : ℤ) where
+  pub next-col : mapped t i (col +ℤ pos 1) row ≡ mapped t i col row +ℤ mat t i 0
+  unfolding mapped
+  next-col =
+      let a = mat t i 0 *ℤ col in
+      let b = mat t i 1 *ℤ row in
+      let m = mat t i 0 in
+      ap (λ (x : ℤ). x +ℤ b) (more-times m col) ∙ +ℤ-assoc a m b ∙ ap (λ (x : ℤ). a +ℤ x) (+ℤ-comm m b) ∙ sym (+ℤ-assoc a b m)
+
+  pub next-row : mapped t i col (row +ℤ pos 1) ≡ mapped t i col row +ℤ mat t i 1
+  unfolding mapped
+  next-row =
+      let a = mat t i 0 *ℤ col in
+      let b = mat t i 1 *ℤ row in
+      let m = mat t i 1 in
+      ap (λ (x : ℤ). a +ℤ x) (more-times m row) ∙ sym (+ℤ-assoc a b m)
+
 -- ---- the three cases of the lookup
 module _ (c r d s : ℤ) where
   pub flat : (x y : ℤ) → r ≡ s → x ≡ r -ℤ pos 1 → y ≡ cond (ltZ c d) c d → record { orientation = 0; row = x; col = y } ≡ lookupOfEnds c r d s
@@ -88,189 +98,46 @@ module _ (c r d s : ℤ) where
   unfolding lookupOfEnds
   falling x y n t p q = rw (ne-eqZ r s n, t, p, q)
 
--- ---- the eight transforms, case by case
-below-8 : (P : ℕ → Type 0) → P 0 → P 1 → P 2 → P 3 → P 4 → P 5 → P 6 → P 7 → (t : ℕ) → t < 8 → P t
-below-8 P a b c d e f g h zero l = a
-below-8 P a b c d e f g h (suc zero) l = b
-below-8 P a b c d e f g h (suc (suc zero)) l = c
-below-8 P a b c d e f g h (suc (suc (suc zero))) l = d
-below-8 P a b c d e f g h (suc (suc (suc (suc zero)))) l = e
-below-8 P a b c d e f g h (suc (suc (suc (suc (suc zero))))) l = f
-below-8 P a b c d e f g h (suc (suc (suc (suc (suc (suc zero)))))) l = g
-below-8 P a b c d e f g h (suc (suc (suc (suc (suc (suc (suc zero))))))) l = h
-below-8 P a b c d e f g h (suc (suc (suc (suc (suc (suc (suc (suc t)))))))) l = absurd (omega arith)
-
--- ---- a mapped coordinate is one of the two, with a sign
-one-times : (n : ℕ) → 1 * n ≡ n
-one-times n = omega arith
-
-plus : (z : ℤ) → pos 1 *ℤ z ≡ z
-plus (pos n) = ap pos (one-times n)
-plus (negsuc n) = ap (λ (k : ℕ). negℤ (pos k)) (one-times (suc n))
-
-minus : (z : ℤ) → negsuc 0 *ℤ z ≡ pos 0 -ℤ z
-minus (pos n) = ap (λ (k : ℕ). negℤ (pos k)) (one-times n) ∙ sym (+ℤ-idl (negℤ (pos n)))
-minus (negsuc n) = ap pos (one-times (suc n)) ∙ sym (+ℤ-idl (pos (suc n)))
-
--- the column or row that transform t takes for its new column (i = 0) or row
-abbrev pub taken : ℕ → ℕ → ℤ → ℤ → ℤ
-taken t i col row = cond (eqb ((t + i) % 2) 0) col row
-
-abbrev pub signed : Bool → ℤ → ℤ
-signed s z = cond s (pos 0 -ℤ z) z
-
-module _ (col row : ℤ) where
-  of-col : (m w : ℤ) → m *ℤ col ≡ w → m *ℤ col +ℤ pos 0 *ℤ row ≡ w
-  of-col m w e = ap₂ _+ℤ_ e (zero-*ℤ row) ∙ +ℤ-idr w
-
-  of-row : (m w : ℤ) → m *ℤ row ≡ w → pos 0 *ℤ col +ℤ m *ℤ row ≡ w
-  of-row m w e = ap₂ _+ℤ_ (zero-*ℤ col) e ∙ +ℤ-idl w
-
-  abbrev col+ : pos 1 *ℤ col +ℤ pos 0 *ℤ row ≡ col
-  col+ = of-col (pos 1) col (plus col)
-
-  abbrev col- : negsuc 0 *ℤ col +ℤ pos 0 *ℤ row ≡ pos 0 -ℤ col
-  col- = of-col (negsuc 0) (pos 0 -ℤ col) (minus col)
-
-  abbrev row+ : pos 0 *ℤ col +ℤ pos 1 *ℤ row ≡ row
-  row+ = of-row (pos 1) row (plus row)
-
-  abbrev row- : pos 0 *ℤ col +ℤ negsuc 0 *ℤ row ≡ pos 0 -ℤ row
-  row- = of-row (negsuc 0) (pos 0 -ℤ row) (minus row)
-
-  new-col : (t : ℕ) → t < 8 → mapped t 0 col row ≡ signed (negates t 0) (taken t 0 col row)
-  unfolding mapped mat matrices negates
-  new-col = below-8 (λ t. mapped t 0 col row ≡ signed (negates t 0) (taken t 0 col row)) col+ row- col- row+ col- row+ col+ row-
-
-  new-row : (t : ℕ) → t < 8 → mapped t 1 col row ≡ signed (negates t 1) (taken t 1 col row)
-  unfolding mapped mat matrices negates
-  new-row = below-8 (λ t. mapped t 1 col row ≡ signed (negates t 1) (taken t 1 col row)) row+ col+ row- col- row+ col+ row- col-
-
-  pub mapped-signed : (t i : ℕ) → t < 8 → i < 2 → mapped t i col row ≡ signed (negates t i) (taken t i col row)
-  mapped-signed t zero h k = new-col t h
-  mapped-signed t (suc zero) h k = new-row t h
-  mapped-signed t (suc (suc i)) h k = absurd (omega arith)
-
--- ---- the other end is the first one moved by a column of the matrix
-more-times : (m z : ℤ) → m *ℤ (z +ℤ pos 1) ≡ m *ℤ z +ℤ m
-more-times m z = ap (λ (x : ℤ). m *ℤ x) (+ℤ-one z) ∙ *ℤ-comm m (sucℤ z) ∙ sucℤ-*ℤ z m ∙ ap (λ (x : ℤ). x +ℤ m) (*ℤ-comm z m)
-
-module _ (t i : ℕ) (col row : ℤ) where
-  next-col : mapped t i (col +ℤ pos 1) row ≡ mapped t i col row +ℤ mat t i 0
-  unfolding mapped
-  next-col =
-      let a = mat t i 0 *ℤ col in
-      let b = mat t i 1 *ℤ row in
-      let m = mat t i 0 in
-      ap (λ (x : ℤ). x +ℤ b) (more-times m col) ∙ +ℤ-assoc a m b ∙ ap (λ (x : ℤ). a +ℤ x) (+ℤ-comm m b) ∙ sym (+ℤ-assoc a b m)
-
-  next-row : mapped t i col (row +ℤ pos 1) ≡ mapped t i col row +ℤ mat t i 1
-  unfolding mapped
-  next-row =
-      let a = mat t i 0 *ℤ col in
-      let b = mat t i 1 *ℤ row in
-      let m = mat t i 1 in
-      ap (λ (x : ℤ). a +ℤ x) (more-times m row) ∙ sym (+ℤ-assoc a b m)
-
--- ---- one step right, left, down and up from (c, r), looked up
-next-above : (z : ℤ) → ltZ z (sucℤ z) ≡ true
-next-above (pos n) = lt-ltb n (suc n) (omega arith)
-next-above (negsuc zero) = refl
-next-above (negsuc (suc n)) = lt-ltb n (suc n) (omega arith)
-
-last-below : (z : ℤ) → ltZ z (predℤ z) ≡ false
-last-below (pos zero) = refl
-last-below (pos (suc n)) = le-ltb (suc n) n (omega arith)
-last-below (negsuc n) = le-ltb (suc n) n (omega arith)
-
-not-above : (z : ℤ) → ltZ z z ≡ false
-not-above (pos n) = le-ltb n n (omega arith)
-not-above (negsuc n) = le-ltb n n (omega arith)
-
-module _ (z : ℤ) where
-  above : ltZ z (z +ℤ pos 1) ≡ true
-  above = ap (ltZ z) (+ℤ-one z) ∙ next-above z
-
-  below : ltZ z (z -ℤ pos 1) ≡ false
-  below = ap (ltZ z) (-ℤ-one z) ∙ last-below z
-
-  not-next : z ≡ z +ℤ pos 1 → ⊥
-  not-next e = clash above (ap (ltZ z) (sym e) ∙ not-above z)
-
-not-last : (z : ℤ) → z ≡ z -ℤ pos 1 → ⊥
-not-last z e = not-next z (sym (ap (λ (x : ℤ). x +ℤ pos 1) e ∙ -ℤ-+ℤ-cancel z (pos 1)))
-
--- the two records of a lookup
-abbrev pub levelAt : ℤ → ℤ → EdgeLookup
-levelAt x y = record { orientation = 0; row = x; col = y }
-
-abbrev pub uprightAt : ℤ → ℤ → EdgeLookup
-uprightAt x y = record { orientation = 1; row = x; col = y }
-
-module _ (c r : ℤ) where
-  right-step : lookupOfEnds c r (c +ℤ pos 1) (r +ℤ pos 0) ≡ levelAt (r -ℤ pos 1) c
-  right-step = sym (flat c r (c +ℤ pos 1) (r +ℤ pos 0) (r -ℤ pos 1) c (sym (+ℤ-idr r)) refl (sym (ap (λ (b : Bool). cond b c (c +ℤ pos 1)) (above c))))
-
-  left-step : lookupOfEnds c r (c +ℤ negsuc 0) (r +ℤ pos 0) ≡ levelAt (r -ℤ pos 1) (c -ℤ pos 1)
-  left-step = sym (flat c r (c -ℤ pos 1) (r +ℤ pos 0) (r -ℤ pos 1) (c -ℤ pos 1) (sym (+ℤ-idr r)) refl (sym (ap (λ (b : Bool). cond b c (c -ℤ pos 1)) (below c))))
-
-  down-step : lookupOfEnds c r (c +ℤ pos 0) (r +ℤ pos 1) ≡ uprightAt r (c -ℤ pos 1)
-  down-step = sym (rising c r (c +ℤ pos 0) (r +ℤ pos 1) r (c -ℤ pos 1) (not-next r) (above r) refl refl)
-
-  up-step : lookupOfEnds c r (c +ℤ pos 0) (r +ℤ negsuc 0) ≡ uprightAt (r -ℤ pos 1) (c -ℤ pos 1)
-  up-step = sym (falling c r (c +ℤ pos 0) (r -ℤ pos 1) (r -ℤ pos 1) (c -ℤ pos 1) (not-last r) (below r) refl (ap (λ (x : ℤ). x -ℤ pos 1) (sym (+ℤ-idr c))))
-
-  -- what the code makes of the mapped first end: level, or upright
-  abbrev pub levelOf : ℕ → EdgeLookup
-  levelOf t = levelAt (r -ℤ pos 1) (cond (negates t 0) (c -ℤ pos 1) c)
-
-  abbrev pub uprightOf : ℕ → EdgeLookup
-  uprightOf t = uprightAt (cond (negates t 1) (r -ℤ pos 1) r) (c -ℤ pos 1)
-
-  of-horizontal : (t : ℕ) → t < 8 → lookupOfEnds c r (c +ℤ mat t 0 0) (r +ℤ mat t 1 0) ≡ cond (eqb (t % 2) 0) (levelOf t) (uprightOf t)
-  unfolding mat matrices negates
-  of-horizontal =
-      below-8 (λ t. lookupOfEnds c r (c +ℤ mat t 0 0) (r +ℤ mat t 1 0) ≡ cond (eqb (t % 2) 0) (levelOf t) (uprightOf t))
-      right-step down-step left-step up-step left-step down-step right-step up-step
-
-  of-vertical : (t : ℕ) → t < 8 → lookupOfEnds c r (c +ℤ mat t 0 1) (r +ℤ mat t 1 1) ≡ cond (eqb (t % 2) 1) (levelOf t) (uprightOf t)
-  unfolding mat matrices negates
-  of-vertical =
-      below-8 (λ t. lookupOfEnds c r (c +ℤ mat t 0 1) (r +ℤ mat t 1 1) ≡ cond (eqb (t % 2) 1) (levelOf t) (uprightOf t))
-      down-step left-step up-step right-step down-step right-step up-step left-step
-
--- so an edge's lookup is what the code makes of its mapped first end
-pub lookup-signed : (t : ℕ) (row col : ℤ) (o : ℕ) → t < 8
-    → lookupOf t row col o ≡ cond (lying t o) (levelOf (mapped t 0 col row) (mapped t 1 col row) t) (uprightOf (mapped t 0 col row) (mapped t 1 col row) t)
-unfolding lookupOf joined lying
-lookup-signed t row col o h = go (eqb o 0)
-  where
-    go : (b : Bool)
-        → cond b (joined t col row (col +ℤ pos 1) row) (joined t col row col (row +ℤ pos 1))
-        ≡ cond (cond b (eqb (t % 2) 0) (eqb (t % 2) 1)) (levelOf (mapped t 0 col row) (mapped t 1 col row) t) (uprightOf (mapped t 0 col row) (mapped t 1 col row) t)
-    go true =
-        ap₂ (λ (d s : ℤ). lookupOfEnds (mapped t 0 col row) (mapped t 1 col row) d s) (next-col t 0 col row) (next-col t 1 col row)
-        ∙ of-horizontal (mapped t 0 col row) (mapped t 1 col row) t h
-    go false =
-        ap₂ (λ (d s : ℤ). lookupOfEnds (mapped t 0 col row) (mapped t 1 col row) d s) (next-row t 0 col row) (next-row t 1 col row)
-        ∙ of-vertical (mapped t 0 col row) (mapped t 1 col row) t h
-
 -- ---- a lookup of an edge in range lies near
-near-at : (b : Bool) (z : ℤ) → natAbs z ≤ 2000000 → natAbs (cond b (z -ℤ pos 1) z) ≤ 2000001
-near-at true z h = omega (arith, abs-sub z (pos 1))
-near-at false z h = omega arith
+abbrev Near : EdgeLookup → Type 0
+Near l = (natAbs (l .row) ≤ 2000002) × (natAbs (l .col) ≤ 2000002)
 
-pub lookup-near : (t : ℕ) (row col : ℤ) (o : ℕ) → t < 8 → natAbs row ≤ 1000000 → natAbs col ≤ 1000000
-    → (natAbs (lookupOf t row col o .row) ≤ 2000001) × (natAbs (lookupOf t row col o .col) ≤ 2000001)
-lookup-near t row col o h p q = subst (λ (l : EdgeLookup). (natAbs (l .row) ≤ 2000001) × (natAbs (l .col) ≤ 2000001)) (sym (lookup-signed t row col o h)) (go (lying t o))
+either : (b : Bool) (x y : ℤ) → natAbs x ≤ 2000001 → natAbs y ≤ 2000001 → natAbs (cond b x y) ≤ 2000001
+either true x y p q = p
+either false x y p q = q
+
+less : (z : ℤ) → natAbs z ≤ 2000001 → natAbs (z -ℤ pos 1) ≤ 2000002
+less z h = omega (arith, abs-sub z (pos 1))
+
+more : (z : ℤ) → natAbs z ≤ 1000000 → natAbs (z +ℤ pos 1) ≤ 1000001
+more z h = omega (arith, abs-add z (pos 1))
+
+ends-near : (c r d s : ℤ) → natAbs c ≤ 2000001 → natAbs r ≤ 2000001 → natAbs d ≤ 2000001 → natAbs s ≤ 2000001 → Near (lookupOfEnds c r d s)
+unfolding lookupOfEnds
+ends-near c r d s hc hr hd hs = go (eqZ r s)
   where
-    small : (i : ℕ) → natAbs (mapped t i col row) ≤ 2000000
-    small i = omega (arith, mapped-abs t i col row, p, q)
+    wide : (z : ℤ) → natAbs z ≤ 2000001 → natAbs z ≤ 2000002
+    wide z h = omega arith
 
-    near : (b : Bool) (i : ℕ) → natAbs (cond b (mapped t i col row -ℤ pos 1) (mapped t i col row)) ≤ 2000001
-    near b i = near-at b (mapped t i col row) (small i)
+    go : (b : Bool) → Near (cond b (record { orientation = 0; row = r -ℤ pos 1; col = cond (ltZ c d) c d }) (record { orientation = 1; row = cond (ltZ r s) r s; col = cond (ltZ r s) c d -ℤ pos 1 }))
+    go true = (less r hr, wide (cond (ltZ c d) c d) (either (ltZ c d) c d hc hd))
+    go false = (wide (cond (ltZ r s) r s) (either (ltZ r s) r s hr hs), less (cond (ltZ r s) c d) (either (ltZ r s) c d hc hd))
 
-    go : (b : Bool) → let l = cond b (levelOf (mapped t 0 col row) (mapped t 1 col row) t) (uprightOf (mapped t 0 col row) (mapped t 1 col row) t) in
-        (natAbs (l .row) ≤ 2000001) × (natAbs (l .col) ≤ 2000001)
-    go true = (near true 1, near (negates t 0) 0)
-    go false = (near (negates t 1) 1, near true 0)
+joined-near : (t : ℕ) (c r d s : ℤ) → natAbs c + natAbs r ≤ 2000001 → natAbs d + natAbs s ≤ 2000001 → Near (joined t c r d s)
+unfolding joined
+joined-near t c r d s p q = ends-near (mapped t 0 c r) (mapped t 1 c r) (mapped t 0 d s) (mapped t 1 d s) (first 0) (first 1) (other 0) (other 1)
+  where
+    first : (i : ℕ) → natAbs (mapped t i c r) ≤ 2000001
+    first i = omega (arith, mapped-abs t i c r, p)
+
+    other : (i : ℕ) → natAbs (mapped t i d s) ≤ 2000001
+    other i = omega (arith, mapped-abs t i d s, q)
+
+pub lookup-near : (t : ℕ) (row col : ℤ) (o : ℕ) → natAbs row ≤ 1000000 → natAbs col ≤ 1000000
+    → (natAbs (lookupOf t row col o .row) ≤ 2000002) × (natAbs (lookupOf t row col o .col) ≤ 2000002)
+unfolding lookupOf
+lookup-near t row col o p q = go (eqb o 0)
+  where
+    go : (b : Bool) → Near (cond b (joined t col row (col +ℤ pos 1) row) (joined t col row col (row +ℤ pos 1)))
+    go true = joined-near t col row (col +ℤ pos 1) row (omega (arith, p, q)) (omega (arith, more col q, p))
+    go false = joined-near t col row col (row +ℤ pos 1) (omega (arith, p, q)) (omega (arith, more row p, q))

@@ -3,7 +3,7 @@ ghost use mathlib.Core.Path.{_≡_};
 ghost use Prim.Native.Nat.{_<_, _≤_};
 ghost use lib.Dec.{eqb};
 ghost use lib.ListN.{length, drop};
-ghost use Rattle.board.specs.Transform.{lookupOf};
+ghost use Rattle.board.specs.Transform.{matrixOf, lookupOf};
 ghost use Rattle.board.specs.Hits.{tables, bitAt, predicted};
 ghost use Rattle.board.specs.Sides.{tableOf};
 ghost use Rattle.board.specs.Domain.{EdgeOk, BoardOk};
@@ -46,7 +46,7 @@ fn predicted_bit(h: &[u8], v: &[u8], l: EdgeLookup, r: u32, c: u32) -> u8
     }
 }
 
-// Whether an edge is a hit under the transform t at the origin (r, c): its bit is the predicted one.
+// Whether an edge is a hit under the transform t, whose matrix is given, at the origin (r, c): its bit is the predicted one.
 pub fn is_hit(
     h: &[u8],
     v: &[u8],
@@ -55,14 +55,15 @@ pub fn is_hit(
     orientation: u8,
     bit: u8,
     t: u8,
+    matrix: [[i32; 2]; 2],
     r: u32,
     c: u32,
 ) -> bool
     requires { ⌜ BoardOk (tables (now h) (now v)) ⌝ }
-    requires { ⌜ EdgeOk row col bit t ⌝ }
+    requires { ⌜ EdgeOk row col bit t × (matrix ≡ matrixOf t) ⌝ }
     requires { ⌜ (r ≤ 1500) × (c ≤ 1500) ⌝ }
     ensures { λ b. ⌜ b ≡ eqb (predicted (tables (now (h .entry)) (now (v .entry))) (lookupOf t row col orientation) r c) bit ⌝ }
 {
-    let l = crate::transform::transform_edge_lookup(t, row, col, orientation);
+    let l = crate::transform::transform_edge_lookup(t, matrix, row, col, orientation);
     predicted_bit(h, v, l, r, c) == bit
 }

@@ -2,15 +2,19 @@
 ghost use mathlib.Core.Path.{_≡_};
 ghost use Prim.Native.Nat.{_<_, _≤_};
 ghost use lib.IntN.{natAbs};
-ghost use Rattle.board.specs.Transform.{mapped, lookupOf};
-ghost use Rattle.board.specs.TransformLaws.{negates, lying};
+ghost use Rattle.board.specs.Transform.{matrixOf, mat, mapped, lookupOfEnds, lookupOf};
 
-// A transform maps (column, row) by a matrix; the table of the eight is in specs/. An even transform keeps the axes, an odd one exchanges them.
-// Then transform t negates the new column where bit t of the first number is set (1, 2, 4, 7), the new row by the second (2, 3, 6, 7).
-// A table in memory would be copied for each edge.
-const COLUMN_NEGATED: u32 = 0b1001_0110;
-
-const ROW_NEGATED: u32 = 0b1100_1100;
+// The matrices by transform number: row 0 gives the new column, row 1 the new row, of (column, row).
+const TRANSFORMS: [[[i32; 2]; 2]; 8] = [
+    [[1, 0], [0, 1]],
+    [[0, -1], [1, 0]],
+    [[-1, 0], [0, -1]],
+    [[0, 1], [-1, 0]],
+    [[-1, 0], [0, 1]],
+    [[0, 1], [1, 0]],
+    [[1, 0], [0, -1]],
+    [[0, -1], [-1, 0]],
+];
 
 // Where an edge is looked up: its orientation after the transform (0 horizontal, 1 vertical), and the cell relative to the origin.
 pub struct EdgeLookup {
@@ -19,60 +23,74 @@ pub struct EdgeLookup {
     pub col: i32,
 }
 
-// Whether transform t negates the new column (i = 0) or the new row (i = 1).
-fn negated(t: u32, i: u32) -> bool
+// The matrix of transform t. The compiler copies the whole table for each reading, so it is read once for a list, before the loop over the edges.
+pub fn matrix_of(t: u8) -> [[i32; 2]; 2]
     requires { ⌜ t < 8 ⌝ }
-    ensures { λ b. ⌜ b ≡ negates t i ⌝ }
+    ensures { λ m. ⌜ m ≡ matrixOf t ⌝ }
 {
-    if i == 0 {
-        (COLUMN_NEGATED >> t) & 1 == 1
-    } else {
-        (ROW_NEGATED >> t) & 1 == 1
-    }
+    TRANSFORMS[t as usize]
+}
+
+// One entry of the matrix of transform t. Here and below the promise speaks of t, and the matrix is read.
+fn entry(t: u8, matrix: [[i32; 2]; 2], i: usize, j: usize) -> i32
+    requires { ⌜ (matrix ≡ matrixOf t) × (i < 2) × (j < 2) ⌝ }
+    ensures { λ r. ⌜ r ≡ mat t i j ⌝ }
+{
+    matrix[i][j]
 }
 
 // The column (i = 0) or row (i = 1) that transform t maps (col, row) to.
-fn apply(t: u32, i: u32, col: i32, row: i32) -> i32
-    requires { ⌜ (t < 8) × (i < 2) × (natAbs col ≤ 1000000) × (natAbs row ≤ 1000000) ⌝ }
+fn apply(t: u8, matrix: [[i32; 2]; 2], i: usize, col: i32, row: i32) -> i32
+    requires { ⌜ (matrix ≡ matrixOf t) × (i < 2) × (natAbs col ≤ 1000000) × (natAbs row ≤ 1000000) ⌝ }
     ensures { λ r. ⌜ r ≡ mapped t i col row ⌝ }
 {
-    let z = if (t + i) % 2 == 0 { col } else { row };
-    if negated(t, i) { 0 - z } else { z }
+    entry(t, matrix, i, 0) * col + entry(t, matrix, i, 1) * row
 }
 
-// Whether an edge of this orientation is horizontal after transform t.
-fn level(t: u32, orientation: u8) -> bool
-    ensures { λ b. ⌜ b ≡ lying t orientation ⌝ }
+// The lookup of an edge whose ends were mapped to (c, r) and (d, s).
+fn lookup_of_ends(c: i32, r: i32, d: i32, s: i32) -> EdgeLookup
+    requires { ⌜ (natAbs c ≤ 2000001) × (natAbs r ≤ 2000001) × (natAbs d ≤ 2000001) × (natAbs s ≤ 2000001) ⌝ }
+    ensures { λ x. ⌜ x ≡ lookupOfEnds c r d s ⌝ }
 {
-    if orientation == 0 {
-        t % 2 == 0
-    } else {
-        t % 2 == 1
-    }
-}
-
-// Where the edge at (row, col), horizontal for orientation 0, is looked up under transform t. Its first end is mapped to (c, r). The other end is
-// one column or one row further, or one less where that coordinate is negated; then it is the anchor.
-pub fn transform_edge_lookup(t: u8, row: i32, col: i32, orientation: u8) -> EdgeLookup
-    requires { ⌜ (t < 8) × (natAbs row ≤ 1000000) × (natAbs col ≤ 1000000) ⌝ }
-    ensures { λ x. ⌜ x ≡ lookupOf t row col orientation ⌝ }
-{
-    let k = t as u32;
-    let c = apply(k, 0, col, row);
-    let r = apply(k, 1, col, row);
-    if level(k, orientation) {
-        let left = if negated(k, 0) { c - 1 } else { c };
+    if r == s {
+        let a = if c < d { c } else { d };
         EdgeLookup {
             orientation: 0,
             row: r - 1,
-            col: left,
+            col: a,
         }
-    } else {
-        let top = if negated(k, 1) { r - 1 } else { r };
+    } else if r < s {
         EdgeLookup {
             orientation: 1,
-            row: top,
+            row: r,
             col: c - 1,
         }
+    } else {
+        EdgeLookup {
+            orientation: 1,
+            row: s,
+            col: d - 1,
+        }
+    }
+}
+
+// Where the edge at (row, col), horizontal for orientation 0, is looked up under transform t, whose matrix is given. Its first end is mapped to (c, r).
+// The other lies a column or a row further, so it is mapped a column of the matrix further.
+pub fn transform_edge_lookup(
+    t: u8,
+    matrix: [[i32; 2]; 2],
+    row: i32,
+    col: i32,
+    orientation: u8,
+) -> EdgeLookup
+    requires { ⌜ (matrix ≡ matrixOf t) × (natAbs row ≤ 1000000) × (natAbs col ≤ 1000000) ⌝ }
+    ensures { λ x. ⌜ x ≡ lookupOf t row col orientation ⌝ }
+{
+    let c = apply(t, matrix, 0, col, row);
+    let r = apply(t, matrix, 1, col, row);
+    if orientation == 0 {
+        lookup_of_ends(c, r, c + entry(t, matrix, 0, 0), r + entry(t, matrix, 1, 0))
+    } else {
+        lookup_of_ends(c, r, c + entry(t, matrix, 0, 1), r + entry(t, matrix, 1, 1))
     }
 }

@@ -47,6 +47,7 @@ fn count_hits(
         (edges (now (rows .entry)) (now (cols .entry)) (now (orientations .entry)) (now (bits .entry)) (now (confidences .entry)))
         transform row col (tables (now (h .entry)) (now (v .entry))) ⌝ }
 {
+    let matrix = board::transform::matrix_of(transform);
     let mut sum = HitsWeight {
         hits: 0,
         weight: 0.0,
@@ -60,6 +61,7 @@ fn count_hits(
             orientations[i],
             bits[i],
             transform,
+            matrix,
             row,
             col,
         );

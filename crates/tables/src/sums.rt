@@ -38,10 +38,20 @@ fn fill_sums(
     ensures { λ _. ⌜ SumsFilled len tall (edges (now (rows .entry)) (now (cols .entry)) (now (orientations .entry)) (now (bits .entry)) (now (confidences .entry))) (likelihoods (now (matches .entry)) (now (mismatches .entry))) t base (length (now (rows .entry))) (now (sums .entry)) (now (sums .exit)) ⌝ }
 {
     let row = ((len + tall) * 6) as usize;
+    let matrix = board::transform::matrix_of(t);
     let h = laws::modulus_of(len);
     let v = laws::modulus_of(tall);
     for i in 0..rows.len() {
-        let p = crate::groups::group_place(rows[i], cols[i], orientations[i], bits[i], t, h, v);
+        let p = crate::groups::group_place(
+            rows[i],
+            cols[i],
+            orientations[i],
+            bits[i],
+            t,
+            matrix,
+            h,
+            v,
+        );
         let at = base + p as usize;
         let m = likelihood::quantize_ll(matches[i]);
         add_at(sums, at, m);

@@ -1,17 +1,16 @@
 use borrow.Author.Needs.{needs}
-use mathlib.Core.Path.{_≡_, sym, _∙_, ap, ap₂}
-use mathlib.Core.Bool.{Bool, true, false, cond}
-use mathlib.Core.Logic.{⊎-elim}
+use mathlib.Core.Path.{_≡_, sym, subst, _∙_, ap₂}
 use native.Mathlib.Omega.{arith}
-use Prim.Native.Nat.{ℕ, _+_, _≤_}
-use lib.IntN.{ℤ, pos, natAbs, _-ℤ_}
+use Prim.Native.Nat.{ℕ, _≤_}
+use lib.IntN.{ℤ, pos, natAbs, _+ℤ_}
+use borrow.Author.Tests.{eq-eqb, ne-eqb}
 use mir.Syntax.{w32}
-use mir.Val.{toZ}
+use mir.Val.{SFits}
 use mir.Facts.{toZ-ofZ}
-use Rattle.laws.specs.Signed.{read, fits-abs, read-at}
-use Rattle.laws.specs.Whole.{abs-sub}
-use Rattle.board.specs.Transform.{mapped, lookupOf}
-use Rattle.board.specs.TransformLaws.{negates, lying, mapped-abs, levelAt, uprightAt, levelOf, uprightOf, lookup-signed}
+use Rattle.laws.specs.Signed.{read, fit-at, read-at}
+use Rattle.laws.specs.Whole.{abs-add}
+use Rattle.board.specs.Transform.{mat, mapped, joined, lookupOf, lookupOfEnds}
+use Rattle.board.specs.TransformLaws.{mat-unit, mapped-abs, next-col, next-row}
 use Rattle.board.proofs.transform.transform_edge_lookup.Statement.{statement}
 use Rattle.board.proofs.transform.transform_edge_lookup.Tie as tie
 
@@ -21,31 +20,34 @@ apply-requires c κs = search needs
 apply-requires-2 : tie.Need-apply-requires-2
 apply-requires-2 c κs = search needs
 
-level-requires : tie.Need-level-requires
-level-requires c κs = search needs
+entry-requires : tie.Need-entry-requires
+entry-requires c κs = search needs
 
-negated-requires : tie.Need-negated-requires
-negated-requires c κs = search needs
+entry-requires-2 : tie.Need-entry-requires-2
+entry-requires-2 c κs = search needs
 
-negated-requires-2 : tie.Need-negated-requires-2
-negated-requires-2 c κs = search needs
+entry-requires-3 : tie.Need-entry-requires-3
+entry-requires-3 c κs = search needs
 
--- the mapped first end, as it is read back, and one less
+entry-requires-4 : tie.Need-entry-requires-4
+entry-requires-4 c κs = search needs
+
+-- the mapped first end, as it is read back, and the other
 module _ (c : tie.After-apply2) where
   abbrev s : tie.Start
   s = c .before .before
 
+  abbrev t : ℕ
+  t = s .args .t
+
   abbrev at : ℕ → ℤ
-  at i = mapped (s .args .t) i (s .args .col) (s .args .row)
+  at i = mapped t i (s .args .col) (s .args .row)
 
   small : (i : ℕ) → natAbs (at i) ≤ 2000000
-  small i = omega (arith, mapped-abs (s .args .t) i (s .args .col) (s .args .row), s .pre .1, s .pre .2)
+  small i = omega (arith, mapped-abs t i (s .args .col) (s .args .row), s .pre .1, s .pre .2)
 
-  small-less : (i : ℕ) → natAbs (at i -ℤ pos 1) ≤ 2000001
-  small-less i = omega (arith, small i, abs-sub (at i) (pos 1))
-
-  back : (i : ℕ) (x : ℤ) → x ≡ mapped (s .args .t) i (read w32 (s .args .col)) (read w32 (s .args .row)) → read w32 x ≡ at i
-  back i x e = read-at w32 (e ∙ ap₂ (mapped (s .args .t) i) (toZ-ofZ (s .fits .col)) (toZ-ofZ (s .fits .row))) (omega (arith, small i))
+  back : (i : ℕ) (x : ℤ) → x ≡ mapped t i (read w32 (s .args .col)) (read w32 (s .args .row)) → read w32 x ≡ at i
+  back i x e = read-at w32 (e ∙ ap₂ (mapped t i) (toZ-ofZ (s .fits .col)) (toZ-ofZ (s .fits .row))) (omega (arith, small i))
 
   col-is : read w32 (c .before .apply .result) ≡ at 0
   col-is = back 0 _ (c .before .apply .ensures)
@@ -53,64 +55,79 @@ module _ (c : tie.After-apply2) where
   row-is : read w32 (c .apply2 .result) ≡ at 1
   row-is = back 1 _ (c .apply2 .ensures)
 
-  module _ (i : ℕ) (x : ℤ) (e : read w32 x ≡ at i) where
-    less : read w32 x -ℤ pos 1 ≡ at i -ℤ pos 1
-    less = ap (λ (z : ℤ). z -ℤ pos 1) e
+  -- x is read back as a mapped coordinate, and y is an entry of the matrix
+  module _ (i j : ℕ) (x y : ℤ) (e : read w32 x ≡ at i) (m : y ≡ mat t i j) where
+    moved : read w32 x +ℤ read w32 y ≡ at i +ℤ mat t i j
+    moved = ap₂ _+ℤ_ e (read-at w32 m (omega (arith, mat-unit t i j)))
 
-    is-less : read w32 (read w32 x -ℤ pos 1) ≡ at i -ℤ pos 1
-    is-less = read-at w32 less (omega (arith, small-less i))
+    small-moved : natAbs (at i +ℤ mat t i j) ≤ 2000001
+    small-moved = omega (arith, small i, mat-unit t i j, abs-add (at i) (mat t i j))
 
-  -- a coordinate of it less 0, 1 or 2 fits, so that what is subtracted is judged by the lookup alone
-  small-by : (i d : ℕ) → natAbs (at i -ℤ pos d) ≤ 2000000 + d
-  small-by i d = omega (arith, small i, abs-sub (at i) (pos d))
+    fits-moved : SFits w32 (read w32 x +ℤ read w32 y)
+    fits-moved = fit-at w32 moved (omega (arith, small-moved))
 
-  looked-up : (b : Bool) → lying (s .args .t) (s .args .orientation) ≡ b
-      → cond b (levelOf (at 0) (at 1) (s .args .t)) (uprightOf (at 0) (at 1) (s .args .t)) ≡ lookupOf (s .args .t) (s .args .row) (s .args .col) (s .args .orientation)
-  looked-up b e =
-      sym (lookup-signed (s .args .t) (s .args .row) (s .args .col) (s .args .orientation) (s .pre .0)
-      ∙ ap (λ (x : Bool). cond x (levelOf (at 0) (at 1) (s .args .t)) (uprightOf (at 0) (at 1) (s .args .t))) e)
+    is-moved : read w32 (read w32 x +ℤ read w32 y) ≡ at i +ℤ mat t i j
+    is-moved = read-at w32 moved (omega (arith, small-moved))
 
-sub-left : tie.Need-sub-left
-sub-left c = let k = c .before .before .before .before in rw (col-is k) (fits-abs {w = w32} _ (omega (arith, small-by k 0 0, small-by k 0 1, small-by k 0 2)))
+    near-moved : natAbs (read w32 (read w32 x +ℤ read w32 y)) ≤ 2000001
+    near-moved = subst (λ (z : ℤ). natAbs z ≤ 2000001) (sym is-moved) small-moved
 
-sub-t14 : tie.Need-sub-t14
-sub-t14 c = let k = c .before .before .before .before in rw (row-is k) (fits-abs {w = w32} _ (omega (arith, small-by k 1 0, small-by k 1 1, small-by k 1 2)))
+  near-col : natAbs (read w32 (c .before .apply .result)) ≤ 2000001
+  near-col = subst (λ (z : ℤ). natAbs z ≤ 2000001) (sym col-is) (omega (arith, small 0))
 
-sub-top : tie.Need-sub-top
-sub-top c = let k = c .before .before .before .before in rw (row-is k) (fits-abs {w = w32} _ (omega (arith, small-by k 1 0, small-by k 1 1, small-by k 1 2)))
+  near-row : natAbs (read w32 (c .apply2 .result)) ≤ 2000001
+  near-row = subst (λ (z : ℤ). natAbs z ≤ 2000001) (sym row-is) (omega (arith, small 1))
 
-sub-t17 : tie.Need-sub-t17
-sub-t17 c = let k = c .before .before .before .before in rw (col-is k) (fits-abs {w = w32} _ (omega (arith, small-by k 0 0, small-by k 0 1, small-by k 0 2)))
+  -- the edge along a row, and along a column
+  along : lookupOfEnds (at 0) (at 1) (at 0 +ℤ mat t 0 0) (at 1 +ℤ mat t 1 0) ≡ joined t (s .args .col) (s .args .row) (s .args .col +ℤ pos 1) (s .args .row)
+  unfolding joined
+  along = ap₂ (lookupOfEnds (at 0) (at 1)) (sym (next-col t 0 (s .args .col) (s .args .row))) (sym (next-col t 1 (s .args .col) (s .args .row)))
 
--- the anchor's column, of a level edge
-left-is : (c : tie.Joined2) → let k = c .before .before .before .before in toZ w32 (c .if2 .left) ≡ cond (negates (s k .args .t) 0) (at k 0 -ℤ pos 1) (at k 0)
-left-is c =
-    let k = c .before .before .before .before in
-    let e = c .before .negated .ensures in
-    ⊎-elim
-    (λ w. ap (toZ w32) (w .1) ∙ is-less k 0 (k .before .apply .result) (col-is k) ∙ sym (ap (λ (b : Bool). cond b (at k 0 -ℤ pos 1) (at k 0)) (sym e ∙ w .0 .taken)))
-    (λ w. ap (toZ w32) (w .1) ∙ col-is k ∙ sym (ap (λ (b : Bool). cond b (at k 0 -ℤ pos 1) (at k 0)) (sym e ∙ w .0 .left)))
-    (c .if2 .came)
+  down : lookupOfEnds (at 0) (at 1) (at 0 +ℤ mat t 0 1) (at 1 +ℤ mat t 1 1) ≡ joined t (s .args .col) (s .args .row) (s .args .col) (s .args .row +ℤ pos 1)
+  unfolding joined
+  down = ap₂ (lookupOfEnds (at 0) (at 1)) (sym (next-row t 0 (s .args .col) (s .args .row))) (sym (next-row t 1 (s .args .col) (s .args .row)))
 
--- the anchor's row, of an upright one
-top-is : (c : tie.Joined3) → let k = c .before .before .before .before in toZ w32 (c .if3 .top) ≡ cond (negates (s k .args .t) 1) (at k 1 -ℤ pos 1) (at k 1)
-top-is c =
-    let k = c .before .before .before .before in
-    let e = c .before .negated2 .ensures in
-    ⊎-elim
-    (λ w. ap (toZ w32) (w .1) ∙ is-less k 1 (k .apply2 .result) (row-is k) ∙ sym (ap (λ (b : Bool). cond b (at k 1 -ℤ pos 1) (at k 1)) (sym e ∙ w .0 .taken)))
-    (λ w. ap (toZ w32) (w .1) ∙ row-is k ∙ sym (ap (λ (b : Bool). cond b (at k 1 -ℤ pos 1) (at k 1)) (sym e ∙ w .0 .left)))
-    (c .if3 .came)
+add-lookup-of-ends : tie.Need-add-lookup-of-ends
+add-lookup-of-ends c = let k = c .before .before in fits-moved k 0 _ (k .before .apply .result) _ (col-is k) (c .entry .ensures)
+
+add-lookup-of-ends-2 : tie.Need-add-lookup-of-ends-2
+add-lookup-of-ends-2 c = let k = c .before .before .before in fits-moved k 1 _ (k .apply2 .result) _ (row-is k) (c .entry2 .ensures)
+
+lookup-of-ends-requires : tie.Need-lookup-of-ends-requires
+lookup-of-ends-requires c κs =
+    let k = c .before .before .before in
+    (near-col k, near-row k, near-moved k 0 _ (k .before .apply .result) _ (col-is k) (c .before .entry .ensures), near-moved k 1 _ (k .apply2 .result) _ (row-is k) (c .entry2 .ensures))
+
+add-lookup-of-ends-3 : tie.Need-add-lookup-of-ends-3
+add-lookup-of-ends-3 c = let k = c .before .before in fits-moved k 0 _ (k .before .apply .result) _ (col-is k) (c .entry3 .ensures)
+
+add-lookup-of-ends-4 : tie.Need-add-lookup-of-ends-4
+add-lookup-of-ends-4 c = let k = c .before .before .before in fits-moved k 1 _ (k .apply2 .result) _ (row-is k) (c .entry4 .ensures)
+
+lookup-of-ends-requires-2 : tie.Need-lookup-of-ends-requires-2
+lookup-of-ends-requires-2 c κs =
+    let k = c .before .before .before in
+    (near-col k, near-row k, near-moved k 0 _ (k .before .apply .result) _ (col-is k) (c .before .entry3 .ensures), near-moved k 1 _ (k .apply2 .result) _ (row-is k) (c .entry4 .ensures))
 
 returns : tie.Need-returns
+unfolding lookupOf
 returns c =
-    let k = c .before .before .before .before in
-    ap₂ levelAt (is-less k 1 (k .apply2 .result) (row-is k)) (left-is c) ∙ looked-up k true (sym (c .before .before .before .level .ensures) ∙ c .before .before .if1 .taken)
+    let e = c .before in
+    let k = e .before .before .before in
+    c .lookup-of-ends .ensures
+    ∙ (λ i. lookupOfEnds (col-is k i) (row-is k i) (is-moved k 0 _ (k .before .apply .result) _ (col-is k) (e .before .entry .ensures) i) (is-moved k 1 _ (k .apply2 .result) _ (row-is k) (e .entry2 .ensures) i))
+    ∙ along k
+    ∙ sym (rw (eq-eqb (s k .args .orientation) 0 (e .before .before .if1 .taken)))
 
 returns-2 : tie.Need-returns-2
+unfolding lookupOf
 returns-2 c =
-    let k = c .before .before .before .before in
-    ap₂ uprightAt (top-is c) (is-less k 0 (k .before .apply .result) (col-is k)) ∙ looked-up k false (sym (c .before .before .before .level .ensures) ∙ c .before .before .if1 .left)
+    let e = c .before in
+    let k = e .before .before .before in
+    c .lookup-of-ends2 .ensures
+    ∙ (λ i. lookupOfEnds (col-is k i) (row-is k i) (is-moved k 0 _ (k .before .apply .result) _ (col-is k) (e .before .entry3 .ensures) i) (is-moved k 1 _ (k .apply2 .result) _ (row-is k) (e .entry4 .ensures) i))
+    ∙ down k
+    ∙ sym (rw (ne-eqb (s k .args .orientation) 0 (e .before .before .if1 .left)))
 
 pub transform-edge-lookup-spec : {M : Type 1} → statement M
 transform-edge-lookup-spec =
@@ -118,12 +135,15 @@ transform-edge-lookup-spec =
     (tie.spec
     apply-requires
     apply-requires-2
-    level-requires
-    negated-requires
-    sub-left
-    sub-t14
-    negated-requires-2
-    sub-top
-    sub-t17
+    entry-requires
+    add-lookup-of-ends
+    entry-requires-2
+    add-lookup-of-ends-2
+    lookup-of-ends-requires
+    entry-requires-3
+    add-lookup-of-ends-3
+    entry-requires-4
+    add-lookup-of-ends-4
+    lookup-of-ends-requires-2
     returns
     returns-2)

@@ -18,12 +18,15 @@ use Rattle.puzzleboard.proofs.stats.count_hits.Statement.{statement}
 use Rattle.puzzleboard.proofs.stats.count_hits.Tie as tie
 
 abbrev Inv-loop : tie.InvT-loop
-Inv-loop rows cols orientations bits confidences transform row col h v sum₀ i₀ i-end sum i =
+Inv-loop rows cols orientations bits confidences transform row col h v matrix sum₀ i₀ i-end sum i =
     (i ≤ length rows) × (sum ≡ soFar (edges rows cols orientations bits confidences) transform row col (tables h v) i)
 
 abbrev μ-loop : tie.MeasureT-loop
-μ-loop rows cols orientations bits confidences transform row col h v sum₀ i₀ i-end sum i =
+μ-loop rows cols orientations bits confidences transform row col h v matrix sum₀ i₀ i-end sum i =
     i-end - i
+
+matrix-of-requires : tie.Need-matrix-of-requires Inv-loop μ-loop
+matrix-of-requires c κs = c .before .before .before .before .before .pre .transform
 
 loop-holds : tie.Need-loop-holds Inv-loop μ-loop
 unfolding ofBits
@@ -32,7 +35,7 @@ loop-holds c = (omega arith, so-far-none _ _ _ _ _)
 -- the edge of this turn
 module _ (c : tie.In-loop Inv-loop μ-loop) where
   abbrev st : tie.Start Inv-loop μ-loop
-  st = c .before .before .before .before .before .before .before
+  st = c .before .before .before .before .before .before .before .before
 
   abbrev at : ℕ
   at = c .before .loop .i
@@ -71,7 +74,7 @@ is-hit-requires : tie.Need-is-hit-requires Inv-loop μ-loop
 is-hit-requires c κs =
     let l = c .before .before .before .before in
     let p = st l .pre in
-    (p .board, (rw (row-back l, col-back l) (edge-ok (E l) (st l .args .transform) (st l .args .row) (st l .args .col) (B l) p (at l) (l .loop-test .taken)), (omega (arith, p .origin .0), omega (arith, p .origin .1))))
+    (p .board, ((rw (row-back l, col-back l) (edge-ok (E l) (st l .args .transform) (st l .args .row) (st l .args .col) (B l) p (at l) (l .loop-test .taken)), l .before .before .matrix-of .ensures), (omega (arith, p .origin .0), omega (arith, p .origin .1))))
 
 mul-add-edge : tie.Need-mul-add-edge Inv-loop μ-loop
 mul-add-edge c = let l = c .before .before .before .before .before in omega (arith, st l .pre .list .confidences)
@@ -107,7 +110,7 @@ loop-again c =
 
 returns : tie.Need-returns Inv-loop μ-loop
 returns c =
-    let s = c .before .before .before .before .before .before .before in
+    let s = c .before .before .before .before .before .before .before .before in
     let e : c .before .loop .i ≡ length (now (s .args .rows)) = omega (arith, c .before .loop .inv .0) in
     c .before .loop .inv .1 ∙ ap (soFar _ _ _ _ _) e ∙ so-far-all _ _ _ _ _
 
@@ -117,6 +120,7 @@ count-hits-spec =
     (tie.spec
     Inv-loop
     μ-loop
+    matrix-of-requires
     loop-holds
     mul-is-hit
     shared-slice-copy-out-is-hit

@@ -17,21 +17,24 @@ use Rattle.tables.proofs.groups.fill_groups.Statement.{statement}
 use Rattle.tables.proofs.groups.fill_groups.Tie as tie
 
 abbrev Inv-loop : tie.InvT-loop
-Inv-loop rows cols orientations bits confidences t len tall base counts₀ weights₀ h v i₀ i-end counts weights i =
+Inv-loop rows cols orientations bits confidences t len tall base counts₀ weights₀ matrix h v i₀ i-end counts weights i =
     (i ≤ length rows) × Filled len tall (edges rows cols orientations bits confidences) t base i counts₀ counts weights₀ weights
 
 abbrev μ-loop : tie.MeasureT-loop
-μ-loop rows cols orientations bits confidences t len tall base counts₀ weights₀ h v i₀ i-end counts weights i =
+μ-loop rows cols orientations bits confidences t len tall base counts₀ weights₀ matrix h v i₀ i-end counts weights i =
     i-end - i
 
+matrix-of-requires : tie.Need-matrix-of-requires Inv-loop μ-loop
+matrix-of-requires c κs = c .before .before .before .before .before .pre .transform
+
 modulus-of-requires : tie.Need-modulus-of-requires Inv-loop μ-loop
-modulus-of-requires c κs = let p = c .before .before .before .before .before .pre in (p .periods .some .0, p .periods .few .0)
+modulus-of-requires c κs = let p = c .before .before .before .before .before .before .pre in (p .periods .some .0, p .periods .few .0)
 
 modulus-of-requires-2 : tie.Need-modulus-of-requires-2 Inv-loop μ-loop
-modulus-of-requires-2 c κs = let p = c .before .before .before .before .before .before .pre in (p .periods .some .1, p .periods .few .1)
+modulus-of-requires-2 c κs = let p = c .before .before .before .before .before .before .before .pre in (p .periods .some .1, p .periods .few .1)
 
 loop-holds : tie.Need-loop-holds Inv-loop μ-loop
-loop-holds c = (omega arith, filled-none _ _ _ _ _ _ _ (c .before .before .before .before .before .before .before .pre))
+loop-holds c = (omega arith, filled-none _ _ _ _ _ _ _ (c .before .before .before .before .before .before .before .before .pre))
 
 mul-group-place : tie.Need-mul-group-place Inv-loop μ-loop
 mul-group-place c = omega arith
@@ -54,7 +57,7 @@ shared-slice-read-group-place-2 c = omega arith
 -- the edge's coordinates, as they are read back
 module _ (c : tie.In-loop Inv-loop μ-loop) where
   abbrev st : tie.Start Inv-loop μ-loop
-  st = c .before .before .before .before .before .before .before .before .before
+  st = c .before .before .before .before .before .before .before .before .before .before
 
   row-back : let z = getD (now (st .args .rows)) (c .before .loop .i) (pos 0) in read w32 z ≡ z
   row-back = read-at w32 refl (omega (arith, st .pre .list .near-row (c .before .loop .i) (c .loop-test .taken)))
@@ -68,7 +71,7 @@ group-place-requires c κs =
     let p = st l .pre in
     let i = l .before .loop .i in
     let h = l .loop-test .taken in
-    (rw (row-back l, col-back l) (record { near-row = p .list .near-row i h; near-col = p .list .near-col i h; bit = p .list .bit i h; transform = p .transform }), (modulus-ok _ _ (l .before .before .before .modulus-of .ensures) (p .periods .some .0) (p .periods .few .0), modulus-ok _ _ (l .before .before .modulus-of2 .ensures) (p .periods .some .1) (p .periods .few .1)))
+    (rw (row-back l, col-back l) (record { near-row = p .list .near-row i h; near-col = p .list .near-col i h; bit = p .list .bit i h; transform = p .transform }), (modulus-ok _ _ (l .before .before .before .modulus-of .ensures) (p .periods .some .0) (p .periods .few .0), modulus-ok _ _ (l .before .before .modulus-of2 .ensures) (p .periods .some .1) (p .periods .few .1), l .before .before .before .before .matrix-of .ensures))
 
 -- the place of its group, and the room there
 module _ (c : tie.After-group-place Inv-loop μ-loop) where
@@ -159,7 +162,7 @@ same-length-2 c = c .before .loop .inv .1 .weights .len
 returns : tie.Need-returns Inv-loop μ-loop
 returns c =
     let l = c .before .loop in
-    let a = c .before .before .before .before .before .before .before .before .before .args in
+    let a = c .before .before .before .before .before .before .before .before .before .before .args in
     let e : l .i ≡ length (now (a .rows)) = omega arith in
     subst (λ (n : ℕ). Filled (a .len) (a .tall) (edges (now (a .rows)) (now (a .cols)) (now (a .orientations)) (now (a .bits)) (now (a .confidences))) (a .t) (a .base) n (now (a .counts)) (l .counts) (now (a .weights)) (l .weights)) e (l .inv .1)
 
@@ -169,6 +172,7 @@ fill-groups-spec =
     (tie.spec
     Inv-loop
     μ-loop
+    matrix-of-requires
     modulus-of-requires
     modulus-of-requires-2
     loop-holds

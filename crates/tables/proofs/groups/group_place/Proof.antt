@@ -34,8 +34,8 @@ module _ (c : tie.After-struct-known) where
   found : got ≡ lookupOf (st .args .t) (st .args .row) (st .args .col) (st .args .orientation)
   found = c .before .before .before .transform-edge-lookup .ensures ∙ ap₂ (λ (x y : ℤ). lookupOf (st .args .t) x y (st .args .orientation)) (toZ-ofZ (st .fits .row)) (toZ-ofZ (st .fits .col))
 
-  near : (natAbs (got .row) ≤ 2000001) × (natAbs (got .col) ≤ 2000001)
-  near = subst (λ (l : EdgeLookup). (natAbs (l .row) ≤ 2000001) × (natAbs (l .col) ≤ 2000001)) (sym found) (lookup-near (st .args .t) (st .args .row) (st .args .col) (st .args .orientation) (st .pre .0 .transform) (st .pre .0 .near-row) (st .pre .0 .near-col))
+  near : (natAbs (got .row) ≤ 2000002) × (natAbs (got .col) ≤ 2000002)
+  near = subst (λ (l : EdgeLookup). (natAbs (l .row) ≤ 2000002) × (natAbs (l .col) ≤ 2000002)) (sym found) (lookup-near (st .args .t) (st .args .row) (st .args .col) (st .args .orientation) (st .pre .0 .near-row) (st .pre .0 .near-col))
 
   periods : Periods L M
   periods = record { some = (st .pre .1 .0 .more, st .pre .1 .1 .more); few = (st .pre .1 .0 .few, st .pre .1 .1 .few) }

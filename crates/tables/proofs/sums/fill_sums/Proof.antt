@@ -22,10 +22,10 @@ use Rattle.tables.proofs.sums.fill_sums.Statement.{statement}
 use Rattle.tables.proofs.sums.fill_sums.Tie as tie
 
 abbrev Inv-loop : tie.InvT-loop
-Inv-loop rows cols orientations bits confidences matches mismatches t len tall base sums₀ row h v i₀ i-end sums i = (i ≤ length rows) × SumsFilled len tall (edges rows cols orientations bits confidences) (likelihoods matches mismatches) t base i sums₀ sums
+Inv-loop rows cols orientations bits confidences matches mismatches t len tall base sums₀ row matrix h v i₀ i-end sums i = (i ≤ length rows) × SumsFilled len tall (edges rows cols orientations bits confidences) (likelihoods matches mismatches) t base i sums₀ sums
 
 abbrev μ-loop : tie.MeasureT-loop
-μ-loop rows cols orientations bits confidences matches mismatches t len tall base sums₀ row h v i₀ i-end sums i = i-end - i
+μ-loop rows cols orientations bits confidences matches mismatches t len tall base sums₀ row matrix h v i₀ i-end sums i = i-end - i
 
 add-row : tie.Need-add-row Inv-loop μ-loop
 add-row c = omega arith
@@ -36,14 +36,17 @@ mul-row c = omega arith
 cast-row : tie.Need-cast-row Inv-loop μ-loop
 cast-row c = omega arith
 
+matrix-of-requires : tie.Need-matrix-of-requires Inv-loop μ-loop
+matrix-of-requires c κs = c .before .before .before .before .before .pre .transform
+
 modulus-of-requires : tie.Need-modulus-of-requires Inv-loop μ-loop
-modulus-of-requires c κs = let p = c .before .before .before .before .before .pre in (p .periods .some .0, p .periods .few .0)
+modulus-of-requires c κs = let p = c .before .before .before .before .before .before .pre in (p .periods .some .0, p .periods .few .0)
 
 modulus-of-requires-2 : tie.Need-modulus-of-requires-2 Inv-loop μ-loop
-modulus-of-requires-2 c κs = let p = c .before .before .before .before .before .before .pre in (p .periods .some .1, p .periods .few .1)
+modulus-of-requires-2 c κs = let p = c .before .before .before .before .before .before .before .pre in (p .periods .some .1, p .periods .few .1)
 
 loop-holds : tie.Need-loop-holds Inv-loop μ-loop
-loop-holds c = (omega arith, sums-none _ _ _ _ _ _ _ (c .before .before .before .before .before .before .before .pre))
+loop-holds c = (omega arith, sums-none _ _ _ _ _ _ _ (c .before .before .before .before .before .before .before .before .pre))
 
 mul-group-place : tie.Need-mul-group-place Inv-loop μ-loop
 mul-group-place c = omega arith
@@ -66,7 +69,7 @@ shared-slice-read-group-place-2 c = omega arith
 -- the edge's coordinates, as they are read back
 module _ (c : tie.In-loop Inv-loop μ-loop) where
   abbrev st : tie.Start Inv-loop μ-loop
-  st = c .before .before .before .before .before .before .before .before .before
+  st = c .before .before .before .before .before .before .before .before .before .before
 
   abbrev i : ℕ
   i = c .before .loop .i
@@ -88,7 +91,7 @@ group-place-requires c κs =
     let l = c .before .before .before .before in
     let p = st l .pre in
     let h = l .loop-test .taken in
-    (rw (row-back l, col-back l) (record { near-row = p .list .near-row (i l) h; near-col = p .list .near-col (i l) h; bit = p .list .bit (i l) h; transform = p .transform }), (modulus-ok _ _ (l .before .before .before .modulus-of .ensures) (p .periods .some .0) (p .periods .few .0), modulus-ok _ _ (l .before .before .modulus-of2 .ensures) (p .periods .some .1) (p .periods .few .1)))
+    (rw (row-back l, col-back l) (record { near-row = p .list .near-row (i l) h; near-col = p .list .near-col (i l) h; bit = p .list .bit (i l) h; transform = p .transform }), (modulus-ok _ _ (l .before .before .before .modulus-of .ensures) (p .periods .some .0) (p .periods .few .0), modulus-ok _ _ (l .before .before .modulus-of2 .ensures) (p .periods .some .1) (p .periods .few .1), l .before .before .before .before .matrix-of .ensures))
 
 -- the place of its groups
 module _ (c : tie.After-group-place Inv-loop μ-loop) where
@@ -207,7 +210,7 @@ same-length c = c .before .loop .inv .1 .len
 returns : tie.Need-returns Inv-loop μ-loop
 returns c =
     let l = c .before .loop in
-    let a = c .before .before .before .before .before .before .before .before .before .args in
+    let a = c .before .before .before .before .before .before .before .before .before .before .args in
     let e : l .i ≡ length (now (a .rows)) = omega arith in
     subst (λ (n : ℕ). SumsFilled (a .len) (a .tall) (edges (now (a .rows)) (now (a .cols)) (now (a .orientations)) (now (a .bits)) (now (a .confidences))) (likelihoods (now (a .matches)) (now (a .mismatches))) (a .t) (a .base) n (now (a .sums)) (l .sums)) e (l .inv .1)
 
@@ -220,6 +223,7 @@ fill-sums-spec =
     add-row
     mul-row
     cast-row
+    matrix-of-requires
     modulus-of-requires
     modulus-of-requires-2
     loop-holds

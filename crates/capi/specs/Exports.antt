@@ -5,7 +5,7 @@ use Prim.Native.Nat.{ℕ}
 use lib.IntN.{ℤ}
 use lib.Ieee.{Float}
 use Rattle.board.specs.Hits.{EdgeList, Board}
-use Rattle.tables.specs.Sums.{Likelihoods}
+use Rattle.sums.specs.Sums.{Likelihoods}
 use Rattle.puzzleboard.specs.declared.answer.Answer.{Answer}
 use Rattle.puzzleboard.specs.Hard.{HardDone}
 use Rattle.puzzleboard.specs.Soft.{SoftDone}

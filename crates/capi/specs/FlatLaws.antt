@@ -7,9 +7,9 @@ use lib.Dec.{ltb, eqb}
 use lib.IntN.{ℤ}
 use lib.Ieee.{Float}
 use Rattle.board.specs.Hits.{EdgeList, Board, size}
-use Rattle.tables.specs.Sums.{Likelihoods}
+use Rattle.sums.specs.Sums.{Likelihoods}
 use Rattle.checks.specs.Checks.{lengthsDiffer, sizeBad, confidenceBad}
-use Rattle.checks.specs.Refusals.{numbered, fieldsBad, statsRefusal}
+use Rattle.admission.specs.Refusals.{numbered, fieldsBad, statsRefusal}
 use Rattle.puzzleboard.specs.declared.answer.Answer.{Answer}
 use Rattle.puzzleboard.specs.declared.answer.Answer.the-variants.{Found, Refused}
 use Rattle.puzzleboard.specs.declared.answer.MatchStats.{MatchStats}

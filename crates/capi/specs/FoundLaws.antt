@@ -12,14 +12,14 @@ use borrow.Author.Tests.{eq-eqb}
 use Rattle.laws.specs.Tests.{clash}
 use Rattle.laws.specs.Weights.{oneF}
 use Rattle.board.specs.Hits.{EdgeList, Board, size}
-use Rattle.tables.specs.Sums.{Likelihoods}
-use Rattle.checks.specs.declared.refusal.Refusal.{Refusal}
-use Rattle.checks.specs.Refusals.{numbered, hardRefusal, softRefusal, statsRefusal}
-use Rattle.hard.specs.declared.scan.Choice.{Choice}
-use Rattle.hard.specs.declared.scan.Choice.the-variants as choice
-use Rattle.hard.specs.declared.scan.Candidate.{Candidate}
-use Rattle.hard.specs.declared.scan.RunnerUp.{RunnerUp}
-use Rattle.hard.specs.Scan.{chosen}
+use Rattle.sums.specs.Sums.{Likelihoods}
+use Rattle.admission.specs.declared.refusal.Refusal.{Refusal}
+use Rattle.admission.specs.Refusals.{numbered, hardRefusal, softRefusal, statsRefusal}
+use Rattle.scan.specs.declared.scan.Choice.{Choice}
+use Rattle.scan.specs.declared.scan.Choice.the-variants as choice
+use Rattle.scan.specs.declared.scan.Candidate.{Candidate}
+use Rattle.scan.specs.declared.scan.RunnerUp.{RunnerUp}
+use Rattle.scan.specs.Scan.{chosen}
 use Rattle.figures.specs.Gate.{passed}
 use Rattle.figures.specs.Figures.{noConfidence}
 use Rattle.hard.specs.Select.{orRefused, scanOf, selection}

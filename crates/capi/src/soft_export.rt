@@ -1,6 +1,6 @@
 // Soft decode for C and Rust programs: each slice is a pointer and then its length.
 ghost use Rattle.board.specs.Hits.{edges, tables};
-ghost use Rattle.tables.specs.Sums.{likelihoods};
+ghost use Rattle.sums.specs.Sums.{likelihoods};
 ghost use Rattle.capi.specs.Exports.{SoftFlat};
 use crate::flat::FlatAnswer;
 

@@ -1,4 +1,1 @@
 pub mod Checks
-pub mod Refusals
-pub mod RefusalLaws
-pub mod Accepted

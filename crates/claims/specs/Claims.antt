@@ -14,10 +14,10 @@ use borrow.Author.Tests.{eq-eqb, ne-eqb, eqb-true}
 use Rattle.laws.specs.Weights.{zeroF}
 use Rattle.laws.specs.Cleared.{cleared-written}
 use Rattle.board.specs.Hits.{EdgeList, Board, Placing, size, hits}
-use Rattle.tables.specs.Sums.{Likelihoods}
-use Rattle.checks.specs.declared.refusal.Refusal.{Refusal}
-use Rattle.checks.specs.Refusals.{hardRefusal, softRefusal, statsRefusal}
-use Rattle.checks.specs.Accepted.{HardAccepted, hard-accepted, SoftAccepted, soft-accepted}
+use Rattle.sums.specs.Sums.{Likelihoods}
+use Rattle.admission.specs.declared.refusal.Refusal.{Refusal}
+use Rattle.admission.specs.Refusals.{hardRefusal, softRefusal, statsRefusal}
+use Rattle.admission.specs.Accepted.{HardAccepted, hard-accepted, SoftAccepted, soft-accepted}
 use Rattle.figures.specs.Figures.{noConfidence}
 use Rattle.soft.specs.Margin.{belowMargin}
 use Rattle.puzzleboard.specs.declared.answer.Decoded.{Decoded}

@@ -11,16 +11,16 @@ use lib.Ieee.{Float, lt}
 use borrow.Author.Tests.{ltb-true, ltb-false, eqb-true}
 use Rattle.laws.specs.Tests.{clash, cases, compared, split, or-true, or-false, and-true}
 use Rattle.laws.specs.Grid.{origins}
-use Rattle.hard.specs.CellTables.{CellTables}
-use Rattle.hard.specs.Lex.{lexOf}
-use Rattle.hard.specs.Scan.{overLimit, takes, replaced, offeredWithin, emptyScan, SoundKept, SoundScan}
-use Rattle.hard.specs.Direct.{pairHits, originCandidate, tried}
+use Rattle.best.specs.CellTables.{CellTables}
+use Rattle.best.specs.Lex.{lexOf}
+use Rattle.scan.specs.Scan.{overLimit, takes, replaced, offeredWithin, emptyScan, SoundKept, SoundScan}
+use Rattle.direct.specs.Direct.{pairHits, originCandidate, tried}
 use Rattle.hard.specs.Transform.{bestOrigin, bestHits, bestCandidate, offeredBy, selected}
 use Rattle.hard.specs.TransformLaws.{by-none, by-direct, by-best, selected-none, selected-count, keptAt, selected-best}
-use Rattle.hard.specs.declared.lex.LexMax.{LexMax}
-use Rattle.hard.specs.declared.scan.Candidate.{Candidate}
-use Rattle.hard.specs.declared.scan.Kept.{Kept}
-use Rattle.hard.specs.declared.scan.Kept.the-variants.{Nobody, One}
+use Rattle.best.specs.declared.lex.LexMax.{LexMax}
+use Rattle.scan.specs.declared.scan.Candidate.{Candidate}
+use Rattle.scan.specs.declared.scan.Kept.{Kept}
+use Rattle.scan.specs.declared.scan.Kept.the-variants.{Nobody, One}
 
 -- of the candidates S: nobody where there is none, else one of them, and none has more hits
 abbrev pub MostOf : (Candidate → Type 0) → Kept → Type 0

@@ -4,16 +4,16 @@ use mathlib.Core.Bool.{true, false, cond}
 use Prim.Native.Nat.{ℕ, _+_, _*_, _≤_, _<_}
 use lib.Ieee.{Float}
 use Rattle.laws.specs.Grid.{origins}
-use Rattle.hard.specs.CellTables.{CellTables}
+use Rattle.best.specs.CellTables.{CellTables}
 use Rattle.figures.specs.Gate.{passed}
-use Rattle.hard.specs.Scan.{chosen}
-use Rattle.hard.specs.Direct.{pairHits}
+use Rattle.scan.specs.Scan.{chosen}
+use Rattle.direct.specs.Direct.{pairHits}
 use Rattle.hard.specs.Transform.{selected}
 use Rattle.hard.specs.Placings.{Outcome, refused-11, refused-13, found, SomeWithin, Sole, MostOther}
-use Rattle.hard.specs.declared.scan.Candidate.{Candidate}
-use Rattle.hard.specs.declared.scan.RunnerUp.{RunnerUp}
-use Rattle.hard.specs.declared.scan.Choice.{Choice}
-use Rattle.hard.specs.declared.scan.Choice.the-variants.{Nothing, Chosen}
+use Rattle.scan.specs.declared.scan.Candidate.{Candidate}
+use Rattle.scan.specs.declared.scan.RunnerUp.{RunnerUp}
+use Rattle.scan.specs.declared.scan.Choice.{Choice}
+use Rattle.scan.specs.declared.scan.Choice.the-variants.{Nothing, Chosen}
 
 -- the hits of the origin with the key k at list position p, by that position's tables
 abbrev pub hitsOf : ℕ → ℕ → (ℕ → CellTables) → ℕ → ℕ → ℕ

@@ -6,9 +6,9 @@ use Prim.Native.Nat.{ℕ, _≤_, _<_}
 use lib.Ieee.{Float}
 use Rattle.laws.specs.Tests.{clash, not-so}
 use Rattle.laws.specs.Grid.{origins}
-use Rattle.hard.specs.CellTables.{CellTables, Period, TablesOk}
+use Rattle.best.specs.CellTables.{CellTables, Period, TablesOk}
 use Rattle.figures.specs.Gate.{passed}
-use Rattle.hard.specs.Scan.{overLimit, runnerUp}
+use Rattle.scan.specs.Scan.{overLimit, runnerUp}
 use Rattle.hard.specs.Transform.{bestOrigin, bestAt, selected}
 use Rattle.hard.specs.TransformLaws.{best-under}
 use Rattle.hard.specs.RateLaws.{fewer-over}
@@ -17,10 +17,10 @@ use Rattle.hard.specs.Placings.{refused-13, found, NoneWithin, Sole, Mos
 use Rattle.hard.specs.PlacingsLaws.{sole-only}
 use Rattle.hard.specs.OneList.{hitsOf, keyAt, originNumber, outcomeOf, choice, Stopped, Unclear, Passes, Reported, InRange}
 use Rattle.hard.specs.WinnerLaws.{Winner, Chose, is-chosen, next-most, in-range, ahead, passes, place-named}
-use Rattle.hard.specs.declared.scan.Candidate.{Candidate}
-use Rattle.hard.specs.declared.scan.RunnerUp.{RunnerUp}
-use Rattle.hard.specs.declared.scan.Choice.{Choice}
-use Rattle.hard.specs.declared.scan.Choice.the-variants.{Nothing, Chosen}
+use Rattle.scan.specs.declared.scan.Candidate.{Candidate}
+use Rattle.scan.specs.declared.scan.RunnerUp.{RunnerUp}
+use Rattle.scan.specs.declared.scan.Choice.{Choice}
+use Rattle.scan.specs.declared.scan.Choice.the-variants.{Nothing, Chosen}
 
 -- n positions, at most eight, each with the tables of a list of `edges` edges
 module _ (L M edges : ℕ) (conf limit : Float) (ts : ℕ → ℕ) (tab : ℕ → CellTables) (n : ℕ) (p : Period L) (q : Period M) (few : n ≤ 8) (ok : (i : ℕ) → i < n → TablesOk L M edges (tab i)) where

@@ -4,7 +4,7 @@ use mathlib.Core.Path.{_≡_}
 use mathlib.Core.Bool.{true, false}
 use Prim.Native.Nat.{ℕ, _+_, _-_, _≤_, _<_}
 use lib.Ieee.{Float}
-use Rattle.hard.specs.Scan.{overLimit}
+use Rattle.scan.specs.Scan.{overLimit}
 
 -- what one list comes to: document 01's refusals 11 and 13, or a placing (position and key) with its hits and the runner-up's hits
 pub data Outcome : Type 0 where

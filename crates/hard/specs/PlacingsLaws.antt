@@ -5,7 +5,7 @@ use Prim.Native.Nat.{ℕ, _<_}
 use native.Mathlib.Omega.{arith}
 use lib.Ieee.{Float}
 use Rattle.laws.specs.Tests.{clash, decided}
-use Rattle.hard.specs.Scan.{overLimit}
+use Rattle.scan.specs.Scan.{overLimit}
 use Rattle.hard.specs.Placings.{Outcome, refused-11, refused-13, found, Sole, MostOther, Right}
 
 module _ (n none edges : ℕ) (limit : Float) (hit : ℕ → ℕ → ℕ) where

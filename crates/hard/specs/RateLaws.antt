@@ -19,7 +19,7 @@ use Rattle.laws.specs.Tests.{clash, not-so, compared, or-true}
 use Rattle.laws.specs.Weights.{zeroF, oneF, Weight, weightlike}
 use Rattle.laws.specs.WeightLaws.{confidence, lt-cross, eq-level}
 use Rattle.figures.specs.Figures.{rateOf}
-use Rattle.hard.specs.Scan.{overLimit}
+use Rattle.scan.specs.Scan.{overLimit}
 
 -- ---- a quotient of whole numbers is one rounding
 quotient : (x y : Float) (a b : ℕ) → HasValue x false a 1 → HasValue y false b 1 → 0 < b → div binary32 x y ≡ round binary32 false a b

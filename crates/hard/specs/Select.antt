@@ -11,14 +11,14 @@ use Rattle.board.specs.Hits.{EdgeList, Board, size}
 use Rattle.figures.specs.Figures.{totalConfidence, noConfidence}
 use Rattle.board.specs.Sides.{periodOf}
 use Rattle.board.specs.Domain.{ListOk, BoardOk}
-use Rattle.tables.specs.Cells.{countsOf, weightsOf}
+use Rattle.cells.specs.Cells.{countsOf, weightsOf}
 use Rattle.tables.specs.Room.{used, TablesBuilt}
-use Rattle.hard.specs.CellTables.{CellTables, cells}
-use Rattle.hard.specs.Scan.{chosen}
+use Rattle.best.specs.CellTables.{CellTables, cells}
+use Rattle.scan.specs.Scan.{chosen}
 use Rattle.hard.specs.Transform.{selected}
-use Rattle.hard.specs.declared.scan.HardScan.{HardScan}
-use Rattle.hard.specs.declared.scan.Choice.{Choice}
-use Rattle.hard.specs.declared.scan.Choice.the-variants.{Nothing, Chosen}
+use Rattle.scan.specs.declared.scan.HardScan.{HardScan}
+use Rattle.scan.specs.declared.scan.Choice.{Choice}
+use Rattle.scan.specs.declared.scan.Choice.the-variants.{Nothing, Chosen}
 use Rattle.hard.specs.declared.select.Selection.{Selection}
 use Rattle.hard.specs.declared.select.Selection.the-variants.{Refused, Selected}
 

@@ -15,15 +15,15 @@ use Rattle.laws.specs.Cleared.{SameBeyond}
 use Rattle.board.specs.Hits.{EdgeList, Board, size}
 use Rattle.board.specs.Sides.{periodOf}
 use Rattle.board.specs.Domain.{ListOk, BoardOk}
-use Rattle.tables.specs.Cells.{countsOf, weightsOf}
+use Rattle.cells.specs.Cells.{countsOf, weightsOf}
 use Rattle.tables.specs.Room.{cellsAt, used, Laid, TablesReady, TablesBuilt}
 use Rattle.tables.specs.TablesTheorems.{length-counts, length-weights, counts-few, weights-weightlike, read-counts, read-weights, rooms-equal}
-use Rattle.hard.specs.CellTables.{Period, CellTables, cells, TablesOk, cAt, wAt}
-use Rattle.hard.specs.Scan.{SoundScan, emptyScan, chosen}
+use Rattle.best.specs.CellTables.{Period, CellTables, cells, TablesOk, cAt, wAt}
+use Rattle.scan.specs.Scan.{SoundScan, emptyScan, chosen}
 use Rattle.hard.specs.Transform.{foldTransform, selected}
 use Rattle.hard.specs.TransformLaws.{selected-none, selected-more, selected-count}
-use Rattle.hard.specs.declared.scan.HardScan.{HardScan}
-use Rattle.hard.specs.declared.scan.Choice.{Choice}
+use Rattle.scan.specs.declared.scan.HardScan.{HardScan}
+use Rattle.scan.specs.declared.scan.Choice.{Choice}
 use Rattle.hard.specs.KeptLaws.{selected-sound}
 use Rattle.hard.specs.declared.select.Selection.{Selection}
 use Rattle.hard.specs.declared.select.Selection.the-variants.{Refused, Selected}

@@ -10,19 +10,19 @@ use Rattle.laws.specs.Tests.{clash}
 use Rattle.board.specs.Hits.{EdgeList, Board, size, hits}
 use Rattle.board.specs.Sides.{periodOf}
 use Rattle.board.specs.Domain.{ListOk, BoardOk}
-use Rattle.tables.specs.Cells.{countsOf}
+use Rattle.cells.specs.Cells.{countsOf}
 use Rattle.tables.specs.TablesTheorems.{key-hits}
-use Rattle.hard.specs.CellTables.{CellTables, TablesOk}
+use Rattle.best.specs.CellTables.{CellTables, TablesOk}
 use Rattle.figures.specs.Gate.{passed}
-use Rattle.hard.specs.Scan.{chosen}
+use Rattle.scan.specs.Scan.{chosen}
 use Rattle.hard.specs.Placings.{Outcome, refused-13, found, Right, Sole, MostOther}
 use Rattle.hard.specs.PlacingsLaws.{right-ext, sole-only}
 use Rattle.hard.specs.OneList.{hitsOf, keyAt, originNumber, outcomeOf, InRange}
 use Rattle.hard.specs.OneListLaws.{one-list, choice-in-range, reported}
-use Rattle.hard.specs.declared.scan.Candidate.{Candidate}
-use Rattle.hard.specs.declared.scan.RunnerUp.{RunnerUp}
-use Rattle.hard.specs.declared.scan.Choice.{Choice}
-use Rattle.hard.specs.declared.scan.Choice.the-variants.{Nothing, Chosen}
+use Rattle.scan.specs.declared.scan.Candidate.{Candidate}
+use Rattle.scan.specs.declared.scan.RunnerUp.{RunnerUp}
+use Rattle.scan.specs.declared.scan.Choice.{Choice}
+use Rattle.scan.specs.declared.scan.Choice.the-variants.{Nothing, Chosen}
 use Rattle.hard.specs.declared.select.Selection.{Selection}
 use Rattle.hard.specs.declared.select.Selection.the-variants.{Refused, Selected}
 use Rattle.figures.specs.Figures.{totalConfidence, noConfidence}

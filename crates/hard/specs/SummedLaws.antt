@@ -15,12 +15,12 @@ use Rattle.laws.specs.Fold.{count, fold, put}
 use Rattle.laws.specs.Counting.{count-pos, count-one, other-passes}
 use Rattle.laws.specs.Grid.{Grid, Laws, origins}
 use Rattle.laws.specs.Weights.{weightlike}
-use Rattle.hard.specs.CellTables.{CellTables, Period, TablesOk, cAt, wAt}
-use Rattle.hard.specs.Lex.{level, optimal, lexBest, secondCell, lexOf}
-use Rattle.hard.specs.LexLaws.{cell-in, largest, best-optimal, optimal-count, second-inside, second-other, second-most}
-use Rattle.hard.specs.RowMajor.{rowMajor}
-use Rattle.hard.specs.RowMajorLaws.{major-le, major-is}
-use Rattle.hard.specs.Direct.{pairHits}
+use Rattle.best.specs.CellTables.{CellTables, Period, TablesOk, cAt, wAt}
+use Rattle.best.specs.Lex.{level, optimal, lexBest, secondCell, lexOf}
+use Rattle.best.specs.LexLaws.{cell-in, largest, best-optimal, optimal-count, second-inside, second-other, second-most}
+use Rattle.grid.specs.RowMajor.{rowMajor}
+use Rattle.grid.specs.RowMajorLaws.{major-le, major-is}
+use Rattle.direct.specs.Direct.{pairHits}
 use Rattle.hard.specs.Transform.{bestOrigin, bestHits, tied, nextOrigin}
 use Rattle.hard.specs.TransformLaws.{grid, h-table, v-table}
 use Rattle.hard.specs.declared.transform.Ranked.{Ranked}

@@ -5,16 +5,16 @@ use lib.Dec.{ltb}
 use lib.ListN.{length}
 use lib.Ieee.{Float, add, binary32}
 use Rattle.laws.specs.Grid.{Grid, origins}
-use Rattle.hard.specs.CellTables.{Period, CellTables, TablesOk}
-use Rattle.hard.specs.Lex.{optimal, lexOf}
-use Rattle.hard.specs.RowMajor.{rowMajor}
-use Rattle.hard.specs.Scan.{overLimit, replaced, emptyScan, pushed}
-use Rattle.hard.specs.Direct.{candidate, tried}
-use Rattle.hard.specs.declared.lex.LexMax.{LexMax}
-use Rattle.hard.specs.declared.scan.Candidate.{Candidate}
-use Rattle.hard.specs.declared.scan.TransformSummary.{TransformSummary}
-use Rattle.hard.specs.declared.scan.HardScan.{HardScan}
-use Rattle.hard.specs.declared.scan.Kept.{Kept}
+use Rattle.best.specs.CellTables.{Period, CellTables, TablesOk}
+use Rattle.best.specs.Lex.{optimal, lexOf}
+use Rattle.grid.specs.RowMajor.{rowMajor}
+use Rattle.scan.specs.Scan.{overLimit, replaced, emptyScan, pushed}
+use Rattle.direct.specs.Direct.{candidate, tried}
+use Rattle.best.specs.declared.lex.LexMax.{LexMax}
+use Rattle.scan.specs.declared.scan.Candidate.{Candidate}
+use Rattle.scan.specs.declared.scan.TransformSummary.{TransformSummary}
+use Rattle.scan.specs.declared.scan.HardScan.{HardScan}
+use Rattle.scan.specs.declared.scan.Kept.{Kept}
 use Rattle.hard.specs.declared.transform.Ranked.{Ranked}
 
 -- what two tables of 3 L and 3 M cells say: cells inside, numbers of cells and counts of no more than there are

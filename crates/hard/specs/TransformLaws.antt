@@ -18,17 +18,17 @@ use Rattle.laws.specs.Counting.{count-le}
 use Rattle.laws.specs.Weights.{weightlike}
 use Rattle.laws.specs.Grid.{Laws, origins}
 use Rattle.laws.specs.GridLaws.{origins-laws}
-use Rattle.hard.specs.CellTables.{CellTables, Period, TablesOk, cAt, wAt}
-use Rattle.hard.specs.Lex.{TableOk, level, optimal, lexBest, secondCell, lexOf}
-use Rattle.hard.specs.LexLaws.{cell-in, best-optimal, second-inside}
-use Rattle.hard.specs.RowMajorLaws.{major-none, major-only}
-use Rattle.hard.specs.Scan.{overLimit, replaced, noSummary, emptyScan, pushed}
-use Rattle.hard.specs.Direct.{tried}
+use Rattle.best.specs.CellTables.{CellTables, Period, TablesOk, cAt, wAt}
+use Rattle.best.specs.Lex.{TableOk, level, optimal, lexBest, secondCell, lexOf}
+use Rattle.best.specs.LexLaws.{cell-in, best-optimal, second-inside}
+use Rattle.grid.specs.RowMajorLaws.{major-none, major-only}
+use Rattle.scan.specs.Scan.{overLimit, replaced, noSummary, emptyScan, pushed}
+use Rattle.direct.specs.Direct.{tried}
 use Rattle.hard.specs.Transform.{BestOk, firstOf, bestOrigin, bestHits, bestCandidate, tied, nextOrigin, summaryOf, transformSummary, offeredBy, foldTransform, selected}
-use Rattle.hard.specs.declared.lex.LexMax.{LexMax}
-use Rattle.hard.specs.declared.scan.TransformSummary.{TransformSummary}
-use Rattle.hard.specs.declared.scan.HardScan.{HardScan}
-use Rattle.hard.specs.declared.scan.Kept.{Kept}
+use Rattle.best.specs.declared.lex.LexMax.{LexMax}
+use Rattle.scan.specs.declared.scan.TransformSummary.{TransformSummary}
+use Rattle.scan.specs.declared.scan.HardScan.{HardScan}
+use Rattle.scan.specs.declared.scan.Kept.{Kept}
 use Rattle.hard.specs.declared.transform.Ranked.{Ranked}
 
 -- what is known of a transform's two tables a and b and of its best origin: in range, at most `edges` hits, and a small key

@@ -4,7 +4,7 @@ use Prim.Native.Nat.{ℕ}
 use lib.Ieee.{Float}
 use denote.Ref.{RefT, now}
 use Rattle.hard.specs.declared.view.TransformTables.{TransformTables}
-use Rattle.hard.specs.CellTables.{CellTables, cells}
+use Rattle.best.specs.CellTables.{CellTables, cells}
 
 -- the view that holds four slices
 abbrev pub viewOf : RefT (List ℕ) → RefT (List Float) → RefT (List ℕ) → RefT (List Float) → TransformTables

@@ -12,12 +12,12 @@ use lib.ListN.{getD}
 use borrow.Author.Tests.{ltb-true, lt-ltb}
 use Rattle.laws.specs.Tests.{clash, cases, compared, decided, not-so}
 use Rattle.laws.specs.Grid.{origins}
-use Rattle.hard.specs.CellTables.{CellTables, Period, TablesOk}
-use Rattle.hard.specs.Lex.{lexOf}
+use Rattle.best.specs.CellTables.{CellTables, Period, TablesOk}
+use Rattle.best.specs.Lex.{lexOf}
 use Rattle.figures.specs.Gate.{passed}
-use Rattle.hard.specs.Scan.{overLimit, noSummary, ofBest, ofNext, runnerUp, chosen, chosenBy}
-use Rattle.hard.specs.ScanLaws.{runner-own, runner-other, runner-is}
-use Rattle.hard.specs.Direct.{originCandidate}
+use Rattle.scan.specs.Scan.{overLimit, noSummary, ofBest, ofNext, runnerUp, chosen, chosenBy}
+use Rattle.scan.specs.ScanLaws.{runner-own, runner-other, runner-is}
+use Rattle.direct.specs.Direct.{originCandidate}
 use Rattle.hard.specs.Transform.{bestOrigin, bestHits, bestCandidate, tied, nextOrigin, summaryOf, transformSummary, selected}
 use Rattle.hard.specs.TransformLaws.{best-under, selected-count, summary-at}
 use Rattle.hard.specs.KeptLaws.{MostOf, Offers, Listed, kept-most, offers-place}
@@ -25,14 +25,14 @@ use Rattle.hard.specs.RateLaws.{fewer-over, more-within}
 use Rattle.hard.specs.SummedLaws.{Summed, summed, many-tied}
 use Rattle.hard.specs.Placings.{NoneWithin, Sole, MostOther}
 use Rattle.hard.specs.OneList.{hitsOf, keyAt, originNumber, choice, InRange}
-use Rattle.hard.specs.declared.lex.LexMax.{LexMax}
-use Rattle.hard.specs.declared.scan.TransformSummary.{TransformSummary}
-use Rattle.hard.specs.declared.scan.Candidate.{Candidate}
-use Rattle.hard.specs.declared.scan.RunnerUp.{RunnerUp}
-use Rattle.hard.specs.declared.scan.Kept.{Kept}
-use Rattle.hard.specs.declared.scan.Kept.the-variants.{Nobody, One}
-use Rattle.hard.specs.declared.scan.Choice.{Choice}
-use Rattle.hard.specs.declared.scan.Choice.the-variants.{Nothing, Chosen}
+use Rattle.best.specs.declared.lex.LexMax.{LexMax}
+use Rattle.scan.specs.declared.scan.TransformSummary.{TransformSummary}
+use Rattle.scan.specs.declared.scan.Candidate.{Candidate}
+use Rattle.scan.specs.declared.scan.RunnerUp.{RunnerUp}
+use Rattle.scan.specs.declared.scan.Kept.{Kept}
+use Rattle.scan.specs.declared.scan.Kept.the-variants.{Nobody, One}
+use Rattle.scan.specs.declared.scan.Choice.{Choice}
+use Rattle.scan.specs.declared.scan.Choice.the-variants.{Nothing, Chosen}
 use Rattle.hard.specs.declared.transform.Ranked.{Ranked}
 
 -- n list positions with the transforms ts and the tables tab, of a list of `edges` edges

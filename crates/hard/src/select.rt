@@ -4,14 +4,14 @@ ghost use Prim.Native.Nat.{_*_, _+_, _≤_, _<_};
 ghost use lib.ListN.{length, take, drop};
 ghost use lib.Ieee.{Float};
 ghost use Rattle.board.specs.Hits.{edges, tables};
-ghost use Rattle.hard.specs.CellTables.{Period, TablesOk, cells};
+ghost use Rattle.best.specs.CellTables.{Period, TablesOk, cells};
 ghost use Rattle.hard.specs.Transform.{foldTransform};
 ghost use Rattle.hard.specs.Select.{SelectReady, SelectDone};
 ghost use Rattle.hard.specs.SelectLaws.{roomCells, RoomReady, ScanDone};
-use crate::scan::Candidate;
-use crate::scan::Choice;
-use crate::scan::HardScan;
-use crate::scan::RunnerUp;
+use scan::scan::Candidate;
+use scan::scan::Choice;
+use scan::scan::HardScan;
+use scan::scan::RunnerUp;
 
 // What a selection comes to: refused (10 no confidence, 11 nothing within the limit), or the winner with its runner-up.
 pub enum Selection {
@@ -70,7 +70,7 @@ fn scan_transforms<'a>(
     requires { ⌜ SelectReady (tables (now h) (now v)) (edges (now rows) (now cols) (now orientations) (now bits) (now confidences)) (now transforms) (now counts) (now weights) ⌝ }
     ensures { λ r. ⌜ ScanDone (tables (now (h .entry)) (now (v .entry))) (edges (now (rows .entry)) (now (cols .entry)) (now (orientations .entry)) (now (bits .entry)) (now (confidences .entry))) (now (transforms .entry)) conf limit (length (now (transforms .entry))) (now (counts .entry)) (now (counts .exit)) (now (weights .entry)) (now (weights .exit)) r ⌝ }
 {
-    let mut scan = crate::record::empty();
+    let mut scan = scan::record::empty();
     for i in 0..transforms.len() {
         let t = transforms[i];
         tables::build::build_tables(
@@ -136,7 +136,7 @@ pub fn select<'a>(
         counts,
         weights,
     );
-    match crate::record::finish(scan) {
+    match scan::record::finish(scan) {
         Choice::Nothing => Selection::Refused(11),
         Choice::Chosen { winner, next } => Selection::Selected(winner, next),
     }

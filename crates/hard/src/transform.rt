@@ -2,21 +2,21 @@
 ghost use mathlib.Core.Path.{_≡_};
 ghost use Prim.Native.Nat.{_+_, _≤_, _<_};
 ghost use Rattle.laws.specs.Grid.{origins};
-ghost use Rattle.hard.specs.CellTables.{Period, TablesOk, cells};
+ghost use Rattle.best.specs.CellTables.{Period, TablesOk, cells};
 ghost use Rattle.hard.specs.Transform.{BestOk, firstOf, nextOrigin, summaryOf, offeredBy, foldTransform, FoldReady};
 ghost use Rattle.hard.specs.TransformLaws.{PairOk};
-use crate::direct::scan_direct;
-use crate::lex::LexMax;
-use crate::lex::lex_max;
-use crate::origin::key_of;
-use crate::origin::row_major_first;
-use crate::record::offer;
-use crate::record::over_limit;
-use crate::record::push;
-use crate::scan::Candidate;
-use crate::scan::HardScan;
-use crate::scan::Kept;
-use crate::scan::TransformSummary;
+use best::lex::LexMax;
+use best::lex::lex_max;
+use direct::direct::scan_direct;
+use grid::origin::key_of;
+use grid::origin::row_major_first;
+use scan::record::offer;
+use scan::record::over_limit;
+use scan::record::push;
+use scan::scan::Candidate;
+use scan::scan::HardScan;
+use scan::scan::Kept;
+use scan::scan::TransformSummary;
 
 // An origin by its key, with its hits.
 pub struct Ranked {

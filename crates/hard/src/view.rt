@@ -1,9 +1,9 @@
 // The four tables of one transform as one view, which the scan reads through. The core below stays on plain slices.
 ghost use mathlib.Core.Path.{_≡_};
-ghost use Rattle.hard.specs.CellTables.{cells};
+ghost use Rattle.best.specs.CellTables.{cells};
 ghost use Rattle.hard.specs.Transform.{foldTransform, FoldReady};
 ghost use Rattle.hard.specs.View.{viewOf, viewed};
-use crate::scan::HardScan;
+use scan::scan::HardScan;
 
 // Counts and weights by horizontal cell, counts and weights by vertical cell.
 pub struct TransformTables<'a> {

@@ -10,10 +10,10 @@ use lib.Ieee.{Float, binary32, ofInt}
 use Rattle.laws.specs.Weights.{oneF}
 use Rattle.board.specs.Hits.{EdgeList, Board, Placing, size, misses, hitsAt}
 use Rattle.board.specs.Sides.{periodOf}
-use Rattle.hard.specs.Scan.{overLimit}
+use Rattle.scan.specs.Scan.{overLimit}
 use Rattle.hard.specs.Select.{selection}
-use Rattle.hard.specs.declared.scan.Candidate.{Candidate}
-use Rattle.hard.specs.declared.scan.RunnerUp.{RunnerUp}
+use Rattle.scan.specs.declared.scan.Candidate.{Candidate}
+use Rattle.scan.specs.declared.scan.RunnerUp.{RunnerUp}
 use Rattle.hard.specs.declared.select.Selection.the-variants.{Selected}
 use Rattle.puzzleboard.specs.declared.answer.Square.{Square}
 use Rattle.puzzleboard.specs.declared.answer.Decoded.{Decoded}

@@ -15,7 +15,7 @@ use Rattle.board.specs.Hits.{EdgeList, Board, Placing, size, hits, misses, hits
 use Rattle.board.specs.HitsLaws.{hits-misses}
 use Rattle.board.specs.Sides.{periodOf}
 use Rattle.board.specs.Domain.{BoardOk, ListOk}
-use Rattle.hard.specs.Scan.{overLimit}
+use Rattle.scan.specs.Scan.{overLimit}
 use Rattle.hard.specs.Placings.{Sole, MostOther}
 use Rattle.hard.specs.OneList.{originNumber, keyAt}
 use Rattle.hard.specs.SelectTheorems.{hitsAtKey}

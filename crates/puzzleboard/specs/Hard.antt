@@ -10,10 +10,10 @@ use lib.Ieee.{Float, nan, binary32, ofInt}
 use Rattle.laws.specs.Weights.{zeroF, oneF}
 use Rattle.laws.specs.Cleared.{cleared, SameBeyond}
 use Rattle.board.specs.Hits.{EdgeList, Board, size}
-use Rattle.checks.specs.declared.refusal.Refusal.{Refusal}
-use Rattle.checks.specs.Refusals.{numbered, hardRefusal}
-use Rattle.hard.specs.declared.scan.Candidate.{Candidate}
-use Rattle.hard.specs.declared.scan.RunnerUp.{RunnerUp}
+use Rattle.admission.specs.declared.refusal.Refusal.{Refusal}
+use Rattle.admission.specs.Refusals.{numbered, hardRefusal}
+use Rattle.scan.specs.declared.scan.Candidate.{Candidate}
+use Rattle.scan.specs.declared.scan.RunnerUp.{RunnerUp}
 use Rattle.hard.specs.declared.select.Selection.{Selection}
 use Rattle.hard.specs.declared.select.Selection.the-variants as sel
 use Rattle.figures.specs.Figures.{rateOf, meanOf}

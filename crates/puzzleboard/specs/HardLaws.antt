@@ -16,11 +16,11 @@ use Rattle.board.specs.Transform.{mat}
 use Rattle.board.specs.Sides.{periodOf}
 use Rattle.board.specs.Domain.{ListOk, BoardOk}
 use Rattle.tables.specs.Room.{used}
-use Rattle.checks.specs.declared.refusal.Refusal.{Refusal}
-use Rattle.checks.specs.Refusals.{hardRefusal}
-use Rattle.checks.specs.Accepted.{TransformsOk, HardAccepted}
-use Rattle.hard.specs.declared.scan.Candidate.{Candidate}
-use Rattle.hard.specs.declared.scan.RunnerUp.{RunnerUp}
+use Rattle.admission.specs.declared.refusal.Refusal.{Refusal}
+use Rattle.admission.specs.Refusals.{hardRefusal}
+use Rattle.admission.specs.Accepted.{TransformsOk, HardAccepted}
+use Rattle.scan.specs.declared.scan.Candidate.{Candidate}
+use Rattle.scan.specs.declared.scan.RunnerUp.{RunnerUp}
 use Rattle.hard.specs.declared.select.Selection.{Selection}
 use Rattle.hard.specs.declared.select.Selection.the-variants as sel
 use Rattle.hard.specs.Select.{selection, SelectReady, SelectDone}

@@ -14,13 +14,13 @@ use Rattle.laws.specs.Tests.{clash, and-true}
 use Rattle.laws.specs.Weights.{oneF}
 use Rattle.board.specs.Hits.{EdgeList, Board, Placing, size, hitsAt}
 use Rattle.board.specs.Sides.{periodOf}
-use Rattle.checks.specs.Accepted.{HardAccepted}
+use Rattle.admission.specs.Accepted.{HardAccepted}
 use Rattle.figures.specs.Gate.{passed}
 use Rattle.figures.specs.Figures.{noConfidence}
 use Rattle.hard.specs.Select.{selection}
 use Rattle.hard.specs.SelectTheorems.{sole-selected}
-use Rattle.hard.specs.declared.scan.Candidate.{Candidate}
-use Rattle.hard.specs.declared.scan.RunnerUp.{RunnerUp}
+use Rattle.scan.specs.declared.scan.Candidate.{Candidate}
+use Rattle.scan.specs.declared.scan.RunnerUp.{RunnerUp}
 use Rattle.hard.specs.declared.select.Selection.{Selection}
 use Rattle.hard.specs.declared.select.Selection.the-variants as sel
 use Rattle.puzzleboard.specs.declared.answer.Decoded.{Decoded}

@@ -12,13 +12,13 @@ use Rattle.laws.specs.Cleared.{SameBeyond}
 use Rattle.board.specs.Hits.{EdgeList, Board, size}
 use Rattle.board.specs.Sides.{periodOf}
 use Rattle.tables.specs.Room.{TablesBuilt}
-use Rattle.tables.specs.Sums.{Likelihoods}
-use Rattle.checks.specs.Refusals.{softRefusal}
-use Rattle.hard.specs.declared.scan.Candidate.{Candidate}
-use Rattle.hard.specs.declared.scan.RunnerUp.{RunnerUp}
+use Rattle.sums.specs.Sums.{Likelihoods}
+use Rattle.admission.specs.Refusals.{softRefusal}
+use Rattle.scan.specs.declared.scan.Candidate.{Candidate}
+use Rattle.scan.specs.declared.scan.RunnerUp.{RunnerUp}
 use Rattle.hard.specs.declared.select.Selection.{Selection}
 use Rattle.hard.specs.declared.select.Selection.the-variants as sel
-use Rattle.hard.specs.CellTables.{CellTables, cAt, wAt}
+use Rattle.best.specs.CellTables.{CellTables, cAt, wAt}
 use Rattle.figures.specs.Figures.{rateOf, meanOf}
 use Rattle.figures.specs.Gate.{passed}
 use Rattle.figures.specs.Figures.{noConfidence}

@@ -11,7 +11,7 @@ use Rattle.laws.specs.Grid.{origins}
 use Rattle.board.specs.Hits.{EdgeList, Board, Placing, size, hitsAt}
 use Rattle.board.specs.Sides.{periodOf}
 use Rattle.likelihood.specs.Likelihood.{dequantised}
-use Rattle.tables.specs.Sums.{Likelihoods, score}
+use Rattle.sums.specs.Sums.{Likelihoods, score}
 use Rattle.hard.specs.OneList.{keyAt}
 use Rattle.soft.specs.declared.scan.SoftCandidate.{SoftCandidate}
 use Rattle.soft.specs.BestPlacing.{FirstPlace, SecondPlace}

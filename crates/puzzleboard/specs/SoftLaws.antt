@@ -20,15 +20,15 @@ use Rattle.board.specs.Hits.{EdgeList, Board, size}
 use Rattle.board.specs.Sides.{periodOf}
 use Rattle.board.specs.Domain.{ListOk, BoardOk}
 use Rattle.tables.specs.Room.{used, TablesReady, TablesBuilt}
-use Rattle.tables.specs.Sums.{Likelihoods, LikelihoodsOk}
-use Rattle.checks.specs.declared.refusal.Refusal.{Refusal}
-use Rattle.checks.specs.Refusals.{softRefusal}
-use Rattle.checks.specs.Accepted.{HardAccepted, SoftAccepted}
-use Rattle.hard.specs.declared.scan.Candidate.{Candidate}
-use Rattle.hard.specs.declared.scan.RunnerUp.{RunnerUp}
+use Rattle.sums.specs.Sums.{Likelihoods, LikelihoodsOk}
+use Rattle.admission.specs.declared.refusal.Refusal.{Refusal}
+use Rattle.admission.specs.Refusals.{softRefusal}
+use Rattle.admission.specs.Accepted.{HardAccepted, SoftAccepted}
+use Rattle.scan.specs.declared.scan.Candidate.{Candidate}
+use Rattle.scan.specs.declared.scan.RunnerUp.{RunnerUp}
 use Rattle.hard.specs.declared.select.Selection.{Selection}
 use Rattle.hard.specs.declared.select.Selection.the-variants as sel
-use Rattle.hard.specs.CellTables.{Period, CellTables, cells, TablesOk, cAt, wAt}
+use Rattle.best.specs.CellTables.{Period, CellTables, cells, TablesOk, cAt, wAt}
 use Rattle.figures.specs.Figures.{totalConfidence, noConfidence}
 use Rattle.hard.specs.Select.{selection, SelectDone}
 use Rattle.hard.specs.SelectLaws.{RoomReady, roomCells, built-cells, tables-ok, period-h, period-v}

@@ -15,10 +15,10 @@ use Rattle.laws.specs.Grid.{Grid, origins}
 use Rattle.board.specs.Hits.{EdgeList, Board, Placing, size, hits, hitsAt}
 use Rattle.board.specs.Sides.{periodOf}
 use Rattle.board.specs.Domain.{BoardOk}
-use Rattle.checks.specs.Accepted.{SoftAccepted}
+use Rattle.admission.specs.Accepted.{SoftAccepted}
 use Rattle.likelihood.specs.Likelihood.{dequantised}
-use Rattle.tables.specs.Sums.{Likelihoods, score}
-use Rattle.tables.specs.Cells.{countsOf}
+use Rattle.sums.specs.Sums.{Likelihoods, score}
+use Rattle.cells.specs.Cells.{countsOf}
 use Rattle.tables.specs.TablesTheorems.{cell-pair-hits}
 use Rattle.figures.specs.Gate.{passed}
 use Rattle.hard.specs.OneList.{keyAt}
@@ -26,8 +26,8 @@ use Rattle.figures.specs.Figures.{noConfidence}
 use Rattle.hard.specs.Select.{tablesOf, selection}
 use Rattle.hard.specs.SelectLaws.{period-h, period-v}
 use Rattle.hard.specs.SelectTheorems.{sole-selected}
-use Rattle.hard.specs.declared.scan.Candidate.{Candidate}
-use Rattle.hard.specs.declared.scan.RunnerUp.{RunnerUp}
+use Rattle.scan.specs.declared.scan.Candidate.{Candidate}
+use Rattle.scan.specs.declared.scan.RunnerUp.{RunnerUp}
 use Rattle.hard.specs.declared.select.Selection.{Selection}
 use Rattle.hard.specs.declared.select.Selection.the-variants as sel
 use Rattle.soft.specs.declared.scan.SoftCandidate.{SoftCandidate}

@@ -9,12 +9,12 @@ use Rattle.laws.specs.Fold.{fold, put}
 use Rattle.laws.specs.Weights.{zeroF, oneF}
 use Rattle.board.specs.Hits.{EdgeList, Board, size, hit, hits}
 use Rattle.figures.specs.Figures.{rateOf, meanOf}
-use Rattle.checks.specs.declared.refusal.Refusal.{Refusal}
+use Rattle.admission.specs.declared.refusal.Refusal.{Refusal}
 use Rattle.puzzleboard.specs.declared.answer.MatchStats.{MatchStats}
 use Rattle.puzzleboard.specs.declared.answer.StatsAnswer.{StatsAnswer}
 use Rattle.puzzleboard.specs.declared.answer.StatsAnswer.the-variants.{Counted, Refused}
 use Rattle.puzzleboard.specs.declared.stats.HitsWeight.{HitsWeight}
-use Rattle.checks.specs.Refusals.{statsRefusal}
+use Rattle.admission.specs.Refusals.{statsRefusal}
 
 -- hard selection's rate; no edges: 1
 unfoldable pub statsRate : ℕ → ℕ → Float

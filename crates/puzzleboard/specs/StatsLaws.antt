@@ -15,12 +15,12 @@ use Rattle.board.specs.Transform.{lookupOf}
 use Rattle.board.specs.Hits.{EdgeList, Board, size, seen, look, predicted, hit, hits}
 use Rattle.board.specs.Domain.{EdgeOk}
 use Rattle.figures.specs.Figures.{meanOf}
-use Rattle.checks.specs.declared.refusal.Refusal.{Refusal}
+use Rattle.admission.specs.declared.refusal.Refusal.{Refusal}
 use Rattle.puzzleboard.specs.declared.answer.MatchStats.{MatchStats}
 use Rattle.puzzleboard.specs.declared.answer.StatsAnswer.the-variants.{Counted, Refused}
 use Rattle.puzzleboard.specs.declared.stats.HitsWeight.{HitsWeight}
-use Rattle.checks.specs.Refusals.{statsRefusal}
-use Rattle.checks.specs.Accepted.{StatsAccepted}
+use Rattle.admission.specs.Refusals.{statsRefusal}
+use Rattle.admission.specs.Accepted.{StatsAccepted}
 use Rattle.puzzleboard.specs.Stats.{statsRate, hitWeight, statsOf, statsAnswer, orCounted, added, hitsAndWeight}
 
 module _ (E : EdgeList) (t row col : ℕ) (B : Board) where

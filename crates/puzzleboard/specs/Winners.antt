@@ -14,8 +14,8 @@ use Rattle.hard.specs.OneList.{keyAt, originNumber, InRange}
 use Rattle.figures.specs.Figures.{totalConfidence}
 use Rattle.hard.specs.Select.{tablesOf, selection}
 use Rattle.hard.specs.SelectTheorems.{hitsAtKey, selected-in-range, selected-right, selected-next}
-use Rattle.hard.specs.declared.scan.Candidate.{Candidate}
-use Rattle.hard.specs.declared.scan.RunnerUp.{RunnerUp}
+use Rattle.scan.specs.declared.scan.Candidate.{Candidate}
+use Rattle.scan.specs.declared.scan.RunnerUp.{RunnerUp}
 use Rattle.hard.specs.declared.select.Selection.the-variants.{Selected}
 use Rattle.puzzleboard.specs.Demand.{OnBoard, Same, Leads, RunsUp}
 use Rattle.puzzleboard.specs.DemandLaws.{same-key, hits-key, sole-leads, most-runs-up}

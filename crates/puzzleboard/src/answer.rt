@@ -1,6 +1,6 @@
 // What the entry points answer.
 
-use checks::refusal::Refusal;
+use admission::refusal::Refusal;
 
 // A transform by number, with an origin on the board.
 pub struct Square {

@@ -3,15 +3,15 @@ ghost use mathlib.Core.Path.{_≡_};
 ghost use Prim.Native.Nat.{_≤_, _<_};
 ghost use lib.ListN.{length};
 ghost use Rattle.board.specs.Hits.{edges, tables};
-ghost use Rattle.checks.specs.Accepted.{HardAccepted};
+ghost use Rattle.admission.specs.Accepted.{HardAccepted};
 ghost use Rattle.puzzleboard.specs.Hard.{agreed, decodedOf, judged, CoreDone, HardDone};
 use crate::answer::Answer;
 use crate::answer::Decoded;
 use crate::answer::Square;
 use crate::refuse::refuse;
-use hard::scan::Candidate;
-use hard::scan::RunnerUp;
 use hard::select::Selection;
+use scan::scan::Candidate;
+use scan::scan::RunnerUp;
 
 // Whether two winners agree in transform and origin.
 fn same_square(t: u8, a: Candidate, s: u8, b: Candidate) -> bool
@@ -171,7 +171,7 @@ pub fn decode_hard<'a>(
         (now (transforms .entry)) (tables (now (h .entry)) (now (v .entry))) limit
         (now (counts .entry)) (now (counts .exit)) (now (weights .entry)) (now (weights .exit)) r ⌝ }
 {
-    let refusal = checks::refusal::hard_refusal(
+    let refusal = admission::refusal::hard_refusal(
         lrows,
         lcols,
         lorientations,

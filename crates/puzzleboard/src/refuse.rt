@@ -2,7 +2,7 @@
 ghost use mathlib.Core.Path.{_≡_};
 ghost use Rattle.puzzleboard.specs.Hard.{refusedBy};
 use crate::answer::Answer;
-use checks::refusal::Refusal;
+use admission::refusal::Refusal;
 
 // A refusal by its number.
 pub fn refuse(number: u32) -> Answer

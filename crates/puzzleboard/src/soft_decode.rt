@@ -3,19 +3,19 @@ ghost use mathlib.Core.Path.{_≡_};
 ghost use Prim.Native.Nat.{_≤_, _<_};
 ghost use lib.ListN.{length};
 ghost use Rattle.board.specs.Hits.{edges, tables};
-ghost use Rattle.tables.specs.Sums.{likelihoods};
+ghost use Rattle.sums.specs.Sums.{likelihoods};
 ghost use Rattle.tables.specs.Room.{TablesReady};
 ghost use Rattle.hard.specs.SelectLaws.{RoomReady, roomCells};
-ghost use Rattle.checks.specs.Accepted.{HardAccepted, SoftAccepted};
+ghost use Rattle.admission.specs.Accepted.{HardAccepted, SoftAccepted};
 ghost use Rattle.puzzleboard.specs.Soft.{cellFigures, softVerdict, softDecodedOf, FiguresDone, LogicalDone, SoftCoreDone, SoftDone};
 use crate::answer::Answer;
 use crate::answer::Decoded;
 use crate::answer::Square;
 use crate::refuse::refuse;
 use crate::stats::HitsWeight;
-use hard::scan::Candidate;
-use hard::scan::RunnerUp;
 use hard::select::Selection;
+use scan::scan::Candidate;
+use scan::scan::RunnerUp;
 use soft::scan::SoftCandidate;
 use soft::scan::SoftChoice;
 
@@ -328,7 +328,7 @@ pub fn decode_soft<'a>(
         (now (transforms .entry)) (tables (now (h .entry)) (now (v .entry))) limit margin
         (now (counts .entry)) (now (counts .exit)) (now (weights .entry)) (now (weights .exit)) (now (sums .entry)) (now (sums .exit)) r ⌝ }
 {
-    let refusal = checks::refusal::soft_refusal(
+    let refusal = admission::refusal::soft_refusal(
         prows,
         pcols,
         porientations,

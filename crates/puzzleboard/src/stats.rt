@@ -2,7 +2,7 @@
 ghost use mathlib.Core.Path.{_≡_};
 ghost use Prim.Native.Nat.{_≤_, _<_};
 ghost use Rattle.board.specs.Hits.{edges, tables};
-ghost use Rattle.checks.specs.Accepted.{StatsAccepted};
+ghost use Rattle.admission.specs.Accepted.{StatsAccepted};
 ghost use Rattle.puzzleboard.specs.Stats.{added, hitsAndWeight, statsRate, statsOf, statsAnswer};
 use crate::answer::MatchStats;
 use crate::answer::StatsAnswer;
@@ -98,7 +98,7 @@ pub fn match_stats(
         (edges (now (rows .entry)) (now (cols .entry)) (now (orientations .entry)) (now (bits .entry)) (now (confidences .entry)))
         transform row col (tables (now (h .entry)) (now (v .entry))) ⌝ }
 {
-    let refusal = checks::refusal::stats_refusal(
+    let refusal = admission::refusal::stats_refusal(
         rows,
         cols,
         orientations,

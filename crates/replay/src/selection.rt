@@ -15,7 +15,7 @@ pub(crate) fn select<'a>(
     counts: &mut [u32],
     weights: &mut [f32],
 ) -> Selection {
-    let refusal = checks::refusal::hard_refusal(
+    let refusal = admission::refusal::hard_refusal(
         rows,
         cols,
         orientations,

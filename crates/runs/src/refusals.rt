@@ -140,7 +140,7 @@ fn show(name: &[u8], a: u32, b: u32) {
     let counts = pick(on(a, b, 10), 3005, 3006);
     let weights = pick(on(a, b, 11), 3005, 3006);
     let sums = pick(on(a, b, 12), 5009, 5010);
-    let hard = checks::refusal::hard_refusal(
+    let hard = admission::refusal::hard_refusal(
         front_i32(&rows, logical),
         front_i32(&cols, pick(on(a, b, 2), short, empty)),
         front_u8(&orientations, logical),
@@ -158,7 +158,7 @@ fn show(name: &[u8], a: u32, b: u32) {
         counts,
         weights,
     );
-    let soft = checks::refusal::soft_refusal(
+    let soft = admission::refusal::soft_refusal(
         front_i32(&prows, physical),
         front_i32(&cols, physical),
         front_u8(&porientations, physical),

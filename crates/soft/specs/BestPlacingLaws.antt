@@ -12,7 +12,7 @@ use lib.Ieee.{lt}
 use Rattle.laws.specs.Best.{Weak}
 use Rattle.laws.specs.Grid.{Grid, origins}
 use Rattle.likelihood.specs.Likelihood.{dequantised}
-use Rattle.hard.specs.CellTables.{Period}
+use Rattle.best.specs.CellTables.{Period}
 use Rattle.soft.specs.Sums.{SumTables, SumsOk, sumAt}
 use Rattle.soft.specs.Pair.{winnerOf, runnerOf}
 use Rattle.soft.specs.Scan.{softCandidate, softOffered, softEmpty, softFolded, softSelected, choiceOf, softChosen}

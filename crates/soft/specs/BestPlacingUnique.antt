@@ -8,7 +8,7 @@ use lib.IntN.{ℤ}
 use lib.Signed.{ltZ}
 use Rattle.laws.specs.Tests.{clash, cases, apart, decided}
 use Rattle.laws.specs.Grid.{Grid, Laws, origins}
-use Rattle.hard.specs.CellTables.{Period}
+use Rattle.best.specs.CellTables.{Period}
 use Rattle.hard.specs.TransformLaws.{grid}
 use Rattle.soft.specs.TotalOrderLaws.{not-less, less-through}
 use Rattle.soft.specs.BestPlacing.{OwnBest, NotAfter, Across, Down, RunnerUp, FirstPlace, SecondPlace, placed, BestTwo}

@@ -9,7 +9,7 @@ use lib.IntN.{ℤ, natAbs, _+ℤ_}
 use lib.ListN.{length}
 use lib.Signed.{ltZ}
 use Rattle.laws.specs.Grid.{Grid}
-use Rattle.hard.specs.RowMajor.{rowMajor}
+use Rattle.grid.specs.RowMajor.{rowMajor}
 use Rattle.soft.specs.Level.{sAt, level, levelBest, levelOf}
 use Rattle.soft.specs.declared.level.LevelMax.{LevelMax}
 use Rattle.soft.specs.declared.pair.TwoBest.{TwoBest}

@@ -16,9 +16,9 @@ use borrow.Author.Tests.{lt-ltb, le-ltb, ne-eqb}
 use Rattle.laws.specs.Tests.{compared}
 use Rattle.laws.specs.Grid.{Grid, Laws, origins}
 use Rattle.laws.specs.Signed.{read}
-use Rattle.hard.specs.CellTables.{Period}
-use Rattle.hard.specs.RowMajor.{rowMajor}
-use Rattle.hard.specs.RowMajorLaws.{major-none, major-only}
+use Rattle.best.specs.CellTables.{Period}
+use Rattle.grid.specs.RowMajor.{rowMajor}
+use Rattle.grid.specs.RowMajorLaws.{major-none, major-only}
 use Rattle.hard.specs.TransformLaws.{grid, none-small}
 use Rattle.soft.specs.Level.{sAt, level, levelBest, levelOf}
 use Rattle.soft.specs.LevelLaws.{cell-in, best-level, some-level, second-inside, few-level}

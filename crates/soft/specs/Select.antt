@@ -9,8 +9,8 @@ use Rattle.board.specs.Hits.{EdgeList, Board, size}
 use Rattle.board.specs.Sides.{periodOf}
 use Rattle.board.specs.Domain.{ListOk, BoardOk}
 use Rattle.tables.specs.Room.{used}
-use Rattle.tables.specs.Sums.{Likelihoods, LikelihoodsOk, sumsOf}
-use Rattle.tables.specs.SumsRoom.{SumsBuilt}
+use Rattle.sums.specs.Sums.{Likelihoods, LikelihoodsOk, sumsOf}
+use Rattle.sums.specs.SumsRoom.{SumsBuilt}
 use Rattle.soft.specs.Sums.{SumTables, sums}
 use Rattle.soft.specs.Scan.{softSelected, softChosen}
 use Rattle.soft.specs.declared.scan.SoftScan.{SoftScan}

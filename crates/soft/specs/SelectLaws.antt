@@ -13,10 +13,10 @@ use Rattle.board.specs.Hits.{EdgeList, Board, size}
 use Rattle.board.specs.Sides.{periodOf}
 use Rattle.board.specs.Domain.{ListOk, BoardOk}
 use Rattle.tables.specs.Room.{cellsAt, used}
-use Rattle.tables.specs.Sums.{Likelihoods, LikelihoodsOk, sumsOf, score}
-use Rattle.tables.specs.SumsRoom.{SumsReady, SumsBuilt}
-use Rattle.tables.specs.SumsTheorems.{length-sums, sums-small, read-sums, sums-again, key-sum, sum-rooms-equal}
-use Rattle.hard.specs.CellTables.{Period}
+use Rattle.sums.specs.Sums.{Likelihoods, LikelihoodsOk, sumsOf, score}
+use Rattle.sums.specs.SumsRoom.{SumsReady, SumsBuilt}
+use Rattle.sums.specs.SumsTheorems.{length-sums, sums-small, read-sums, sums-again, key-sum, sum-rooms-equal}
+use Rattle.best.specs.CellTables.{Period}
 use Rattle.hard.specs.SelectLaws.{period-h, period-v}
 use Rattle.soft.specs.Sums.{SumTables, sums, SumsOk}
 use Rattle.soft.specs.Scan.{softEmpty, softFolded, softSelected, softChosen}

@@ -13,8 +13,8 @@ use borrow.Author.Tests.{lt-ltb, le-ltb}
 use Rattle.laws.specs.Tests.{compared}
 use Rattle.laws.specs.Whole.{raised, raised-order, raised-add, raised-same, eqZ-true, eq-eqZ, le-raised}
 use Rattle.laws.specs.Grid.{Grid, Laws, origins}
-use Rattle.hard.specs.CellTables.{Period}
-use Rattle.hard.specs.RowMajorLaws.{major-le, major-is}
+use Rattle.best.specs.CellTables.{Period}
+use Rattle.grid.specs.RowMajorLaws.{major-le, major-is}
 use Rattle.soft.specs.Level.{sAt, levelBest, secondCell}
 use Rattle.soft.specs.LevelLaws.{cell-in, largest, second-largest, best-level}
 use Rattle.soft.specs.Sums.{SumsOk, sumAt}

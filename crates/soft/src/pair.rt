@@ -5,8 +5,8 @@ ghost use Prim.Native.Nat.{_*_, _<_};
 ghost use lib.Dec.{eqb};
 ghost use lib.ListN.{length};
 ghost use Rattle.laws.specs.Grid.{origins};
-ghost use Rattle.hard.specs.CellTables.{Period};
-ghost use Rattle.hard.specs.RowMajor.{lowest, rowMajor};
+ghost use Rattle.best.specs.CellTables.{Period};
+ghost use Rattle.grid.specs.RowMajor.{lowest, rowMajor};
 ghost use Rattle.soft.specs.Level.{level};
 ghost use Rattle.soft.specs.Sums.{SumsOk};
 ghost use Rattle.soft.specs.Pair.{LevelsOk, filled, otherIn, otherPair, nextPair, twoOf};
@@ -33,7 +33,7 @@ fn lowest_key(sums: &[i64], top: i64, h: usize, start: usize, long: usize, wide:
     let mut v: usize = 0;
     while v < sums.len() {
         if is_level(sums[v], top) {
-            let k = hard::origin::key_of(h, v, long, wide);
+            let k = grid::origin::key_of(h, v, long, wide);
             if k < best {
                 best = k;
             }
@@ -76,7 +76,7 @@ fn fill(
 {
     if found == none {
         if level {
-            let key = hard::origin::key_of(h, v, long, wide);
+            let key = grid::origin::key_of(h, v, long, wide);
             if key != winner {
                 return key;
             }
@@ -144,9 +144,9 @@ fn next_pair(a: LevelMax, b: LevelMax, long: usize, wide: usize) -> usize
     let across = a.under + b.top;
     let down = a.top + b.under;
     if across < down {
-        return hard::origin::key_of(a.cell, b.second, long, wide);
+        return grid::origin::key_of(a.cell, b.second, long, wide);
     }
-    hard::origin::key_of(a.second, b.cell, long, wide)
+    grid::origin::key_of(a.second, b.cell, long, wide)
 }
 
 // The winner of a transform and its runner-up. Where one pair is alone at the top, it is the pair of the best cells, and no table is walked again.
@@ -162,7 +162,7 @@ pub fn two_best(hs: &[i64], vs: &[i64], long: usize, wide: usize) -> TwoBest
         let runner = other_pair(hs, a.top, vs, b.top, winner, long, wide);
         return TwoBest { winner, runner };
     }
-    let winner = hard::origin::key_of(a.cell, b.cell, long, wide);
+    let winner = grid::origin::key_of(a.cell, b.cell, long, wide);
     let runner = next_pair(a, b, long, wide);
     TwoBest { winner, runner }
 }

@@ -1,7 +1,7 @@
 // The steps of the scan record: a candidate is offered, and a transform's two best are folded in.
 ghost use mathlib.Core.Path.{_≡_};
 ghost use Prim.Native.Nat.{_≤_, _<_};
-ghost use Rattle.hard.specs.CellTables.{Period};
+ghost use Rattle.best.specs.CellTables.{Period};
 ghost use Rattle.soft.specs.Sums.{SumsOk, sums};
 ghost use Rattle.soft.specs.Scan.{yields, softCandidate, softEmpty, softOffered, softFolded};
 use crate::pair::two_best;

@@ -3,7 +3,7 @@ ghost use mathlib.Core.Path.{_≡_};
 ghost use Prim.Native.Nat.{_<_};
 ghost use lib.ListN.{length};
 ghost use Rattle.board.specs.Hits.{edges, tables};
-ghost use Rattle.tables.specs.Sums.{likelihoods};
+ghost use Rattle.sums.specs.Sums.{likelihoods};
 ghost use Rattle.soft.specs.Scan.{softFolded};
 ghost use Rattle.soft.specs.Select.{SoftReady, SoftScanned};
 ghost use Rattle.soft.specs.SelectLaws.{roomSums, RoomReady};
@@ -40,7 +40,7 @@ pub fn scan_transforms<'a>(
     let mut scan = crate::record::empty();
     for i in 0..transforms.len() {
         let t = transforms[i];
-        tables::sums::build_sums(
+        sums::sums::build_sums(
             rows,
             cols,
             orientations,

@@ -23,11 +23,11 @@ use Rattle.laws.specs.Zone.{Zone}
 use Rattle.board.specs.Hits.{EdgeList, Board, size, seen, bitAt, patternBit, hit}
 use Rattle.board.specs.Sides.{onSide, tableOf, periodOf, longOf, shortOf, sideHits}
 use Rattle.board.specs.HitsLaws.{hit-side}
-use Rattle.tables.specs.Groups.{group, groupAt, member, groupCount, groupWeight, confidenceAt}
-use Rattle.tables.specs.Terms.{agrees, adds, termC, termW}
-use Rattle.tables.specs.TermsLaws.{same-termC, same-termW}
-use Rattle.tables.specs.Cells.{longClass, shortClass, patternAt, cellSum, family, familyC, familyW, cellCount}
-use Rattle.tables.specs.FillLaws.{group-below}
+use Rattle.groups.specs.Groups.{group, groupAt, member, groupCount, groupWeight, confidenceAt}
+use Rattle.groups.specs.Terms.{agrees, adds, termC, termW}
+use Rattle.groups.specs.TermsLaws.{same-termC, same-termW}
+use Rattle.cells.specs.Cells.{longClass, shortClass, patternAt, cellSum, family, familyC, familyW, cellCount}
+use Rattle.groups.specs.FillLaws.{group-below}
 use Rattle.tables.specs.Side.{total}
 
 -- ---- one family more, of any sum

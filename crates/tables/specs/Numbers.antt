@@ -8,8 +8,8 @@ use Rattle.laws.specs.Remainder.{emod}
 use Rattle.board.specs.Transform.{mat, matrices, lookupOf}
 use Rattle.board.specs.Hits.{EdgeList, Board, edges, tables, look, predicted, hit}
 use Rattle.board.specs.Sides.{sideHits}
-use Rattle.tables.specs.Listed.{listed}
-use Rattle.tables.specs.Cells.{cellCount, countsOf}
+use Rattle.cells.specs.Listed.{listed}
+use Rattle.cells.specs.Cells.{cellCount, countsOf}
 use Rattle.tables.specs.Room.{used}
 
 -- document 01, 'Room': 3,006 u32 and f32, 5,010 i64

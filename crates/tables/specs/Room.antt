@@ -9,8 +9,8 @@ use lib.Ieee.{Float, nan}
 use Rattle.board.specs.Hits.{EdgeList, Board}
 use Rattle.board.specs.Sides.{periodOf}
 use Rattle.board.specs.Domain.{ListOk, BoardOk}
-use Rattle.tables.specs.Groups.{rowLength, groupCount, groupWeight}
-use Rattle.tables.specs.Cells.{cellCount, cellWeight}
+use Rattle.groups.specs.Groups.{rowLength, groupCount, groupWeight}
+use Rattle.cells.specs.Cells.{cellCount, cellWeight}
 
 -- horizontal cells, then vertical cells
 abbrev pub cellsAt : (Bool → ℕ) → Bool → ℕ

@@ -11,9 +11,9 @@ use Rattle.laws.specs.Zone.{Zone}
 use Rattle.board.specs.Hits.{Board}
 use Rattle.board.specs.Sides.{tableOf, periodOf}
 use Rattle.board.specs.Domain.{BoardOk}
-use Rattle.tables.specs.Terms.{placesN, placesF}
-use Rattle.tables.specs.Cells.{longClass, shortClass, cellSum, familyC, familyW}
-use Rattle.tables.specs.Credit.{longStep, shortStep}
+use Rattle.groups.specs.Terms.{placesN, placesF}
+use Rattle.cells.specs.Cells.{longClass, shortClass, cellSum, familyC, familyW}
+use Rattle.cells.specs.Credit.{longStep, shortStep}
 
 -- how many edges the first n families have, whose groups have g k each
 unfoldable pub total : (ℕ → ℕ) → ℕ → ℕ

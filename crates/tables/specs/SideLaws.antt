@@ -14,11 +14,11 @@ use Rattle.laws.specs.WeightLaws.{upto-weightlike}
 use Rattle.laws.specs.Zone.{Zone, zone-none, zone-ext}
 use Rattle.board.specs.Hits.{Board}
 use Rattle.board.specs.Sides.{tableOf, periodOf}
-use Rattle.tables.specs.Terms.{placesN, placesF}
-use Rattle.tables.specs.TermsLaws.{same-termC, same-termW}
-use Rattle.tables.specs.Cells.{longClass, shortClass, cellSum, family, familyC, familyW}
+use Rattle.groups.specs.Terms.{placesN, placesF}
+use Rattle.groups.specs.TermsLaws.{same-termC, same-termW}
+use Rattle.cells.specs.Cells.{longClass, shortClass, cellSum, family, familyC, familyW}
 use Rattle.tables.specs.CellsLaws.{cell-none, cell-more, zone-family, cell-total, family-total, total-mono, cell-upto, cell-fits}
-use Rattle.tables.specs.Credit.{cellPattern, gainC, gainW, FamilyReady, FamilyCredited}
+use Rattle.cells.specs.Credit.{cellPattern, gainC, gainW, FamilyReady, FamilyCredited}
 use Rattle.tables.specs.Side.{total, SideReady, SideCells}
 
 -- what stands past the cells is as it was: place j of family f's groups

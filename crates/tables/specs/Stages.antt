@@ -16,13 +16,13 @@ use Rattle.laws.specs.Zone.{Zone, zone-ext}
 use Rattle.board.specs.Hits.{EdgeList, Board, size, seen}
 use Rattle.board.specs.Sides.{is, tableOf, periodOf}
 use Rattle.board.specs.HitsLaws.{side-some}
-use Rattle.tables.specs.Groups.{rowLength, member, confidenceAt, groupCount, groupWeight, Periods}
-use Rattle.tables.specs.Terms.{placesN, placesF}
-use Rattle.tables.specs.Cells.{longClass, shortClass, cellCount, cellWeight}
+use Rattle.groups.specs.Groups.{rowLength, member, confidenceAt, groupCount, groupWeight, Periods}
+use Rattle.groups.specs.Terms.{placesN, placesF}
+use Rattle.cells.specs.Cells.{longClass, shortClass, cellCount, cellWeight}
 use Rattle.tables.specs.CellsLaws.{same-cellC, same-cellW, cell-count, total-edges, group-upto}
-use Rattle.tables.specs.Credit.{longStep, shortStep}
-use Rattle.tables.specs.Fill.{FillReady, Filled, rowSum}
-use Rattle.tables.specs.FillLaws.{row-side}
+use Rattle.cells.specs.Credit.{longStep, shortStep}
+use Rattle.groups.specs.Fill.{FillReady, Filled, rowSum}
+use Rattle.groups.specs.FillLaws.{row-side}
 use Rattle.tables.specs.Side.{total, SideReady, SideBuilt}
 use Rattle.tables.specs.Room.{cellsAt, cellsEnd, groupsAt, used, Laid, TablesReady, TablesBuilt}
 use Rattle.tables.specs.RoomLaws.{cells-in, groups-in, groups-past, laid-ext, laid-clear, laid-groups, laid-cells}

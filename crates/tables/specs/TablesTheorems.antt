@@ -20,9 +20,9 @@ use Rattle.board.specs.Sides.{is, tableOf, periodOf, sideHits}
 use Rattle.board.specs.Domain.{ListOk, BoardOk}
 use Rattle.board.specs.HitsLaws.{side-some, hits-by-class, pair-hits}
 use Rattle.likelihood.specs.SumLaws.{counts-apart}
-use Rattle.tables.specs.Listed.{length-listed, getD-listed, view-listed}
-use Rattle.tables.specs.Groups.{groupCount, groupWeight}
-use Rattle.tables.specs.Cells.{width, longClass, shortClass, cellCount, cellWeight, countsOf, weightsOf}
+use Rattle.cells.specs.Listed.{length-listed, getD-listed, view-listed}
+use Rattle.groups.specs.Groups.{groupCount, groupWeight}
+use Rattle.cells.specs.Cells.{width, longClass, shortClass, cellCount, cellWeight, countsOf, weightsOf}
 use Rattle.tables.specs.CellsLaws.{cell-count, cell-upto, total-edges, group-upto}
 use Rattle.tables.specs.Room.{cellsAt, used, TablesReady, TablesBuilt}
 use Rattle.tables.specs.RoomLaws.{cells-in, laid-again, laid-cleared, laid-used, laid-same}

@@ -58,7 +58,7 @@ pub fn build_tables<'a>(
     let end = base + (len + tall) * 6;
     laws::clear_u32(counts, end);
     laws::clear_f32(weights, end);
-    crate::groups::fill_groups(
+    groups::groups::fill_groups(
         rows,
         cols,
         orientations,

@@ -1,7 +1,7 @@
 // Crediting: a family's terms added to the cells of one side.
 ghost use lib.Dec.{eqb};
 ghost use Rattle.board.specs.Hits.{tables};
-ghost use Rattle.tables.specs.Credit.{FamilyReady, FamilyCredited};
+ghost use Rattle.cells.specs.Credit.{FamilyReady, FamilyCredited};
 
 // Folds one family of a side and credits it to the side's cells, in two runs: class c reads the pattern c places after the family, so the
 // classes past the table's end read it from its start.
@@ -20,12 +20,12 @@ fn credit_held<'a>(
     requires { ⌜ FamilyReady (tables (now h) (now v)) (eqb orientation 0) family long short cells groups (now counts) (now weights) ⌝ }
     ensures { λ _. ⌜ FamilyCredited (tables (now (h .entry)) (now (v .entry))) (eqb orientation 0) family cells groups (now (counts .entry)) (now (counts .exit)) (now (weights .entry)) (now (weights .exit)) ⌝ }
 {
-    let terms = crate::terms::fold_family(counts, weights, groups + family * 6);
+    let terms = groups::terms::fold_family(counts, weights, groups + family * 6);
     let part = board::pattern::patterns_from(h, v, orientation, family);
     let n = part.len();
-    crate::run::credit_run(counts, weights, terms, part, n, cells, long, short);
+    cells::run::credit_run(counts, weights, terms, part, n, cells, long, short);
     let whole = board::pattern::patterns_from(h, v, orientation, 0);
-    crate::run::credit_run(
+    cells::run::credit_run(
         counts,
         weights,
         terms,
@@ -54,7 +54,7 @@ pub fn credit_family<'a>(
     requires { ⌜ FamilyReady (tables (now h) (now v)) (eqb orientation 0) family long short cells groups (now counts) (now weights) ⌝ }
     ensures { λ _. ⌜ FamilyCredited (tables (now (h .entry)) (now (v .entry))) (eqb orientation 0) family cells groups (now (counts .entry)) (now (counts .exit)) (now (weights .entry)) (now (weights .exit)) ⌝ }
 {
-    if crate::terms::edges_held(counts, groups + family * 6) != 0 {
+    if groups::terms::edges_held(counts, groups + family * 6) != 0 {
         credit_held(
             h,
             v,

@@ -5,7 +5,7 @@ use native.Mathlib.Omega.{arith}
 use lib.Ieee.{Float}
 use lib.ListN.{take, drop}
 use borrow.Author.Needs.{needs}
-use Rattle.hard.specs.CellTables.{CellTables, cells, TablesOk}
+use Rattle.best.specs.CellTables.{CellTables, cells, TablesOk}
 use Rattle.hard.specs.Transform.{foldTransform}
 use Rattle.hard.specs.SelectLaws.{roomCells}
 use Rattle.hard.proofs.select.fold_room.Statement.{statement}

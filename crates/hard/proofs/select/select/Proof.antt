@@ -4,7 +4,7 @@ use denote.Ref.{now}
 use lib.Ieee.{Float, eq, ofBits, binary32}
 use Rattle.laws.specs.Weights.{zeroF}
 use Rattle.board.specs.Hits.{EdgeList, Board, edges, tables}
-use Rattle.hard.specs.declared.scan.Choice.the-variants.{Nothing, Chosen}
+use Rattle.scan.specs.declared.scan.Choice.the-variants.{Nothing, Chosen}
 use Rattle.figures.specs.Figures.{totalConfidence}
 use Rattle.hard.specs.SelectLaws.{scan-sound, select-refused, select-chosen}
 use borrow.Author.Needs.{needs}

@@ -41,15 +41,15 @@ use denote.Triple.Table.{entered, cited}
 use denote.Triple.Walked.{says, needs, Stays, stay-none, stay-none-slice, walkOf, goes-none, goes-none-slice, Walks, ends-at, walked, walk-meets}
 use denote.Exit.{yes}
 use denote.Triple.Clauses.{ensured, lasts}
-use Rattle.hard.specs.CellTables.{cells}
+use Rattle.best.specs.CellTables.{cells}
 use Rattle.hard.specs.Transform.{foldTransform, FoldReady}
 use Rattle.hard.specs.View.{viewOf}
 use Rattle.hard.specs.declared.view.TransformTables.{TransformTables}
-use Rattle.hard.specs.declared.scan.HardScan.{HardScan}
+use Rattle.scan.specs.declared.scan.HardScan.{HardScan}
 use Rattle.hard.proofs.view.TransformTables as T
 use Rattle.hard.proofs.view.TransformTables.Laws as T′
-use Rattle.hard.proofs.scan.HardScan as S
-use Rattle.hard.proofs.scan.HardScan.Laws as S′
+use Rattle.scan.proofs.scan.HardScan as S
+use Rattle.scan.proofs.scan.HardScan.Laws as S′
 use Rattle.hard.proofs.view.view_of as new
 use Rattle.hard.proofs.view.view_of.Symbol as new-def
 use Rattle.hard.proofs.view.view_of.Symbol.{name as #hard·view·view-of}

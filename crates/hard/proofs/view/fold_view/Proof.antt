@@ -47,11 +47,11 @@ use lib.Ieee.{Float, binary32}
 use Rattle.hard.specs.Transform.{foldTransform, FoldReady}
 use Rattle.hard.specs.View.{viewed}
 use Rattle.hard.specs.declared.view.TransformTables.{TransformTables}
-use Rattle.hard.specs.declared.scan.HardScan.{HardScan}
+use Rattle.scan.specs.declared.scan.HardScan.{HardScan}
 use Rattle.hard.proofs.view.Held.{B, D, L, v₁, v₂, v₃, v₄, s₁, s₂, s₃, s₄, Own, apart}
 use Rattle.hard.proofs.view.TransformTables.Laws as T′
-use Rattle.hard.proofs.scan.HardScan as S
-use Rattle.hard.proofs.scan.HardScan.Laws as S′
+use Rattle.scan.proofs.scan.HardScan as S
+use Rattle.scan.proofs.scan.HardScan.Laws as S′
 use Rattle.hard.proofs.transform.fold_transform as core
 use Rattle.hard.proofs.transform.fold_transform.Symbol as core-def
 use Rattle.hard.proofs.transform.fold_transform.Symbol.{name as #hard·transform·fold-transform}

@@ -3,8 +3,8 @@ use native.Mathlib.Omega.{arith}
 use denote.Ref.{now}
 use lib.ListN.{length}
 use Rattle.board.specs.Hits.{edges, tables}
-use Rattle.checks.specs.declared.refusal.Refusal.{Refusal}
-use Rattle.checks.specs.Accepted.{HardAccepted, hard-accepted}
+use Rattle.admission.specs.declared.refusal.Refusal.{Refusal}
+use Rattle.admission.specs.Accepted.{HardAccepted, hard-accepted}
 use Rattle.puzzleboard.specs.HardLaws.{hard-refused, hard-done}
 use borrow.Author.Needs.{needs}
 use Rattle.puzzleboard.proofs.hard_decode.decode_hard.Statement.{statement}

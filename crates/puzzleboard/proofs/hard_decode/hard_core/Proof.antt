@@ -6,7 +6,7 @@ use denote.Ref.{now}
 use lib.ListN.{length}
 use lib.Ieee.{ofBits}
 use Rattle.board.specs.Hits.{EdgeList, Board, edges, tables, size}
-use Rattle.checks.specs.Accepted.{HardAccepted}
+use Rattle.admission.specs.Accepted.{HardAccepted}
 use Rattle.hard.specs.SelectLaws.{select-beyond}
 use Rattle.puzzleboard.specs.HardLaws.{ready-logical, ready-physical, logical-winner, physical-winner, core-refused, core-physical-refused, core-judged}
 use borrow.Author.Needs.{needs}

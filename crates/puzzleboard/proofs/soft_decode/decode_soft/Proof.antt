@@ -3,9 +3,9 @@ use native.Mathlib.Omega.{arith}
 use denote.Ref.{now}
 use lib.ListN.{length}
 use Rattle.board.specs.Hits.{edges, tables}
-use Rattle.tables.specs.Sums.{Likelihoods, likelihoods}
-use Rattle.checks.specs.declared.refusal.Refusal.{Refusal}
-use Rattle.checks.specs.Accepted.{SoftAccepted, soft-accepted}
+use Rattle.sums.specs.Sums.{Likelihoods, likelihoods}
+use Rattle.admission.specs.declared.refusal.Refusal.{Refusal}
+use Rattle.admission.specs.Accepted.{SoftAccepted, soft-accepted}
 use Rattle.puzzleboard.specs.SoftLaws.{soft-refused, soft-done}
 use borrow.Author.Needs.{needs}
 use Rattle.puzzleboard.proofs.soft_decode.decode_soft.Statement.{statement}

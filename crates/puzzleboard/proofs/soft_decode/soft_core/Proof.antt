@@ -8,7 +8,7 @@ use lib.ListN.{length}
 use lib.Ieee.{Float, eq, ofBits, binary32}
 use Rattle.laws.specs.Weights.{zeroF}
 use Rattle.board.specs.Hits.{EdgeList, Board, edges, tables, size}
-use Rattle.tables.specs.Sums.{likelihoods}
+use Rattle.sums.specs.Sums.{likelihoods}
 use Rattle.figures.specs.Figures.{totalConfidence}
 use Rattle.puzzleboard.specs.SoftLaws.{soft-hard, ready-soft, first-listed, choice-told, core-none, core-nothing, core-below, core-logical}
 use borrow.Author.Needs.{needs}

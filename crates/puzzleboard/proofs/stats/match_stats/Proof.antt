@@ -5,10 +5,10 @@ use denote.Ref.{now}
 use lib.Ieee.{Float}
 use Rattle.board.specs.Hits.{EdgeList, Board, edges, tables, size, hits}
 use Rattle.board.specs.HitsLaws.{hits-le}
-use Rattle.checks.specs.declared.refusal.Refusal.{Refusal}
+use Rattle.admission.specs.declared.refusal.Refusal.{Refusal}
 use Rattle.puzzleboard.specs.declared.answer.MatchStats.{MatchStats}
 use Rattle.puzzleboard.specs.declared.stats.HitsWeight.{HitsWeight}
-use Rattle.checks.specs.Accepted.{StatsAccepted, stats-accepted}
+use Rattle.admission.specs.Accepted.{StatsAccepted, stats-accepted}
 use Rattle.puzzleboard.specs.Stats.{hitsAndWeight}
 use Rattle.puzzleboard.specs.StatsLaws.{stats-refused, stats-counted}
 use borrow.Author.Needs.{needs}

@@ -3,8 +3,8 @@ use mathlib.Core.Path.{_≡_, sym, ap, _∙_}
 use denote.Ref.{now}
 use lib.ListN.{length}
 use Rattle.board.specs.Hits.{edges, tables}
-use Rattle.checks.specs.declared.refusal.Refusal.{Refusal}
-use Rattle.checks.specs.Accepted.{HardAccepted, hard-accepted}
+use Rattle.admission.specs.declared.refusal.Refusal.{Refusal}
+use Rattle.admission.specs.Accepted.{HardAccepted, hard-accepted}
 use Rattle.puzzleboard.specs.HardLaws.{ready-logical}
 use borrow.Author.Needs.{needs}
 use Rattle.replay.proofs.selection.select.Statement.{statement}

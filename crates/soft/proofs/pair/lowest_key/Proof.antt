@@ -9,11 +9,11 @@ use mir.Syntax.{w64}
 use mir.Val.{toZ, ofZ}
 use mir.Facts.{toZ-ofZ}
 use Rattle.laws.specs.Grid.{origins}
-use Rattle.hard.specs.RowMajor.{lowest}
-use Rattle.hard.specs.RowMajorLaws.{lowest-no, lowest-new, lowest-old}
+use Rattle.grid.specs.RowMajor.{lowest}
+use Rattle.grid.specs.RowMajorLaws.{lowest-no, lowest-new, lowest-old}
 use Rattle.soft.specs.Level.{sAt, level}
 use Rattle.soft.specs.SumsLaws.{read-eq}
-use Rattle.hard.specs.RowFloor.{floor-stays}
+use Rattle.grid.specs.RowFloor.{floor-stays}
 use Rattle.soft.proofs.pair.lowest_key.Statement.{statement}
 use Rattle.soft.proofs.pair.lowest_key.Tie as tie
 

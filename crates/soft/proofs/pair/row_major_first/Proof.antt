@@ -8,8 +8,8 @@ use mir.Syntax.{w64}
 use mir.Val.{toZ, ofZ}
 use mir.Facts.{toZ-ofZ}
 use Rattle.laws.specs.Grid.{origins}
-use Rattle.hard.specs.RowMajor.{rowMajor}
-use Rattle.hard.specs.RowMajorLaws.{major-no, major-yes}
+use Rattle.grid.specs.RowMajor.{rowMajor}
+use Rattle.grid.specs.RowMajorLaws.{major-no, major-yes}
 use Rattle.hard.specs.TransformLaws.{none-small}
 use Rattle.soft.specs.Level.{sAt, level}
 use Rattle.soft.specs.SumsLaws.{read-eq}

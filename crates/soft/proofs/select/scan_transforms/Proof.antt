@@ -6,7 +6,7 @@ use denote.Ref.{now}
 use lib.ListN.{length, getD}
 use borrow.Author.Needs.{needs}
 use Rattle.board.specs.Hits.{EdgeList, Board, edges, tables}
-use Rattle.tables.specs.Sums.{Likelihoods, likelihoods}
+use Rattle.sums.specs.Sums.{Likelihoods, likelihoods}
 use Rattle.soft.specs.Select.{SoftScanned}
 use Rattle.soft.specs.SelectLaws.{scan-none, scan-more, scan-count, room-next, room-length, room-ready}
 use Rattle.soft.proofs.select.scan_transforms.Statement.{statement}

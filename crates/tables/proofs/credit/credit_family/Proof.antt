@@ -2,7 +2,7 @@ use mathlib.Core.Path.{sym, _∙_}
 use denote.Ref.{now}
 use lib.Dec.{eqb}
 use Rattle.board.specs.Hits.{tables}
-use Rattle.tables.specs.CreditLaws.{family-empty}
+use Rattle.cells.specs.CreditLaws.{family-empty}
 use borrow.Author.Needs.{needs}
 use Rattle.tables.proofs.credit.credit_family.Statement.{statement}
 use Rattle.tables.proofs.credit.credit_family.Tie as tie

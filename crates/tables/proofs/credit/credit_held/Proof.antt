@@ -9,9 +9,9 @@ use lib.Dec.{eqb}
 use lib.ListN.{length, drop, length-drop}
 use Rattle.board.specs.Hits.{Board, tables}
 use Rattle.board.specs.Sides.{tableOf, periodOf}
-use Rattle.tables.specs.Credit.{RunCredited}
-use Rattle.tables.specs.RunLaws.{first-long}
-use Rattle.tables.specs.CreditLaws.{first-ready, second-ready, family-credited}
+use Rattle.cells.specs.Credit.{RunCredited}
+use Rattle.cells.specs.RunLaws.{first-long}
+use Rattle.cells.specs.CreditLaws.{first-ready, second-ready, family-credited}
 use borrow.Author.Needs.{needs}
 use Rattle.tables.proofs.credit.credit_held.Statement.{statement}
 use Rattle.tables.proofs.credit.credit_held.Tie as tie

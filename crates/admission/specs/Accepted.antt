@@ -1,0 +1,243 @@
+-- Refusal 0 means accepted: the named facts that the decoders may use of a call that passed all checks.
+use mathlib.Core.Path.{_≡_, refl, sym, ap, _∙_}
+use mathlib.Core.Bool.{Bool, true, false, not, _&&_, _||_, cond, true≢false}
+use mathlib.Core.List.{List}
+use Prim.Native.Nat.{ℕ, suc, _%_, _≤_, _<_}
+use native.Mathlib.Nat.{le-trans}
+use native.Mathlib.Omega.{arith}
+use lib.Dec.{T, ltb, eqb, lit≤}
+use lib.ListN.{getD, length}
+use lib.IntN.{ℤ, pos, negsuc, natAbs}
+use lib.Ieee.{Float, nan, le}
+use borrow.Author.Tests.{eqb-true, eqb-false, ltb-false, not-false}
+use Rattle.laws.specs.Tests.{or-false, and-true}
+use Rattle.laws.specs.First.{first-none}
+use Rattle.laws.specs.Weights.{zeroF, oneF, Weight}
+use Rattle.laws.specs.WeightLaws.{confidence}
+use Rattle.board.specs.Hits.{EdgeList, Board, size}
+use Rattle.board.specs.Domain.{ListOk, Patterns, BoardOk}
+use Rattle.likelihood.specs.Likelihood.{acceptable}
+use Rattle.admission.specs.declared.refusal.Refusal.{Refusal}
+use Rattle.checks.specs.Checks.{far, farAt, badCoordinate, badByte, inRange, marginTop, badConfidence, badLikelihood, firstBadCoordinate, firstBadByte, firstBadConfidence, firstBadLikelihood, lengthsDiffer, sizeBad, fieldBad, confidenceBad, likelihoodsDiffer, likelihoodBad, transformsBad, tableBad, originBad}
+use Rattle.admission.specs.Refusals.{numbered, fieldsBad, tablesBad, roomShort, softRoomShort, hardRefusal, softRefusal, statsRefusal}
+
+-- ---- lists without a bad place
+none-bad : (p : ℕ → Bool) (n k : ℕ) → ltb k n ≡ false → k ≡ Rattle.laws.specs.First.first p n → (i : ℕ) → i < n → p i ≡ false
+none-bad p n k h e = first-none p n (omega (arith, ltb-false k n h))
+
+pub bytes-ok : (top : ℕ) (xs : List ℕ) → ltb (firstBadByte top xs) (length xs) ≡ false → (i : ℕ) → i < length xs → getD xs i 0 ≤ top
+unfolding firstBadByte
+bytes-ok top xs h i l = ltb-false top (getD xs i 0) (none-bad (badByte top xs) (length xs) _ h refl i l)
+
+near : (z : ℤ) → far z ≡ false → natAbs z ≤ 1000000
+unfolding far
+near (pos n) h = ltb-false _ _ h
+near (negsuc n) h = let a : n ≤ 999999 = ltb-false _ _ (or-false (ltb 999999 n) _ h .0) in omega arith
+
+is-true : (b : Bool) → b ≡ true → T b
+is-true true e = tt
+is-true false e = absurd (true≢false (sym e))
+
+pub is-confidence : (x : Float) → inRange oneF x ≡ true → Weight x 1
+unfolding inRange
+is-confidence x h = let a = and-true (le zeroF x) (le x oneF) h in confidence x (is-true (le zeroF x) (a .0)) (is-true (le x oneF) (a .1))
+
+-- ---- one list
+pub list-ok : (least : ℕ) (E : EdgeList) → lengthsDiffer E ≡ false → sizeBad least (size E) ≡ false → fieldsBad E ≡ false → confidenceBad (E .confidences) ≡ false → ListOk E
+unfolding lengthsDiffer sizeBad fieldBad confidenceBad firstBadCoordinate firstBadConfidence
+list-ok least E d z f w =
+    let n = size E in
+    let e1 = and-true (eqb n (length (E .cols))) _ (not-false _ d) in
+    let e2 = and-true (eqb n (length (E .orientations))) _ (e1 .1) in
+    let e3 = and-true (eqb n (length (E .bits))) _ (e2 .1) in
+    let cols : length (E .cols) ≡ n = sym (eqb-true _ _ (e1 .0)) in
+    let bits : length (E .bits) ≡ n = sym (eqb-true _ _ (e3 .0)) in
+    let confidences : length (E .confidences) ≡ n = sym (eqb-true _ _ (e3 .1)) in
+    let f1 = or-false (ltb (firstBadCoordinate (E .rows) (E .cols)) n) _ f in
+    let f2 = or-false (ltb (firstBadByte 1 (E .orientations)) (length (E .orientations))) _ (f1 .1) in
+    let coordinate : (i : ℕ) → i < n → (farAt (E .rows) i ≡ false) × (farAt (E .cols) i ≡ false) =
+    λ i l. or-false (farAt (E .rows) i) (farAt (E .cols) i) (none-bad (badCoordinate (E .rows) (E .cols)) n _ (f1 .0) refl i l) in
+    record {
+      few = ltb-false _ _ (or-false (ltb n least) _ z .1);
+      cols = cols;
+      orientations = sym (eqb-true _ _ (e2 .0));
+      bits = bits;
+      confidences = confidences;
+      near-row = λ i l. near (getD (E .rows) i (pos 0)) (coordinate i l .0);
+      near-col = λ i l. near (getD (E .cols) i (pos 0)) (coordinate i l .1);
+      bit = λ i l. let m : i < length (E .bits) = omega arith in let b = bytes-ok 1 (E .bits) (f2 .1) i m in omega arith;
+      confidence = λ i l. let m : i < length (E .confidences) = omega arith in is-confidence (getD (E .confidences) i nan) (not-false _ (none-bad (badConfidence (E .confidences)) (length (E .confidences)) _ w refl i m));
+    }
+
+-- it has as many edges as it must
+pub size-ok : (least n : ℕ) → sizeBad least n ≡ false → least ≤ n
+unfolding sizeBad
+size-ok least n h = ltb-false n least (or-false (ltb n least) (ltb 8192 n) h .0)
+
+-- ---- transforms: 1 to 8 numbers, each below 8
+pub record TransformsOk (ts : List ℕ) : Type 0 where
+  pub some : 0 < length ts
+  pub few : length ts ≤ 8
+  pub small : (i : ℕ) → i < length ts → getD ts i 0 < 8
+
+pub transforms-ok : (ts : List ℕ) → transformsBad ts ≡ false → TransformsOk ts
+unfolding transformsBad
+transforms-ok ts h =
+    let a = or-false (eqb (length ts) 0) _ h in
+    let b = or-false (ltb 8 (length ts)) _ (a .1) in
+    record {
+      some = let z : length ts ≡ 0 → ⊥ = eqb-false _ _ (a .0) in omega arith;
+      few = ltb-false _ _ (b .0);
+      small = λ i l. let m = bytes-ok 7 ts (b .1) i l in omega arith;
+    }
+
+-- ---- tables: 167 patterns below 8
+pub patterns-ok : (ps : List ℕ) → tableBad ps ≡ false → Patterns ps
+unfolding tableBad
+patterns-ok ps h =
+    let a = or-false (not (eqb (length ps) 167)) _ h in
+    let e : length ps ≡ 167 = eqb-true _ _ (not-false _ (a .0)) in
+    record {
+      some = omega arith;
+      few = omega arith;
+      free = λ z. omega (arith, ap (λ (n : ℕ). n % 3) e);
+      small = λ i l. let m = bytes-ok 7 ps (a .1) i l in omega arith;
+    }
+
+-- and both have the flat board's period
+pub period-167 : (ps : List ℕ) → tableBad ps ≡ false → length ps ≡ 167
+unfolding tableBad
+period-167 ps h = eqb-true _ _ (not-false _ (or-false (not (eqb (length ps) 167)) _ h .0))
+
+pub board-ok : (B : Board) → tablesBad B ≡ false → BoardOk B
+board-ok B h = let a = or-false (tableBad (B .h)) (tableBad (B .v)) h in record { h = patterns-ok (B .h) (a .0); v = patterns-ok (B .v) (a .1) }
+
+-- ---- chains of tests: nothing refused means that no test holds
+rest : (t : Bool) (k : ℕ) (r : Refusal) → 0 < k → cond t (numbered k) r .number ≡ 0 → (t ≡ false) × (r .number ≡ 0)
+rest true k r p h = absurd (omega arith)
+rest false k r p h = (refl, h)
+
+-- match statistics
+pub record StatsAccepted (E : EdgeList) (t row col : ℕ) (B : Board) : Type 0 where
+  pub list : ListOk E
+  pub transform : t < 8
+  pub board : BoardOk B
+  pub origin : (row ≤ 500) × (col ≤ 500)
+
+pub stats-accepted : (E : EdgeList) (t row col : ℕ) (B : Board) → statsRefusal E t row col B .number ≡ 0 → StatsAccepted E t row col B
+unfolding statsRefusal originBad
+stats-accepted E t row col B h =
+    let a2 = rest _ 2 _ (omega arith) h in
+    let a3 = rest _ 3 _ (omega arith) (a2 .1) in
+    let a4 = rest _ 4 _ (omega arith) (a3 .1) in
+    let a5 = rest _ 5 _ (omega arith) (a4 .1) in
+    let a7 = rest _ 7 _ (omega arith) (a5 .1) in
+    let a8 = rest _ 8 _ (omega arith) (a7 .1) in
+    let a9 = rest _ 9 _ (omega arith) (a8 .1) in
+    let o = or-false (ltb 500 row) (ltb 500 col) (a9 .0) in
+    record {
+      list = list-ok 0 E (a2 .0) (a3 .0) (a4 .0) (a5 .0);
+      transform = let l = ltb-false 7 t (a7 .0) in omega arith;
+      board = board-ok B (a8 .0);
+      origin = (ltb-false _ _ (o .0), ltb-false _ _ (o .1));
+    }
+
+-- a hard call
+pub record HardAccepted (L P : EdgeList) (ts : List ℕ) (B : Board) (limit : Float) (counts weights : ℕ) : Type 0 where
+  pub room : (3006 ≤ counts) × (3006 ≤ weights)
+  pub logical : ListOk L
+  pub some-logical : 0 < size L
+  pub physical : ListOk P
+  pub some-physical : 0 < size P
+  pub transforms : TransformsOk ts
+  pub board : BoardOk B
+  pub periods : (length (B .h) ≡ 167) × (length (B .v) ≡ 167)
+  pub within-limit : inRange oneF limit ≡ true
+
+pub hard-accepted : (L P : EdgeList) (ts : List ℕ) (B : Board) (limit : Float) (m n : ℕ) → hardRefusal L P ts B limit m n .number ≡ 0 → HardAccepted L P ts B limit m n
+unfolding hardRefusal roomShort
+hard-accepted L P ts B limit m n h =
+    let a1 = rest _ 1 _ (omega arith) h in
+    let a2 = rest _ 2 _ (omega arith) (a1 .1) in
+    let a3 = rest _ 3 _ (omega arith) (a2 .1) in
+    let a4 = rest _ 4 _ (omega arith) (a3 .1) in
+    let a5 = rest _ 5 _ (omega arith) (a4 .1) in
+    let a7 = rest _ 7 _ (omega arith) (a5 .1) in
+    let a8 = rest _ 8 _ (omega arith) (a7 .1) in
+    let a9 = rest _ 9 _ (omega arith) (a8 .1) in
+    let r = or-false (ltb m 3006) (ltb n 3006) (a1 .0) in
+    let d = or-false (lengthsDiffer L) (lengthsDiffer P) (a2 .0) in
+    let z = or-false (sizeBad 1 (size L)) (sizeBad 1 (size P)) (a3 .0) in
+    let f = or-false (fieldsBad L) (fieldsBad P) (a4 .0) in
+    let w = or-false (confidenceBad (L .confidences)) (confidenceBad (P .confidences)) (a5 .0) in
+    let t = or-false (tableBad (B .h)) (tableBad (B .v)) (a8 .0) in
+    record {
+      room = (ltb-false _ _ (r .0), ltb-false _ _ (r .1));
+      logical = list-ok 1 L (d .0) (z .0) (f .0) (w .0);
+      some-logical = size-ok 1 (size L) (z .0);
+      physical = list-ok 1 P (d .1) (z .1) (f .1) (w .1);
+      some-physical = size-ok 1 (size P) (z .1);
+      transforms = transforms-ok ts (a7 .0);
+      board = board-ok B (a8 .0);
+      periods = (period-167 (B .h) (t .0), period-167 (B .v) (t .1));
+      within-limit = not-false _ (a9 .0);
+    }
+
+-- a soft call: besides, each edge of the physical list has two acceptable likelihoods, and there is room for the sums
+pub record SoftAccepted (P : EdgeList) (ms us : List Float) (L : EdgeList) (ts : List ℕ) (B : Board) (limit margin : Float) (counts weights sums : ℕ) : Type 0 where
+  pub room : (3006 ≤ counts) × (3006 ≤ weights) × (5010 ≤ sums)
+  pub physical : ListOk P
+  pub some-physical : 0 < size P
+  pub matches : length ms ≡ size P
+  pub mismatches : length us ≡ size P
+  pub likely : (i : ℕ) → i < size P → (acceptable (getD ms i nan) ≡ true) × (acceptable (getD us i nan) ≡ true)
+  pub logical : ListOk L
+  pub some-logical : 0 < size L
+  pub transforms : TransformsOk ts
+  pub board : BoardOk B
+  pub periods : (length (B .h) ≡ 167) × (length (B .v) ≡ 167)
+  pub within-limit : inRange oneF limit ≡ true
+  pub within-margin : inRange marginTop margin ≡ true
+
+pub soft-accepted : (P : EdgeList) (ms us : List Float) (L : EdgeList) (ts : List ℕ) (B : Board) (limit margin : Float) (m n k : ℕ)
+    → softRefusal P ms us L ts B limit margin m n k .number ≡ 0 → SoftAccepted P ms us L ts B limit margin m n k
+unfolding softRefusal softRoomShort roomShort likelihoodsDiffer likelihoodBad firstBadLikelihood
+soft-accepted P ms us L ts B limit margin m n k h =
+    let a1 = rest _ 1 _ (omega arith) h in
+    let a2 = rest _ 2 _ (omega arith) (a1 .1) in
+    let a3 = rest _ 3 _ (omega arith) (a2 .1) in
+    let a4 = rest _ 4 _ (omega arith) (a3 .1) in
+    let a5 = rest _ 5 _ (omega arith) (a4 .1) in
+    let a6 = rest _ 6 _ (omega arith) (a5 .1) in
+    let a7 = rest _ 7 _ (omega arith) (a6 .1) in
+    let a8 = rest _ 8 _ (omega arith) (a7 .1) in
+    let a9 = rest _ 9 _ (omega arith) (a8 .1) in
+    let s = or-false (ltb m 3006 || ltb n 3006) (ltb k 5010) (a1 .0) in
+    let r = or-false (ltb m 3006) (ltb n 3006) (s .0) in
+    let e = or-false (lengthsDiffer P || lengthsDiffer L) _ (a2 .0) in
+    let d = or-false (lengthsDiffer P) (lengthsDiffer L) (e .0) in
+    let q = and-true (eqb (size P) (length ms)) (eqb (size P) (length us)) (not-false _ (e .1)) in
+    let z = or-false (sizeBad 1 (size P)) (sizeBad 1 (size L)) (a3 .0) in
+    let f = or-false (fieldsBad P) (fieldsBad L) (a4 .0) in
+    let w = or-false (confidenceBad (P .confidences)) (confidenceBad (L .confidences)) (a5 .0) in
+    let t = or-false (tableBad (B .h)) (tableBad (B .v)) (a8 .0) in
+    let g = or-false (not (inRange oneF limit)) (not (inRange marginTop margin)) (a9 .0) in
+    let matches : length ms ≡ size P = sym (eqb-true _ _ (q .0)) in
+    record {
+      room = (ltb-false _ _ (r .0), ltb-false _ _ (r .1), ltb-false _ _ (s .1));
+      physical = list-ok 1 P (d .0) (z .0) (f .0) (w .0);
+      some-physical = size-ok 1 (size P) (z .0);
+      matches = matches;
+      mismatches = sym (eqb-true _ _ (q .1));
+      likely = λ i l.
+          let x : i < length ms = omega arith in
+          let b = or-false (not (acceptable (getD ms i nan))) (not (acceptable (getD us i nan))) (none-bad (badLikelihood ms us) (length ms) _ (a6 .0) refl i x) in
+          (not-false _ (b .0), not-false _ (b .1));
+      logical = list-ok 1 L (d .1) (z .1) (f .1) (w .1);
+      some-logical = size-ok 1 (size L) (z .1);
+      transforms = transforms-ok ts (a7 .0);
+      board = board-ok B (a8 .0);
+      periods = (period-167 (B .h) (t .0), period-167 (B .v) (t .1));
+      within-limit = not-false _ (g .0);
+      within-margin = not-false _ (g .1);
+    }

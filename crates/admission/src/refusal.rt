@@ -1,0 +1,236 @@
+// Refusal numbers 1 to 9: the lowest that applies over all lists, or 0 where the call is accepted.
+ghost use mathlib.Core.Path.{_≡_};
+ghost use mathlib.Core.Bool.{_||_, not};
+ghost use Rattle.laws.specs.Weights.{oneF};
+ghost use Rattle.board.specs.Hits.{edges, tables};
+ghost use Rattle.checks.specs.Checks.{inRange, marginTop, likelihoodsDiffer, originBad};
+ghost use Rattle.admission.specs.Refusals.{earlier, refusedIf, roomShort, softRoomShort, tablesBad, listRefusal, likelihoodRefusal, settingsRefusal, hardRefusal, softRefusal, statsRefusal};
+
+// Why a call was refused: the number of document 01's table. Inside the checks 0 means that nothing is refused; an answer never holds that.
+pub struct Refusal {
+    pub number: u32,
+}
+
+// The refusal that comes first of two.
+fn first_of(a: Refusal, b: Refusal) -> Refusal
+    ensures { λ r. ⌜ r ≡ earlier a b ⌝ }
+{
+    if a.number == 0 {
+        return b;
+    }
+    if b.number == 0 {
+        return a;
+    }
+    if b.number < a.number {
+        return b;
+    }
+    a
+}
+
+// The given number where it applies, else 0.
+fn refused_if(bad: bool, number: u32) -> Refusal
+    ensures { λ r. ⌜ r ≡ refusedIf bad number ⌝ }
+{
+    if bad {
+        return Refusal { number };
+    }
+    Refusal { number: 0 }
+}
+
+// Whether the room of a hard call is too short: 3,006 u32 and 3,006 f32 are needed.
+fn room_short(counts: usize, weights: usize) -> bool
+    ensures { λ r. ⌜ r ≡ roomShort counts weights ⌝ }
+{
+    counts < 3006 || weights < 3006
+}
+
+// Whether the room of a soft call is too short: 5,010 i64 besides.
+fn soft_room_short(counts: usize, weights: usize, sums: usize) -> bool
+    ensures { λ r. ⌜ r ≡ softRoomShort counts weights sums ⌝ }
+{
+    room_short(counts, weights) || sums < 5010
+}
+
+// Whether one of the two pattern tables is wrong.
+fn tables_bad(h: &[u8], v: &[u8]) -> bool
+    ensures { λ r. ⌜ r ≡ tablesBad (tables (now (h .entry)) (now (v .entry))) ⌝ }
+{
+    checks::check::table_bad(h) || checks::check::table_bad(v)
+}
+
+// Numbers 2 to 5 of one list that must have at least `least` edges.
+fn list_refusal(
+    least: usize,
+    rows: &[i32],
+    cols: &[i32],
+    orientations: &[u8],
+    bits: &[u8],
+    confidences: &[f32],
+) -> Refusal
+    ensures { λ r. ⌜ r ≡ listRefusal least (edges (now (rows .entry)) (now (cols .entry)) (now (orientations .entry)) (now (bits .entry)) (now (confidences .entry))) ⌝ }
+{
+    if checks::check::lengths_differ(rows, cols, orientations, bits, confidences) {
+        return Refusal { number: 2 };
+    }
+    if checks::check::size_bad(least, rows.len()) {
+        return Refusal { number: 3 };
+    }
+    if checks::check::field_bad(rows, cols, orientations, bits) {
+        return Refusal { number: 4 };
+    }
+    refused_if(checks::check::confidence_bad(confidences), 5)
+}
+
+// Whether the likelihood slices of a list of n edges differ from it in length.
+fn likelihoods_differ(n: usize, matches: &[f32], mismatches: &[f32]) -> bool
+    ensures { λ r. ⌜ r ≡ likelihoodsDiffer n (now (matches .entry)) (now (mismatches .entry)) ⌝ }
+{
+    if n == matches.len() {
+        return n != mismatches.len();
+    }
+    true
+}
+
+// Numbers 2 and 6 of the likelihoods of a list of n edges.
+fn likelihood_refusal(n: usize, matches: &[f32], mismatches: &[f32]) -> Refusal
+    ensures { λ r. ⌜ r ≡ likelihoodRefusal n (now (matches .entry)) (now (mismatches .entry)) ⌝ }
+{
+    if likelihoods_differ(n, matches, mismatches) {
+        return Refusal { number: 2 };
+    }
+    refused_if(
+        checks::check::first_bad_likelihood(matches, mismatches) < matches.len(),
+        6,
+    )
+}
+
+// Numbers 7 to 9: transforms, tables, and what else the call was given.
+fn settings_refusal(transforms: bool, tables: bool, rest: bool) -> Refusal
+    ensures { λ r. ⌜ r ≡ settingsRefusal transforms tables rest ⌝ }
+{
+    if transforms {
+        return Refusal { number: 7 };
+    }
+    if tables {
+        return Refusal { number: 8 };
+    }
+    refused_if(rest, 9)
+}
+
+// Whether an origin given to match statistics is off the board.
+fn origin_bad(row: u32, col: u32) -> bool
+    ensures { λ r. ⌜ r ≡ originBad row col ⌝ }
+{
+    500 < row || 500 < col
+}
+
+// Numbers 1 to 9 of a hard call: the lowest over both lists, 0 where it is accepted. The last two are the lengths of the lent room.
+pub fn hard_refusal(
+    lrows: &[i32],
+    lcols: &[i32],
+    lorientations: &[u8],
+    lbits: &[u8],
+    lconfidences: &[f32],
+    prows: &[i32],
+    pcols: &[i32],
+    porientations: &[u8],
+    pbits: &[u8],
+    pconfidences: &[f32],
+    transforms: &[u8],
+    h: &[u8],
+    v: &[u8],
+    limit: f32,
+    counts: usize,
+    weights: usize,
+) -> Refusal
+    ensures { λ r. ⌜ r ≡ hardRefusal
+        (edges (now (lrows .entry)) (now (lcols .entry)) (now (lorientations .entry)) (now (lbits .entry)) (now (lconfidences .entry)))
+        (edges (now (prows .entry)) (now (pcols .entry)) (now (porientations .entry)) (now (pbits .entry)) (now (pconfidences .entry)))
+        (now (transforms .entry)) (tables (now (h .entry)) (now (v .entry))) limit counts weights ⌝ }
+{
+    let room = refused_if(room_short(counts, weights), 1);
+    let logical = list_refusal(1, lrows, lcols, lorientations, lbits, lconfidences);
+    let physical = list_refusal(1, prows, pcols, porientations, pbits, pconfidences);
+    let settings = settings_refusal(
+        checks::check::transforms_bad(transforms),
+        tables_bad(h, v),
+        !checks::check::in_range(limit, 1.0f32),
+    );
+    first_of(room, first_of(first_of(logical, physical), settings))
+}
+
+// Whether the error limit or the soft margin is out of range.
+fn limits_bad(limit: f32, margin: f32) -> bool
+    ensures { λ r. ⌜ r ≡ not (inRange oneF limit) || not (inRange marginTop margin) ⌝ }
+{
+    if checks::check::in_range(limit, 1.0f32) {
+        return !checks::check::in_range(margin, 65536.0f32);
+    }
+    true
+}
+
+// Numbers 1 to 9 of a soft call: the physical list has two likelihood slices besides, and the soft margin is checked with the limit.
+pub fn soft_refusal(
+    prows: &[i32],
+    pcols: &[i32],
+    porientations: &[u8],
+    pbits: &[u8],
+    pconfidences: &[f32],
+    matches: &[f32],
+    mismatches: &[f32],
+    lrows: &[i32],
+    lcols: &[i32],
+    lorientations: &[u8],
+    lbits: &[u8],
+    lconfidences: &[f32],
+    transforms: &[u8],
+    h: &[u8],
+    v: &[u8],
+    limit: f32,
+    margin: f32,
+    counts: usize,
+    weights: usize,
+    sums: usize,
+) -> Refusal
+    ensures { λ r. ⌜ r ≡ softRefusal
+        (edges (now (prows .entry)) (now (pcols .entry)) (now (porientations .entry)) (now (pbits .entry)) (now (pconfidences .entry)))
+        (now (matches .entry)) (now (mismatches .entry))
+        (edges (now (lrows .entry)) (now (lcols .entry)) (now (lorientations .entry)) (now (lbits .entry)) (now (lconfidences .entry)))
+        (now (transforms .entry)) (tables (now (h .entry)) (now (v .entry))) limit margin counts weights sums ⌝ }
+{
+    let room = refused_if(soft_room_short(counts, weights, sums), 1);
+    let physical = list_refusal(1, prows, pcols, porientations, pbits, pconfidences);
+    let logical = list_refusal(1, lrows, lcols, lorientations, lbits, lconfidences);
+    let likelihoods = likelihood_refusal(prows.len(), matches, mismatches);
+    let settings = settings_refusal(
+        checks::check::transforms_bad(transforms),
+        tables_bad(h, v),
+        limits_bad(limit, margin),
+    );
+    first_of(
+        room,
+        first_of(first_of(first_of(physical, logical), likelihoods), settings),
+    )
+}
+
+// Numbers 2 to 5 and 7 to 9 of match statistics, which take an empty list and no room.
+pub fn stats_refusal(
+    rows: &[i32],
+    cols: &[i32],
+    orientations: &[u8],
+    bits: &[u8],
+    confidences: &[f32],
+    transform: u8,
+    row: u32,
+    col: u32,
+    h: &[u8],
+    v: &[u8],
+) -> Refusal
+    ensures { λ r. ⌜ r ≡ statsRefusal
+        (edges (now (rows .entry)) (now (cols .entry)) (now (orientations .entry)) (now (bits .entry)) (now (confidences .entry)))
+        transform row col (tables (now (h .entry)) (now (v .entry))) ⌝ }
+{
+    let list = list_refusal(0, rows, cols, orientations, bits, confidences);
+    let settings = settings_refusal(7 < transform, tables_bad(h, v), origin_bad(row, col));
+    first_of(list, settings)
+}

@@ -1,0 +1,3 @@
+pub mod CellTables
+pub mod Lex
+pub mod LexLaws

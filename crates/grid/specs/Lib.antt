@@ -1,0 +1,3 @@
+pub mod RowFloor
+pub mod RowMajor
+pub mod RowMajorLaws

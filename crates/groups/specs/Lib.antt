@@ -1,0 +1,5 @@
+pub mod Fill
+pub mod FillLaws
+pub mod Groups
+pub mod Terms
+pub mod TermsLaws

@@ -1,0 +1,107 @@
+-- Laws of terms: one group more, the term of a class in a table of terms, and terms of groups that hold the same.
+use mathlib.Core.Path.{_≡_, refl, sym, ap, _∙_}
+use mathlib.Core.Bool.{true, false, not, _&&_}
+use mathlib.Core.List.{List, [], _∷_}
+use Prim.Native.Nat.{ℕ, zero, suc, _+_, _/_, _%_, _≤_, _<_}
+use native.Mathlib.Nat.{add-zero}
+use native.Mathlib.Omega.{arith}
+use lib.Dec.{eqb}
+use lib.ListN.{getD}
+use lib.Ieee.{Float, binary32, add}
+use borrow.Author.Tests.{eq-eqb, ne-eqb}
+use Rattle.laws.specs.Fold.{fold, all, fold-hit, fold-miss, sum-some, sum-mono}
+use Rattle.laws.specs.DoubleCounting.{fold-ext}
+use Rattle.laws.specs.Weights.{zeroF}
+use Rattle.board.specs.Hits.{bitAt}
+use Rattle.groups.specs.declared.terms.FamilyTerm.{FamilyTerm}
+use Rattle.groups.specs.Terms.{agrees, adds, termC, termW, term, Terms, noTerm, placesN}
+
+-- ---- one group more: c j edges of weight w j, b the pattern's bit
+module _ (c : ℕ → ℕ) (w : ℕ → Float) (p s j : ℕ) where
+  -- the pair of sums, with the group j taken and not
+  abbrev pub Taken : Type 0
+  Taken = (termC (j + 1) c p s ≡ termC j c p s + c j) × (termW (j + 1) c w p s ≡ add binary32 (termW j c w p s) (w j))
+
+  abbrev pub Passed : Type 0
+  Passed = (termC (j + 1) c p s ≡ termC j c p s) × (termW (j + 1) c w p s ≡ termW j c w p s)
+
+  taken : adds c p s j ≡ true → Taken
+  unfolding termC termW
+  taken h = (fold-hit _+_ 0 (adds c p s) c j h, fold-hit (add binary32) zeroF (adds c p s) w j h)
+
+  passed : adds c p s j ≡ false → Passed
+  unfolding termC termW
+  passed h = (fold-miss _+_ 0 (adds c p s) c j h, fold-miss (add binary32) zeroF (adds c p s) w j h)
+
+  pub term-empty : c j ≡ 0 → Passed
+  term-empty h = passed (ap (λ x. not (eqb x 0) && agrees p s j) h)
+
+  pub term-no : (b : ℕ) → (c j ≡ 0 → ⊥) → b ≡ bitAt p ((s + j / 2) % 3) → (b ≡ j % 2 → ⊥) → Passed
+  term-no b h e k = passed (rw (ne-eqb (c j) 0 h, ne-eqb (bitAt p ((s + j / 2) % 3)) (j % 2) (λ q. k (e ∙ q))))
+
+  pub term-yes : (b : ℕ) → (c j ≡ 0 → ⊥) → b ≡ bitAt p ((s + j / 2) % 3) → b ≡ j % 2 → Taken
+  term-yes b h e k = taken (rw (ne-eqb (c j) 0 h, eq-eqb (bitAt p ((s + j / 2) % 3)) (j % 2) (sym e ∙ k)))
+
+-- a count so far, and one group more, is at most that of all six
+pub few-so-far : (c : ℕ → ℕ) (p s j : ℕ) → j < 6 → fold _+_ 0 6 all c ≤ 8192 → termC j c p s + c j ≤ 8192
+unfolding termC
+few-so-far c p s j h k =
+    let a : fold _+_ 0 j (adds c p s) c ≤ fold _+_ 0 j all c = sum-some (adds c p s) c j in
+    let b : fold _+_ 0 (j + 1) all c ≤ fold _+_ 0 6 all c = sum-mono all c (j + 1) 6 (omega arith) in
+    let d : fold _+_ 0 (j + 1) all c ≡ fold _+_ 0 j all c + c j = fold-hit _+_ 0 all c j refl in
+    omega arith
+
+-- ---- a table of terms, read by pattern and short class
+-- the s-th of three
+pub three-at : {X : Type 0} (f : ℕ → X) (d : X) (s : ℕ) → s < 3 → getD (f 0 ∷ f 1 ∷ f 2 ∷ []) s d ≡ f s
+three-at f d zero h = refl
+three-at f d (suc zero) h = refl
+three-at f d (suc (suc zero)) h = refl
+three-at f d (suc (suc (suc s))) h = absurd (past s h)
+  where
+    past : (n : ℕ) → suc (suc (suc n)) < 3 → ⊥
+    past n h = omega arith
+
+pub terms-at : (c : ℕ → ℕ) (w : ℕ → Float) (t : List (List FamilyTerm)) (p s : ℕ) → Terms c w t → p < 8 → s < 3 → getD (getD t p []) s noTerm ≡ term c w p s
+terms-at c w t p s T h k = ap (λ r. getD r s noTerm) (T .rows p h) ∙ three-at (term c w p) noTerm s k
+
+-- ---- groups that hold the same have the same terms
+module _ (n : ℕ) (c c' : ℕ → ℕ) (p s : ℕ) (e : (j : ℕ) → j < n → c j ≡ c' j) where
+  same-adds : (j : ℕ) → j < n → adds c p s j ≡ adds c' p s j
+  same-adds j h = ap (λ x. not (eqb x 0) && agrees p s j) (e j h)
+
+  pub same-termC : termC n c p s ≡ termC n c' p s
+  unfolding termC
+  same-termC = fold-ext _+_ 0 n (adds c p s) (adds c' p s) c c' same-adds e
+
+  pub same-termW : (w w' : ℕ → Float) → ((j : ℕ) → j < n → w j ≡ w' j) → termW n c w p s ≡ termW n c' w' p s
+  unfolding termW
+  same-termW w w' f = fold-ext (add binary32) zeroF n (adds c p s) (adds c' p s) w w' same-adds f
+
+-- ---- six groups together
+pub six-sum : (l : List ℕ) (from : ℕ)
+    → fold _+_ 0 6 all (placesN from l) ≡ getD l from 0 + getD l (from + 1) 0 + (getD l (from + 2) 0 + getD l (from + 3) 0) + (getD l (from + 4) 0 + getD l (from + 5) 0)
+unfolding fold
+six-sum l from = ap (λ x. 0 + getD l x 0 + getD l (from + 1) 0 + getD l (from + 2) 0 + getD l (from + 3) 0 + getD l (from + 4) 0 + getD l (from + 5) 0) (add-zero from) ∙ six (getD l from 0) (getD l (from + 1) 0) (getD l (from + 2) 0) (getD l (from + 3) 0) (getD l (from + 4) 0) (getD l (from + 5) 0)
+  where
+    six : (a b c d e f : ℕ) → 0 + a + b + c + d + e + f ≡ a + b + (c + d) + (e + f)
+    six a b c d e f = omega arith
+
+-- ---- groups that hold no edge add nothing
+module _ (c : ℕ → ℕ) (none : fold _+_ 0 6 all c ≡ 0) (p s : ℕ) where
+  no-edge : (j : ℕ) → j < 6 → c j ≡ 0
+  no-edge j h =
+      let b : fold _+_ 0 (j + 1) all c ≤ fold _+_ 0 6 all c = sum-mono all c (j + 1) 6 (omega arith) in
+      let d : fold _+_ 0 (j + 1) all c ≡ fold _+_ 0 j all c + c j = fold-hit _+_ 0 all c j refl in
+      omega arith
+
+  left-out : (j : ℕ) → j < 6 → adds c p s j ≡ false
+  left-out j h = ap (λ x. not (eqb x 0) && agrees p s j) (no-edge j h)
+
+  pub no-count : termC 6 c p s ≡ 0
+  unfolding termC fold
+  no-count = fold-ext _+_ 0 6 (adds c p s) (λ j. false) c c left-out (λ j h. refl)
+
+  pub no-weight : (w : ℕ → Float) → termW 6 c w p s ≡ zeroF
+  unfolding termW fold
+  no-weight w = fold-ext (add binary32) zeroF 6 (adds c p s) (λ j. false) w w left-out (λ j h. refl)

@@ -1,0 +1,95 @@
+-- What offering a candidate comes to, case by case, and what the runner-up is.
+use mathlib.Core.Path.{_≡_, refl, sym, _∙_}
+use mathlib.Core.Bool.{Bool, true, false, cond}
+use mathlib.Core.List.{List}
+use mathlib.Core.Logic.{_⊎_, inl, inr, ⊎-elim}
+use Prim.Native.Nat.{ℕ, zero, suc, _≤_, _<_}
+use native.Mathlib.Omega.{arith}
+use lib.Dec.{ltb, eqb}
+use lib.Ieee.{Float}
+use lib.ListN.{getD}
+use borrow.Author.Tests.{ltb-true, ltb-false, le-ltb, eqb-true, eqb-false, ne-eqb}
+use Rattle.laws.specs.Tests.{clash, split}
+use Rattle.scan.specs.Scan.{overLimit, takes, behind, replaced, offeredWithin, noSummary, ofBest, ofNext, stepped, runnerUp}
+use Rattle.scan.specs.declared.scan.Candidate.{Candidate}
+use Rattle.scan.specs.declared.scan.TransformSummary.{TransformSummary}
+use Rattle.scan.specs.declared.scan.RunnerUp.{RunnerUp}
+use Rattle.scan.specs.declared.scan.Kept.{Kept}
+use Rattle.scan.specs.declared.scan.Kept.the-variants.{Nobody, One}
+
+-- with fewer hits than the kept one it does not replace it
+pub behind-left : (kept : Kept) (hits : ℕ) (score : Float) → behind kept hits ≡ true → takes kept hits score ≡ false
+unfolding behind takes
+behind-left Nobody hits score e = clash refl (sym e)
+behind-left (One k) hits score e =
+    let l : hits < k .hits = ltb-true hits (k .hits) e in
+    rw (le-ltb (k .hits) hits (omega arith), ne-eqb hits (k .hits) (λ p. omega arith))
+
+module _ (edges : ℕ) (limit : Float) (kept : Kept) (c : Candidate) where
+  pub offered-over : overLimit edges limit (c .hits) ≡ true → offeredWithin edges limit kept c ≡ kept
+  unfolding offeredWithin
+  offered-over e = rw e
+
+  pub offered-left : takes kept (c .hits) (c .score) ≡ false → offeredWithin edges limit kept c ≡ kept
+  unfolding offeredWithin replaced
+  offered-left e = rw e (go (overLimit edges limit (c .hits)))
+    where
+      go : (t : Bool) → cond t kept kept ≡ kept
+      go true = refl
+      go false = refl
+
+  pub offered-taken : takes kept (c .hits) (c .score) ≡ true → overLimit edges limit (c .hits) ≡ false → offeredWithin edges limit kept c ≡ One c
+  unfolding offeredWithin replaced
+  offered-taken e d = rw (d, e)
+
+-- ---- the runner-up: at least what the winner's transform offers and what each other position has, and one of these
+module _ (ss : List TransformSummary) (w : ℕ) where
+  abbrev at : ℕ → TransformSummary
+  at p = getD ss p noSummary
+
+  either : (r : RunnerUp) (s : TransformSummary) → ((stepped r s false ≡ ofBest s) × (r .hits < s .best)) ⊎ ((stepped r s false ≡ r) × (s .best ≤ r .hits))
+  either r s = go (ltb (r .hits) (s .best)) refl
+    where
+      go : (t : Bool) → ltb (r .hits) (s .best) ≡ t → ((cond t (ofBest s) r ≡ ofBest s) × (r .hits < s .best)) ⊎ ((cond t (ofBest s) r ≡ r) × (s .best ≤ r .hits))
+      go true e = inl (refl, ltb-true (r .hits) (s .best) e)
+      go false e = inr (refl, ltb-false (r .hits) (s .best) e)
+
+  -- one step: no fewer hits than before, nor than the other position has
+  step-up : (r : RunnerUp) (s : TransformSummary) → (r .hits ≤ stepped r s false .hits) × (s .best ≤ stepped r s false .hits)
+  step-up r s = ⊎-elim (λ a. rw (a .0) (omega (arith, a .1), omega arith)) (λ a. rw (a .0) (omega arith, a .1)) (either r s)
+
+  pub runner-own : (n : ℕ) → at w .next ≤ runnerUp ss w n .hits
+  unfolding runnerUp
+  runner-own zero = omega arith
+  runner-own (suc n) = go (eqb n w) (runner-own n)
+    where
+      go : (t : Bool) → at w .next ≤ runnerUp ss w n .hits → at w .next ≤ stepped (runnerUp ss w n) (at n) t .hits
+      go true h = h
+      go false h = omega (arith, step-up (runnerUp ss w n) (at n) .0)
+
+  pub runner-other : (n p : ℕ) → p < n → (p ≡ w → ⊥) → at p .best ≤ runnerUp ss w n .hits
+  unfolding runnerUp
+  runner-other zero p h ne = absurd (omega arith)
+  runner-other (suc n) p h ne = go (eqb n w) refl (λ l. runner-other n p l ne) (split p n h)
+    where
+      go : (t : Bool) → eqb n w ≡ t → (p < n → at p .best ≤ runnerUp ss w n .hits) → (p ≡ n) ⊎ (p < n) → at p .best ≤ stepped (runnerUp ss w n) (at n) t .hits
+      go true e ih (inl q) = absurd (ne (q ∙ eqb-true n w e))
+      go true e ih (inr l) = ih l
+      go false e ih (inl q) = rw q (step-up (runnerUp ss w n) (at n) .1)
+      go false e ih (inr l) = omega (arith, ih l, step-up (runnerUp ss w n) (at n) .0)
+
+  pub runner-is : (n : ℕ) → (runnerUp ss w n ≡ ofNext (at w)) ⊎ ((p : ℕ) × (p < n) × (p ≡ w → ⊥) × (runnerUp ss w n ≡ ofBest (at p)))
+  unfolding runnerUp
+  runner-is zero = inl refl
+  runner-is (suc n) = go (eqb n w) refl (runner-is n)
+    where
+      Is : ℕ → RunnerUp → Type 0
+      Is m r = (r ≡ ofNext (at w)) ⊎ ((p : ℕ) × (p < m) × (p ≡ w → ⊥) × (r ≡ ofBest (at p)))
+
+      later : (r : RunnerUp) → Is n r → Is (suc n) r
+      later r (inl e) = inl e
+      later r (inr u) = inr (u .0, omega (arith, u .1), u .2, u .3)
+
+      go : (t : Bool) → eqb n w ≡ t → Is n (runnerUp ss w n) → Is (suc n) (stepped (runnerUp ss w n) (at n) t)
+      go true e h = later (runnerUp ss w n) h
+      go false e h = ⊎-elim (λ a. inr (n, omega arith, eqb-false n w e, a .0)) (λ a. rw (a .0) (later (runnerUp ss w n) h)) (either (runnerUp ss w n) (at n))

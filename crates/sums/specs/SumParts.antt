@@ -1,0 +1,124 @@
+-- What the parts of `build_sums` ask and give: groups of likelihoods, terms, runs, families and sides, as for counts, with two rows of groups.
+use mathlib.Core.Path.{_≡_}
+use mathlib.Core.Bool.{Bool, cond}
+use mathlib.Core.List.{List, [], _∷_}
+use Prim.Native.Nat.{ℕ, zero, suc, _+_, _*_, _/_, _%_, _^_, _≤_, _<_}
+use lib.ListN.{getD, length}
+use lib.IntN.{ℤ, pos, natAbs, _+ℤ_}
+use Rattle.laws.specs.Fold.{fold, all}
+use Rattle.laws.specs.Zone.{Zone}
+use Rattle.board.specs.Hits.{EdgeList, Board}
+use Rattle.board.specs.Sides.{tableOf, periodOf}
+use Rattle.board.specs.Domain.{ListOk, BoardOk}
+use Rattle.groups.specs.Groups.{rowLength, Periods}
+use Rattle.groups.specs.Fill.{rowSum}
+use Rattle.groups.specs.Terms.{agrees}
+use Rattle.cells.specs.Cells.{longClass, shortClass, cellSum, family}
+use Rattle.cells.specs.Spread.{Spread}
+use Rattle.cells.specs.Credit.{runPlace, runTerm, RunPlaces, cellPattern, longStep, shortStep, FamilyPlaces}
+use Rattle.sums.specs.Sums.{Likelihoods, matchAt, mismatchAt, LikelihoodsOk}
+
+-- place k of those from `at` on
+abbrev pub placesZ : ℕ → List ℤ → ℕ → ℤ
+placesZ at l k = getD l (at + k) (pos 0)
+
+-- ---- groups: row 0 has the match likelihoods, row 1 the mismatch ones
+abbrev pub valueAt : Likelihoods → ℕ → ℕ → ℤ
+valueAt X zero = matchAt X
+valueAt X (suc i) = mismatchAt X
+
+-- what the first n edges add to place k of the rows
+abbrev pub rowsSum : ℕ → ℕ → EdgeList → Likelihoods → ℕ → ℕ → ℕ → ℤ
+rowsSum L M E X t n k = rowSum _+ℤ_ (pos 0) (valueAt X (k / rowLength L M)) L M E t n (k % rowLength L M)
+
+-- what the groups of likelihoods can be filled from: an accepted list with its likelihoods, a transform, and room for both rows of groups
+pub record SumsFillReady (L M : ℕ) (E : EdgeList) (X : Likelihoods) (t base : ℕ) (a : List ℤ) : Type 0 where
+  pub list : ListOk E
+  pub likelihoods : LikelihoodsOk E X
+  pub transform : t < 8
+  pub periods : Periods L M
+  pub room : base + 2 * rowLength L M ≤ length a
+  pub clear : (k : ℕ) → k < 2 * rowLength L M → placesZ base a k ≡ pos 0
+
+-- the first n edges are in, and nothing else changed
+abbrev pub SumsFilled : ℕ → ℕ → EdgeList → Likelihoods → ℕ → ℕ → ℕ → List ℤ → List ℤ → Type 0
+SumsFilled L M E X t base n a a' = Zone (pos 0) (rowsSum L M E X t n) base (2 * rowLength L M) a a'
+
+-- ---- terms: what the first n groups add, m j of a group that agrees and u j of one that does not
+unfoldable pub termZ : ℕ → (ℕ → ℤ) → (ℕ → ℤ) → ℕ → ℕ → ℤ
+termZ n m u p s = fold _+ℤ_ (pos 0) n all (λ j. cond (agrees p s j) (m j) (u j))
+
+-- the row of a pattern, and the table
+abbrev pub rowZ : (ℕ → ℤ) → (ℕ → ℤ) → ℕ → List ℤ
+rowZ m u p = termZ 6 m u p 0 ∷ termZ 6 m u p 1 ∷ termZ 6 m u p 2 ∷ []
+
+-- the table of a family's terms: a row for each of the eight patterns
+pub record TermsZ (m u : ℕ → ℤ) (t : List (List ℤ)) : Type 0 where
+  pub size : length t ≡ 8
+  pub rows : (p : ℕ) → p < 8 → getD t p [] ≡ rowZ m u p
+
+-- six groups stand from `from` on and six from `also` on, each at most 2^53 in size
+pub record Twelve (from also : ℕ) (a : List ℤ) : Type 0 where
+  pub match : from + 6 ≤ length a
+  pub mismatch : also + 6 ≤ length a
+  pub small : (j : ℕ) → j < 6 → (natAbs (placesZ from a j) ≤ 2 ^ 53) × (natAbs (placesZ also a j) ≤ 2 ^ 53)
+
+-- the first n match sums and the first n mismatch sums are all 0
+abbrev pub NoSum : ℕ → (ℕ → ℤ) → (ℕ → ℤ) → Type 0
+NoSum n m u = (j : ℕ) → j < n → (m j ≡ pos 0) × (u j ≡ pos 0)
+
+-- ---- a run of classes
+pub record RunReadyZ (terms : List (List ℤ)) (part : List ℕ) (n at long short : ℕ) (a : List ℤ) : Type 0 where
+  pub places : RunPlaces part n at long short
+  pub inside : (j : ℕ) → j < n * 3 → runPlace at long short j < length a
+  pub fits : (j : ℕ) → j < n * 3 → natAbs (getD a (runPlace at long short j) (pos 0) +ℤ runTerm (pos 0) terms part j) < 2 ^ 63
+
+-- the first q cells have their term added, and nothing else changed
+abbrev pub RunCellsZ : List (List ℤ) → List ℕ → ℕ → ℕ → ℕ → ℕ → List ℤ → List ℤ → Type 0
+RunCellsZ terms part at long short q a a' = Spread (pos 0) _+ℤ_ (runPlace at long short) (runTerm (pos 0) terms part) q a a'
+
+-- a run of n classes credited, three cells each
+abbrev pub RunCreditedZ : List (List ℤ) → List ℕ → ℕ → ℕ → ℕ → ℕ → List ℤ → List ℤ → Type 0
+RunCreditedZ terms part n at long short a a' = RunCellsZ terms part at long short (n * 3) a a'
+
+-- ---- a family: what it adds to cell k, where its groups stand from `from` and `also` on
+abbrev pub gainZ : Board → Bool → ℕ → ℕ → ℕ → List ℤ → ℕ → ℤ
+gainZ B s f from also a k = termZ 6 (placesZ from a) (placesZ also a) (cellPattern B s f k) (shortClass B s k)
+
+-- what a family can be credited from: its places, its twelve groups, and room for the cells
+pub record FamilyReadyZ (B : Board) (s : Bool) (f long short cells from also : ℕ) (a : List ℤ) : Type 0 where
+  pub places : FamilyPlaces B s f long short
+  pub twelve : Twelve (from + f * 6) (also + f * 6) a
+  pub room : cells + 3 * periodOf B s ≤ length a
+  pub fits : (k : ℕ) → k < 3 * periodOf B s → natAbs (placesZ cells a k +ℤ gainZ B s f (from + f * 6) (also + f * 6) a k) < 2 ^ 63
+
+-- every cell of the side has the family's term added, and nothing else changed
+abbrev pub FamilyCreditedZ : Board → Bool → ℕ → ℕ → ℕ → ℕ → List ℤ → List ℤ → Type 0
+FamilyCreditedZ B s f cells from also a a' = Zone (pos 0) (λ k. placesZ cells a k +ℤ gainZ B s f (from + f * 6) (also + f * 6) a k) cells (3 * periodOf B s) a a'
+
+-- ---- a side
+-- what a family adds, of groups that hold m k and u k each
+abbrev pub familyZ : (ℕ → ℤ) → (ℕ → ℤ) → ℕ → ℕ → ℕ → ℤ
+familyZ m u f = termZ 6 (family m f) (family u f)
+
+-- cell k with the first n families in
+abbrev pub cellZ : Board → Bool → ℕ → ℕ → List ℤ → ℕ → ℕ → ℤ
+cellZ B s from also a n k = cellSum _+ℤ_ (pos 0) (familyZ (placesZ from a) (placesZ also a)) (tableOf B s) n (longClass B s k) (shortClass B s k)
+
+-- what one side can be built from: accepted tables, the steps between its cells, and groups that lie beyond them
+pub record SideReadyZ (B : Board) (s : Bool) (long short cells from also : ℕ) (a : List ℤ) : Type 0 where
+  pub board : BoardOk B
+  pub steps : (long ≡ longStep s) × (short ≡ shortStep B s)
+  pub apart : (cells + 3 * periodOf B s ≤ from) × (cells + 3 * periodOf B s ≤ also)
+  pub room : (from + periodOf B s * 6 ≤ length a) × (also + periodOf B s * 6 ≤ length a)
+  pub groups : (k : ℕ) → k < periodOf B s * 6 → (natAbs (placesZ from a k) ≤ 2 ^ 53) × (natAbs (placesZ also a k) ≤ 2 ^ 53)
+  pub small : (n k : ℕ) → n ≤ periodOf B s → natAbs (cellZ B s from also a n k) ≤ 2 ^ 53
+  pub clear : (k : ℕ) → k < 3 * periodOf B s → placesZ cells a k ≡ pos 0
+
+-- the first n families are in the cells, and nothing else changed
+abbrev pub SideCellsZ : Board → Bool → ℕ → ℕ → ℕ → ℕ → List ℤ → List ℤ → Type 0
+SideCellsZ B s cells from also n a a' = Zone (pos 0) (cellZ B s from also a n) cells (3 * periodOf B s) a a'
+
+-- all families of one side credited
+abbrev pub SideBuiltZ : Board → Bool → ℕ → ℕ → ℕ → List ℤ → List ℤ → Type 0
+SideBuiltZ B s cells from also a a' = SideCellsZ B s cells from also (periodOf B s) a a'

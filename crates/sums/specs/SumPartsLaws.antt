@@ -1,0 +1,251 @@
+-- Laws of the parts of `build_sums`: an edge more in the groups, a cell more of a run, two runs that make a family, a family more of a side.
+use mathlib.Core.Path.{_≡_, refl, sym, ap, ap₂, _∙_}
+use mathlib.Core.Bool.{Bool, true, false, cond}
+use mathlib.Core.List.{List}
+use mathlib.Core.Logic.{_⊎_, inl, inr, ⊎-elim}
+use Prim.Native.Nat.{ℕ, _+_, _*_, _-_, _/_, _%_, _^_, _≤_, _<_}
+use native.Mathlib.Nat.{div-lt-iff-lt-mul, div-add-mod'}
+use native.Mathlib.Numerals.{add-one}
+use native.Mathlib.Omega.{arith}
+use lib.Arith.{digits-div, digits-mod, digits-lt}
+use lib.Dec.{eqb, ltb}
+use lib.IntN.{ℤ, pos, natAbs, _+ℤ_, +ℤ-idr}
+use lib.ListN.{getD, length, set, drop}
+use borrow.Author.Tests.{lt-ltb, le-ltb, eq-eqb, ne-eqb}
+use Rattle.laws.specs.Tests.{apart, split}
+use Rattle.laws.specs.Fold.{fold, all, fold-zero, fold-hit, fold-miss}
+use Rattle.laws.specs.DoubleCounting.{fold-ext}
+use Rattle.laws.specs.Zone.{Zone, zone-none, zone-ext, zone-set}
+use Rattle.board.specs.Hits.{EdgeList, Board, size}
+use Rattle.board.specs.Sides.{tableOf, periodOf}
+use Rattle.board.specs.HitsLaws.{side-some}
+use Rattle.likelihood.specs.SumLaws.{cell-size}
+use Rattle.groups.specs.Groups.{rowLength}
+use Rattle.groups.specs.Fill.{placeAt, rowSum}
+use Rattle.groups.specs.Terms.{agrees}
+use Rattle.cells.specs.Cells.{longClass, shortClass, family}
+use Rattle.tables.specs.CellsLaws.{cell-none, cell-more, zone-family}
+use Rattle.cells.specs.Spread.{spread-none}
+use Rattle.cells.specs.Credit.{runPlace, entry, runTerm, cellPattern}
+use Rattle.cells.specs.LayoutLaws.{stand, short-below}
+use Rattle.cells.specs.RunLaws.{in-run, cell-place, cell-term, cell-fresh, cell-added, pattern-small, first-places, first-inside, first-holds, second-place, second-places, second-inside, second-fresh, second-holds, family-zone}
+use Rattle.tables.specs.SideLaws.{same-groups}
+use Rattle.sums.specs.Sums.{Likelihoods, matchAt, mismatchAt}
+use Rattle.sums.specs.SumParts.{placesZ, valueAt, rowsSum, SumsFillReady, SumsFilled, termZ, NoSum, TermsZ, RunReadyZ, RunCellsZ, RunCreditedZ, gainZ, FamilyReadyZ, FamilyCreditedZ, familyZ, cellZ, SideReadyZ, SideCellsZ}
+use Rattle.sums.specs.SumsLaws.{terms-atZ, same-termZ, value-small}
+
+-- ---- groups
+module _ (L M : ℕ) (E : EdgeList) (X : Likelihoods) (t base : ℕ) (a : List ℤ) (R : SumsFillReady L M E X t base a) where
+  abbrev G : ℕ
+  G = rowLength L M
+
+  some-row : 0 < G
+  some-row = omega (arith, R .periods .some .0)
+
+  pub sums-none : SumsFilled L M E X t base 0 a a
+  sums-none = zone-none (pos 0) _ base (2 * G) a (λ k b. R .clear k b ∙ sym (fold-zero _+ℤ_ (pos 0) (λ i. eqb (placeAt L M E t i) (k % G)) (valueAt X (k / G))))
+
+  -- edge i, whose groups stand at place p of each row
+  module _ (i p : ℕ) (hi : i < size E) (hp : p < G) (ep : p ≡ placeAt L M E t i) where
+    -- place k, where edge i is in the first j rows
+    abbrev part : ℕ → ℕ → ℤ
+    part j k = rowSum _+ℤ_ (pos 0) (valueAt X (k / G)) L M E t (cond (ltb (k / G) j) (i + 1) i) (k % G)
+
+    part-0 : (k : ℕ) → rowsSum L M E X t i k ≡ part 0 k
+    part-0 k = ap (λ b. rowSum _+ℤ_ (pos 0) (valueAt X (k / G)) L M E t (cond b (i + 1) i) (k % G)) (sym (le-ltb (k / G) 0 (omega arith)))
+
+    part-2 : (k : ℕ) → k < 2 * G → part 2 k ≡ rowsSum L M E X t (i + 1) k
+    part-2 k h = ap (λ b. rowSum _+ℤ_ (pos 0) (valueAt X (k / G)) L M E t (cond b (i + 1) i) (k % G)) (lt-ltb (k / G) 2 (div-lt-iff-lt-mul some-row .1 h))
+
+    -- row j
+    module _ (j : ℕ) (hj : j < 2) (old new : List ℤ) (k : ℕ) (ek : k ≡ base + (j * G + p)) (z : Zone (pos 0) (part j) base (2 * G) old new) (room : base + 2 * G ≤ length old) where
+      inside : j * G + p < 2 * G
+      inside = digits-lt hj hp
+
+      before : getD new k (pos 0) ≡ rowSum _+ℤ_ (pos 0) (valueAt X j) L M E t i p
+      before =
+          ap (λ x. getD new x (pos 0)) ek
+          ∙ z .inside (j * G + p) inside
+          ∙ rw (digits-div j hp, digits-mod j hp, le-ltb j j (omega arith))
+
+      after : getD new k (pos 0) +ℤ valueAt X j i ≡ rowSum _+ℤ_ (pos 0) (valueAt X j) L M E t (i + 1) p
+      after = ap (λ x. x +ℤ valueAt X j i) before ∙ sym (fold-hit _+ℤ_ (pos 0) (λ e. eqb (placeAt L M E t e) p) (valueAt X j) i (eq-eqb (placeAt L M E t i) p (sym ep)))
+
+      -- there is room for it
+      pub row-room : (k < length new) × (natAbs (getD new k (pos 0) +ℤ valueAt X j i) < 2 ^ 63)
+      row-room =
+          let s = cell-size (i + 1) (λ e. eqb (placeAt L M E t e) p) (valueAt X j) (omega (arith, R .list .few)) (λ e h q. value-small E X (R .likelihoods) j e (omega arith)) in
+          (omega (arith, inside, z .len), rw after (omega (arith, s)))
+
+      -- elsewhere nothing changes
+      same : (m : ℕ) → (m ≡ j * G + p → ⊥) → part (j + 1) m ≡ part j m
+      same m n = go (apart (m / G) j)
+        where
+          at : (b c : Bool) → b ≡ c → (d : ℕ) → rowSum _+ℤ_ (pos 0) (valueAt X (m / G)) L M E t (cond b (i + 1) i) d ≡ rowSum _+ℤ_ (pos 0) (valueAt X (m / G)) L M E t (cond c (i + 1) i) d
+          at b c e d = ap (λ x. rowSum _+ℤ_ (pos 0) (valueAt X (m / G)) L M E t (cond x (i + 1) i) d) e
+
+          other : m / G ≡ j → placeAt L M E t i ≡ m % G → ⊥
+          other e q = n (sym (div-add-mod' m G) ∙ ap₂ (λ (x y : ℕ). x * G + y) e (sym q ∙ sym ep))
+
+          go : (m / G ≡ j) ⊎ ((m / G < j) ⊎ (j < m / G)) → part (j + 1) m ≡ part j m
+          go (inl e) =
+              at (ltb (m / G) (j + 1)) true (lt-ltb (m / G) (j + 1) (omega arith)) (m % G)
+              ∙ fold-miss _+ℤ_ (pos 0) (λ x. eqb (placeAt L M E t x) (m % G)) (valueAt X (m / G)) i (ne-eqb (placeAt L M E t i) (m % G) (other e))
+              ∙ sym (at (ltb (m / G) j) false (le-ltb (m / G) j (omega arith)) (m % G))
+          go (inr (inl l)) = at (ltb (m / G) (j + 1)) (ltb (m / G) j) (lt-ltb (m / G) (j + 1) (omega arith) ∙ sym (lt-ltb (m / G) j l)) (m % G)
+          go (inr (inr l)) = at (ltb (m / G) (j + 1)) (ltb (m / G) j) (le-ltb (m / G) (j + 1) (omega arith) ∙ sym (le-ltb (m / G) j (omega arith))) (m % G)
+
+      pub row-in : (new' : List ℤ) → new' ≡ set new k (getD new k (pos 0) +ℤ valueAt X j i) → Zone (pos 0) (part (j + 1)) base (2 * G) old new'
+      row-in new' e =
+          rw (e, ek)
+          (zone-set (pos 0) (part j) (part (j + 1)) base (2 * G) old new (j * G + p) (getD new (base + (j * G + p)) (pos 0) +ℤ valueAt X j i) z inside room
+          (ap (λ x. getD new x (pos 0) +ℤ valueAt X j i) (sym ek) ∙ after ∙ sym (rw (digits-div j hp, digits-mod j hp, lt-ltb j (j + 1) (omega arith))))
+          same)
+
+    -- both rows
+    module _ (a' : List ℤ) (z : SumsFilled L M E X t base i a a') where
+      start : Zone (pos 0) (part 0) base (2 * G) a a'
+      start = zone-ext (pos 0) _ _ base (2 * G) a a' (λ k h. part-0 k) z
+
+      at-0 : base + p ≡ base + (0 * G + p)
+      at-0 = omega arith
+
+      at-1 : base + p + G ≡ base + (1 * G + p)
+      at-1 = omega arith
+
+      zero-in : 0 < 2
+      zero-in = omega arith
+
+      one-in : 1 < 2
+      one-in = omega arith
+
+      pub match-room : (base + p < length a') × (natAbs (getD a' (base + p) (pos 0) +ℤ matchAt X i) < 2 ^ 63)
+      match-room = row-room 0 zero-in a a' (base + p) at-0 start (R .room)
+
+      module _ (a'' : List ℤ) (e : a'' ≡ set a' (base + p) (getD a' (base + p) (pos 0) +ℤ matchAt X i)) where
+        half : Zone (pos 0) (part 1) base (2 * G) a a''
+        half = row-in 0 zero-in a a' (base + p) at-0 start (R .room) a'' e
+
+        pub mismatch-room : (base + p + G < length a'') × (natAbs (getD a'' (base + p + G) (pos 0) +ℤ mismatchAt X i) < 2 ^ 63)
+        mismatch-room = row-room 1 one-in a a'' (base + p + G) at-1 half (R .room)
+
+        pub sums-more : (a''' : List ℤ) → a''' ≡ set a'' (base + p + G) (getD a'' (base + p + G) (pos 0) +ℤ mismatchAt X i) → SumsFilled L M E X t base (i + 1) a a'''
+        sums-more a''' f = zone-ext (pos 0) _ _ base (2 * G) a a''' part-2 (row-in 1 one-in a a'' (base + p + G) at-1 half (R .room) a''' f)
+
+-- ---- a run, cell by cell
+module _ (terms : List (List ℤ)) (part : List ℕ) (n at long short : ℕ) (a : List ℤ) (R : RunReadyZ terms part n at long short a) where
+  pub run-noneZ : RunCellsZ terms part at long short 0 a a
+  run-noneZ = spread-none (pos 0) _+ℤ_ (runPlace at long short) _ a
+
+  -- the cell at place k, of short class j of class i, is the q-th
+  module _ (i j q k : ℕ) (x : ℤ) (hi : i < n) (hj : j < 3) (eq : q ≡ i * 3 + j) (ek : k ≡ at + (i * long + j * short)) (ex : x ≡ entry (pos 0) terms (getD part i 0) j)
+      (a' : List ℤ) (r : RunCellsZ terms part at long short q a a') where
+    q-in : q < n * 3
+    q-in = in-run part n at long short (R .places) i j q k hi hj eq ek
+
+    said : x ≡ runTerm (pos 0) terms part q
+    said = cell-term part n at long short (R .places) i j q k hi hj eq ek (pos 0) terms x ex
+
+    -- it has room for its term
+    pub run-roomZ : (k < length a') × (natAbs (getD a' k (pos 0) +ℤ x) < 2 ^ 63)
+    run-roomZ =
+        let b : runPlace at long short q < length a' = omega (arith, R .inside q q-in, r .len) in
+        let f : natAbs (getD a' (runPlace at long short q) (pos 0) +ℤ runTerm (pos 0) terms part q) < 2 ^ 63 = rw (r .rest (runPlace at long short q) (cell-fresh part n at long short (R .places) i j q k hi hj eq ek)) (R .fits q q-in) in
+        rw (cell-place part n at long short (R .places) i j q k hi hj eq ek, said) (b, f)
+
+    -- and has it added
+    pub run-moreZ : (q' : ℕ) → q' ≡ q + 1 → (a'' : List ℤ) → a'' ≡ set a' k (getD a' k (pos 0) +ℤ x) → RunCellsZ terms part at long short q' a a''
+    run-moreZ q' e a'' p = rw e (cell-added part n at long short (R .places) i j q k hi hj eq ek (pos 0) _+ℤ_ _ a a' a'' x r (R .inside q q-in) said p)
+
+-- ---- a family, where its terms stand in a table
+module _ (B : Board) (s : Bool) (f long short cells from also : ℕ) (a : List ℤ) (R : FamilyReadyZ B s f long short cells from also a)
+    (t : List (List ℤ)) (T : TermsZ (placesZ (from + f * 6) a) (placesZ (also + f * 6) a) t) where
+  abbrev ps : List ℕ
+  ps = tableOf B s
+
+  abbrev n₁ : ℕ
+  n₁ = length ps - f
+
+  abbrev gain : ℕ → ℤ
+  gain = gainZ B s f (from + f * 6) (also + f * 6) a
+
+  gains : (k : ℕ) → k < 3 * periodOf B s → entry (pos 0) t (cellPattern B s f k) (shortClass B s k) ≡ gain k
+  gains k h =
+      terms-atZ (placesZ (from + f * 6) a) (placesZ (also + f * 6) a) t (cellPattern B s f k) (shortClass B s k) T (pattern-small B s f long short cells (R .places) (longClass B s k + f)) (short-below B (side-some B (R .places .board)) k s h)
+
+  abbrev Room : ℕ → ℤ → Type 0
+  Room k x = natAbs (getD a k (pos 0) +ℤ x) < 2 ^ 63
+
+  pub first-readyZ : (n : ℕ) → n ≡ n₁ → RunReadyZ t (drop f ps) n cells long short a
+  first-readyZ n e = rw e (record {
+    places = first-places B s f long short cells (R .places);
+    inside = first-inside B s f long short cells (R .places) (length a) (R .room);
+    fits = first-holds B s f long short cells (R .places) (pos 0) t gain gains Room (R .fits);
+  })
+
+  -- the second run, after the first
+  module _ (a₁ : List ℤ) (r₁ : RunCreditedZ t (drop f ps) n₁ cells long short a a₁) where
+    pub second-readyZ : (at : ℕ) → at ≡ cells + n₁ * long → RunReadyZ t (drop 0 ps) f at long short a₁
+    second-readyZ at e = rw e (record {
+      places = second-places B s f long short cells (R .places);
+      inside = second-inside B s f long short cells (R .places) (length a₁) (omega (arith, R .room, r₁ .len));
+      fits = λ j h.
+          rw (second-place B s f long short cells (R .places), r₁ .rest (cells + stand B s (n₁ * 3 + j)) (second-fresh B s f long short cells (R .places) j h))
+          (second-holds B s f long short cells (R .places) (pos 0) t gain gains Room (R .fits) j h);
+    })
+
+    pub family-creditedZ : (a₂ : List ℤ) → RunCreditedZ t (drop 0 ps) f (cells + n₁ * long) long short a₁ a₂ → FamilyCreditedZ B s f cells from also a a₂
+    family-creditedZ a₂ r₂ = family-zone B s f long short cells (R .places) (pos 0) t gain gains (pos 0) _+ℤ_ (λ x. x) a a₁ a₂ r₁ r₂
+
+-- ---- a family whose twelve sums are all 0: nothing is stored
+pub no-sum-more : (n : ℕ) (m u : ℕ → ℤ) → NoSum n m u → m n ≡ pos 0 → u n ≡ pos 0 → NoSum (n + 1) m u
+no-sum-more n m u h a b j l = ⊎-elim (λ e. (ap m e ∙ a, ap u e ∙ b)) (λ k. h j k) (split j n (rw add-one at l))
+
+no-termZ : (m u : ℕ → ℤ) → NoSum 6 m u → (p s : ℕ) → termZ 6 m u p s ≡ pos 0
+unfolding termZ fold
+no-termZ m u none p s = fold-ext _+ℤ_ (pos 0) 6 all all (λ j. cond (agrees p s j) (m j) (u j)) (λ j. pos 0) (λ j h. refl) (λ j h. either (agrees p s j) (m j) (u j) (none j h .0) (none j h .1))
+  where
+    either : (b : Bool) (x y : ℤ) → x ≡ pos 0 → y ≡ pos 0 → cond b x y ≡ pos 0
+    either true x y e d = e
+    either false x y e d = d
+
+pub family-emptyZ : (B : Board) (s : Bool) (f cells from also : ℕ) (a : List ℤ) → NoSum 6 (placesZ (from + f * 6) a) (placesZ (also + f * 6) a) → FamilyCreditedZ B s f cells from also a a
+family-emptyZ B s f cells from also a none =
+    zone-none (pos 0) _ cells (3 * periodOf B s) a
+    (λ k h. sym (ap (λ x. placesZ cells a k +ℤ x) (no-termZ (placesZ (from + f * 6) a) (placesZ (also + f * 6) a) none (cellPattern B s f k) (shortClass B s k)) ∙ +ℤ-idr (placesZ cells a k)))
+
+-- ---- a side, family by family
+module _ (B : Board) (s : Bool) (long short cells from also : ℕ) (a : List ℤ) (R : SideReadyZ B s long short cells from also a) where
+  pub side-noneZ : SideCellsZ B s cells from also 0 a a
+  side-noneZ = zone-none (pos 0) _ cells (3 * periodOf B s) a (λ k h. R .clear k h ∙ sym (cell-none _+ℤ_ (pos 0) (familyZ (placesZ from a) (placesZ also a)) (tableOf B s) (longClass B s k) (shortClass B s k)))
+
+  module _ (f : ℕ) (h : f < periodOf B s) (a' : List ℤ) (b : SideCellsZ B s cells from also f a a') where
+    from-same : (j : ℕ) → j < 6 → placesZ (from + f * 6) a' j ≡ family (placesZ from a) f j
+    from-same j l = same-groups (pos 0) _ cells (3 * periodOf B s) from a a' (R .apart .0) b f j
+
+    also-same : (j : ℕ) → j < 6 → placesZ (also + f * 6) a' j ≡ family (placesZ also a) f j
+    also-same j l = same-groups (pos 0) _ cells (3 * periodOf B s) also a a' (R .apart .1) b f j
+
+    gain-same : (k : ℕ) → gainZ B s f (from + f * 6) (also + f * 6) a' k ≡ familyZ (placesZ from a) (placesZ also a) f (cellPattern B s f k) (shortClass B s k)
+    gain-same k = same-termZ 6 _ _ _ _ (cellPattern B s f k) (shortClass B s k) from-same also-same
+
+    -- the sum with the family in
+    next : (k : ℕ) → k < 3 * periodOf B s → placesZ cells a' k +ℤ gainZ B s f (from + f * 6) (also + f * 6) a' k ≡ cellZ B s from also a (f + 1) k
+    next k l = ap₂ _+ℤ_ (b .inside k l) (gain-same k) ∙ sym (cell-more _+ℤ_ (pos 0) (familyZ (placesZ from a) (placesZ also a)) (tableOf B s) f (longClass B s k) (shortClass B s k))
+
+    pub family-readyZ : FamilyReadyZ B s f long short cells from also a'
+    family-readyZ = record {
+      places = record { board = R .board; steps = R .steps; in-table = h };
+      twelve = record {
+        match = omega (arith, R .room .0, b .len);
+        mismatch = omega (arith, R .room .1, b .len);
+        small = λ j l. rw (from-same j l, also-same j l) (R .groups (f * 6 + j) (omega arith));
+      };
+      room = omega (arith, R .apart .0, R .room .0, b .len);
+      fits = λ k l. rw (next k l) (omega (arith, R .small (f + 1) k (omega arith)));
+    }
+
+    pub side-moreZ : (a'' : List ℤ) → FamilyCreditedZ B s f cells from also a' a'' → SideCellsZ B s cells from also (f + 1) a a''
+    side-moreZ a'' p =
+        zone-family _+ℤ_ (pos 0) (familyZ (placesZ from a) (placesZ also a)) (tableOf B s) (pos 0) (longClass B s) (shortClass B s) cells (3 * periodOf B s) f a a' a'' b
+        (zone-ext (pos 0) _ _ cells (3 * periodOf B s) a' a'' (λ k l. ap (λ x. placesZ cells a' k +ℤ x) (gain-same k)) p)

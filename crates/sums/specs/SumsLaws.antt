@@ -1,0 +1,134 @@
+-- Laws of likelihood sums: a group more in a term, a family more in a cell, and the cell's sum against the edges.
+use mathlib.Core.Path.{_≡_, refl, sym, ap, ap₂, _∙_}
+use mathlib.Core.Bool.{Bool, true, false, _&&_, cond}
+use mathlib.Core.List.{List, []}
+use Prim.Native.Nat.{ℕ, zero, suc, _+_, _*_, _/_, _%_, _^_, _≤_, _<_}
+use native.Mathlib.Omega.{arith}
+use lib.Dec.{ltb}
+use lib.IntN.{ℤ, pos, natAbs, _+ℤ_, +ℤ-idr, +ℤ-assoc, +ℤ-comm}
+use lib.ListN.{getD}
+use borrow.Author.Tests.{eq-eqb, ne-eqb}
+use Rattle.laws.specs.Tests.{and-comm}
+use Rattle.laws.specs.Fold.{fold, all, count, fold-hit}
+use Rattle.laws.specs.Counting.{count-le}
+use Rattle.laws.specs.DoubleCounting.{fold-ext, fold-where, fold-split, edge-by-edge-both}
+use Rattle.board.specs.Hits.{EdgeList, Board, size, seen, look, horizontal, bitAt}
+use Rattle.board.specs.Sides.{onSide, tableOf, periodOf}
+use Rattle.board.specs.HitsLaws.{hit-class}
+use Rattle.likelihood.specs.LikelihoodLaws.{quantised-size}
+use Rattle.likelihood.specs.SumLaws.{sum-size, cell-size}
+use Rattle.groups.specs.Groups.{groupAt, member}
+use Rattle.groups.specs.Terms.{agrees}
+use Rattle.groups.specs.TermsLaws.{three-at}
+use Rattle.cells.specs.Cells.{longClass, shortClass, patternAt, cellSum, family}
+use Rattle.tables.specs.CellsLaws.{cell-same, in-table, hit-group}
+use Rattle.sums.specs.Sums.{Likelihoods, matchAt, mismatchAt, gain, score, sideScore, cellScore, LikelihoodsOk}
+use Rattle.sums.specs.SumParts.{placesZ, valueAt, termZ, TermsZ, familyZ}
+use Rattle.sums.specs.SumsRoom.{groupScore}
+
+-- ---- terms
+-- one group more: the match sum stands from `from` on, the mismatch sum from `also` on, and b is the pattern's bit
+module _ (a : List ℤ) (from also p s j : ℕ) where
+  pub term-more : termZ (j + 1) (placesZ from a) (placesZ also a) p s
+      ≡ termZ j (placesZ from a) (placesZ also a) p s +ℤ cond (agrees p s j) (placesZ from a j) (placesZ also a j)
+  unfolding termZ
+  term-more = fold-hit _+ℤ_ (pos 0) all _ j refl
+
+  pub read-match : (b start : ℕ) → b ≡ bitAt p ((s + j / 2) % 3) → b ≡ j % 2 → start ≡ from → getD a (start + j) (pos 0) ≡ cond (agrees p s j) (placesZ from a j) (placesZ also a j)
+  read-match b start e h q = ap (λ x. getD a (x + j) (pos 0)) q ∙ sym (rw (eq-eqb (bitAt p ((s + j / 2) % 3)) (j % 2) (sym e ∙ h)))
+
+  pub read-mismatch : (b start : ℕ) → b ≡ bitAt p ((s + j / 2) % 3) → (b ≡ j % 2 → ⊥) → start ≡ also → getD a (start + j) (pos 0) ≡ cond (agrees p s j) (placesZ from a j) (placesZ also a j)
+  read-mismatch b start e h q = ap (λ x. getD a (x + j) (pos 0)) q ∙ sym (rw (ne-eqb (bitAt p ((s + j / 2) % 3)) (j % 2) (λ r. h (e ∙ r))))
+
+-- the size of a term of n groups
+pub term-small : (m u : ℕ → ℤ) (n p s : ℕ) → ((j : ℕ) → j < n → (natAbs (m j) ≤ 2 ^ 53) × (natAbs (u j) ≤ 2 ^ 53)) → n ≤ 6 → natAbs (termZ n m u p s) ≤ 6 * 2 ^ 53
+unfolding termZ
+term-small m u n p s h l =
+    let a = sum-size (2 ^ 53) n all (λ j. cond (agrees p s j) (m j) (u j)) (λ j k e. either (agrees p s j) j k) in
+    let b : count n all ≤ n = count-le all n in
+    omega arith
+  where
+    either : (t : Bool) (j : ℕ) → j < n → natAbs (cond t (m j) (u j)) ≤ 2 ^ 53
+    either true j k = h j k .0
+    either false j k = h j k .1
+
+pub terms-atZ : (m u : ℕ → ℤ) (t : List (List ℤ)) (p s : ℕ) → TermsZ m u t → p < 8 → s < 3 → getD (getD t p []) s (pos 0) ≡ termZ 6 m u p s
+terms-atZ m u t p s T h k = ap (λ r. getD r s (pos 0)) (T .rows p h) ∙ three-at (termZ 6 m u p) (pos 0) s k
+
+-- groups that hold the same have the same terms
+pub same-termZ : (n : ℕ) (m m' u u' : ℕ → ℤ) (p s : ℕ) → ((j : ℕ) → j < n → m j ≡ m' j) → ((j : ℕ) → j < n → u j ≡ u' j) → termZ n m u p s ≡ termZ n m' u' p s
+unfolding termZ
+same-termZ n m m' u u' p s e f = fold-ext _+ℤ_ (pos 0) n all all _ _ (λ j h. refl) (λ j h. ap₂ (λ x y. cond (agrees p s j) x y) (e j h) (f j h))
+
+pub same-cellZ : (m m' u u' : ℕ → ℤ) (n : ℕ) → ((k : ℕ) → k < n * 6 → m k ≡ m' k) → ((k : ℕ) → k < n * 6 → u k ≡ u' k) → (ps : List ℕ) (lc s : ℕ)
+    → cellSum _+ℤ_ (pos 0) (familyZ m u) ps n lc s ≡ cellSum _+ℤ_ (pos 0) (familyZ m' u') ps n lc s
+same-cellZ m m' u u' n e f ps lc s =
+    cell-same _+ℤ_ (pos 0) (familyZ m u) ps (familyZ m' u') n lc s
+    (λ i h p. same-termZ 6 (family m i) (family m' i) (family u i) (family u' i) p s (λ j l. e (i * 6 + j) (omega arith)) (λ j l. f (i * 6 + j) (omega arith)))
+
+-- ---- sizes: one likelihood, one group
+module _ (E : EdgeList) (X : Likelihoods) (ok : LikelihoodsOk E X) where
+  pub value-small : (r i : ℕ) → i < size E → natAbs (valueAt X r i) ≤ 2 ^ 40
+  value-small zero i h = quantised-size _ (ok .match i h)
+  value-small (suc r) i h = quantised-size _ (ok .mismatch i h)
+
+  pub gain-small : (t : Bool) (i : ℕ) → i < size E → natAbs (cond t (matchAt X i) (mismatchAt X i)) ≤ 2 ^ 40
+  gain-small true i h = value-small 0 i h
+  gain-small false i h = value-small 1 i h
+
+  pub group-small : (B : Board) (t : ℕ) → size E ≤ 8192 → (r : ℕ) (s : Bool) (k : ℕ) → natAbs (groupScore B E X t r s k) ≤ 2 ^ 53
+  group-small B t few r s k = cell-size (size E) (member B E t s k) (valueAt X r) few (λ i h e. value-small r i h)
+
+-- ---- the sums are those of the edges
+module _ (B : Board) (E : EdgeList) (X : Likelihoods) (t : ℕ) where
+  -- what the first n families add to the class (lc, sc)
+  pub families-sum : (s : Bool) (n lc sc : ℕ)
+      → cellSum _+ℤ_ (pos 0) (familyZ (groupScore B E X t 0 s) (groupScore B E X t 1 s)) (tableOf B s) n lc sc
+      ≡ fold _+ℤ_ (pos 0) (size E) (λ i. onSide E t s i && ltb (groupAt B E t s i) (n * 6)) (λ i. cond (agrees (patternAt (tableOf B s) lc (groupAt B E t s i / 6)) sc (groupAt B E t s i % 6)) (matchAt X i) (mismatchAt X i))
+  unfolding cellSum termZ
+  families-sum s n lc sc =
+      edge-by-edge-both _+ℤ_ (pos 0) +ℤ-idr +ℤ-assoc +ℤ-comm 6 n (size E) (onSide E t s) (groupAt B E t s) (λ f j. agrees (patternAt (tableOf B s) lc f) sc j) (matchAt X) (mismatchAt X)
+
+  pub families-small : size E ≤ 8192 → LikelihoodsOk E X → (s : Bool) (n lc sc : ℕ)
+      → natAbs (cellSum _+ℤ_ (pos 0) (familyZ (groupScore B E X t 0 s) (groupScore B E X t 1 s)) (tableOf B s) n lc sc) ≤ 2 ^ 53
+  families-small few ok s n lc sc =
+      rw (families-sum s n lc sc)
+      (cell-size (size E) _ _ few (λ i h e. gain-small E X ok (agrees (patternAt (tableOf B s) lc (groupAt B E t s i / 6)) sc (groupAt B E t s i % 6)) i h))
+
+  module _ (some : (s : Bool) → 0 < periodOf B s) (bits : (i : ℕ) → i < size E → seen E i < 2) where
+    -- what all families add up to is the sum of the side at the class
+    pub score-side : (s : Bool) (r c : ℕ)
+        → cellSum _+ℤ_ (pos 0) (familyZ (groupScore B E X t 0 s) (groupScore B E X t 1 s)) (tableOf B s) (periodOf B s) (cond s r c) (cond s c r) ≡ sideScore B E X t s r c
+    unfolding sideScore
+    score-side s r c =
+        families-sum s (periodOf B s) (cond s r c) (cond s c r)
+        ∙ fold-ext _+ℤ_ (pos 0) (size E) _ _ _ _ (λ i l. ap (λ b. onSide E t s i && b) (in-table B E t some bits s i l) ∙ and-comm (onSide E t s i) true) (λ i l. refl)
+        ∙ fold-where _+ℤ_ (pos 0) (size E) (onSide E t s) _ _ (λ i l e. ap (λ b. cond b (matchAt X i) (mismatchAt X i)) (hit-group B E t some bits s r c i l e))
+
+    -- the same by cell
+    pub cell-score : (s : Bool) (k : ℕ)
+        → cellSum _+ℤ_ (pos 0) (familyZ (groupScore B E X t 0 s) (groupScore B E X t 1 s)) (tableOf B s) (periodOf B s) (longClass B s k) (shortClass B s k) ≡ cellScore B E X t s k
+    unfolding longClass shortClass cellScore
+    cell-score true k = score-side true (k / 3) (k % 3)
+    cell-score false k = score-side false (k / periodOf B false) (k % periodOf B false)
+
+-- ---- the sum of a placing is that of both sides, at its classes
+module _ (B : Board) (E : EdgeList) (X : Likelihoods) (t : ℕ) (some : (s : Bool) → 0 < periodOf B s) where
+  either : (b : Bool) (x : ℤ) → x ≡ cond b x x
+  either true x = refl
+  either false x = refl
+
+  score-class : (s : Bool) (r c : ℕ) → sideScore B E X t s r c ≡ sideScore B E X t s (r % cond s (periodOf B true) 3) (c % cond s 3 (periodOf B false))
+  unfolding sideScore
+  score-class s r c = fold-where _+ℤ_ (pos 0) (size E) (onSide E t s) _ _ (λ i l e. ap (λ b. cond b (matchAt X i) (mismatchAt X i)) (hit-class B E t some s r c i e))
+
+  both-scores : (r c : ℕ) → score B E X t r c ≡ sideScore B E X t true r c +ℤ sideScore B E X t false r c
+  unfolding score sideScore
+  both-scores r c =
+      let f = gain B E X t r c in
+      let o : ℕ → Bool = λ i. horizontal (look E t i) in
+      fold-ext _+ℤ_ (pos 0) (size E) all all f (λ i. cond (o i) (f i) (f i)) (λ i l. refl) (λ i l. either (o i) (f i))
+      ∙ fold-split _+ℤ_ (pos 0) +ℤ-idr +ℤ-assoc +ℤ-comm (size E) all o f f
+
+  pub score-by-class : (r c : ℕ) → score B E X t r c ≡ sideScore B E X t true (r % periodOf B true) (c % 3) +ℤ sideScore B E X t false (r % 3) (c % periodOf B false)
+  score-by-class r c = both-scores r c ∙ ap₂ _+ℤ_ (score-class true r c) (score-class false r c)

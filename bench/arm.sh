@@ -1,8 +1,8 @@
 #!/bin/sh
-# The benchmark on an Arm machine, where the archive for x86-64 can't be linked: the LLVM module that `rt staticlib capi` compiles is
+# The benchmark on an Arm machine, where the archive for x86-64 can't be linked: the LLVM modules that tools/archive compiles are
 # kept, compiled once more for Arm by the toolchain's own clang at the same -O3, and timed beside the Rust by the same driver.
 #
-# Only three things of the module are changed: the two lines that name the machine are left out, and a struct that is handed back
+# Only three things of a module are changed: the two lines that name the machine are left out, and a struct that is handed back
 # through a pointer is marked so (sret), since Arm has a register of its own for that pointer and x86-64 has not.
 #
 # `bench/arm.sh` prints the table of docs/PERFORMANCE.md; words after it go to the benchmark, as `bench/arm.sh run hard-12-4 ours 100`.
@@ -33,24 +33,27 @@ link "$home/on/$machine/toolchain/bin" "$kit/on/$machine/toolchain/bin" clang
 cat >"$kit/on/$machine/toolchain/bin/clang" <<END
 #!/bin/sh
 for word in "\$@"; do
-    case \$word in *.bc) cp "\$word" "$room/module.bc" ;; esac
+    case \$word in *.bc) cp "\$word" "$room/modules/\$\$.bc" ;; esac
 done
 exec "$clang" "\$@"
 END
 chmod +x "$kit/on/$machine/toolchain/bin/clang"
 
-rm -f "$room/module.bc"
-RATTLE_HOME=$kit rt staticlib capi >"$room/staticlib.say" 2>&1 || { cat "$room/staticlib.say" >&2; exit 1; }
-[ -f "$room/module.bc" ] || { echo "bench/arm.sh: no module was compiled" >&2; exit 1; }
-"$clang" -x ir -Xclang -disable-llvm-passes -S -emit-llvm "$room/module.bc" -o "$room/module.ll" 2>/dev/null
-sed -e '/^target datalayout/d' -e '/^target triple/d' -e 's/ "target-cpu"="x86-64"//' \
-    -e '/^define noundef ptr @samburext_/,/^}/s/^  ret ptr %a0$/  ret void/' \
-    -e 's/^define noundef ptr \(@samburext_[a-z_]*(ptr\) noundef %a0/define void \1 sret([64 x i8]) %a0/' "$room/module.ll" >"$room/arm.ll"
-marked=$(grep -c '^define void @samburext_[a-z_]*(ptr sret' "$room/arm.ll") || true
+rm -rf "$room/modules"
+mkdir -p "$room/modules"
+RATTLE_HOME=$kit tools/archive >"$room/archive.say" 2>&1 || { cat "$room/archive.say" >&2; exit 1; }
+for module in "$room"/modules/*.bc; do
+    name=${module%.bc}
+    "$clang" -x ir -Xclang -disable-llvm-passes -S -emit-llvm "$module" -o "$name.ll" 2>/dev/null
+    sed -e '/^target datalayout/d' -e '/^target triple/d' -e 's/ "target-cpu"="x86-64"//' \
+        -e '/^define noundef ptr @samburext_/,/^}/s/^  ret ptr %a0$/  ret void/' \
+        -e 's/^define noundef ptr \(@samburext_[a-z_]*(ptr\) noundef %a0/define void \1 sret([64 x i8]) %a0/' "$name.ll" >"$name.arm.ll"
+    "$clang" --target=aarch64-unknown-linux-gnu -Wno-override-module -ffunction-sections -fPIC -O3 -c -x ir "$name.arm.ll" -o "$name.o"
+done
+marked=$(cat "$room"/modules/*.arm.ll | grep -c '^define void @samburext_[a-z_]*(ptr sret') || true
 [ "$marked" -eq 3 ] || { echo "bench/arm.sh: $marked functions of three hand back a struct by a pointer" >&2; exit 1; }
-"$clang" --target=aarch64-unknown-linux-gnu -ffunction-sections -fPIC -O3 -c -x ir "$room/arm.ll" -o "$room/arm.o"
-rm -f "$room/libcapi.a"
-ar rcs "$room/libcapi.a" "$room/arm.o"
+rm -f "$room/libsamburext.a"
+ar rcs "$room/libsamburext.a" "$room"/modules/*.o
 
 export SAMBUREXT_ARCHIVE="$room"
 cargo build --release --offline --quiet --manifest-path bench/Cargo.toml --target-dir "$room/cargo"

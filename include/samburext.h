@@ -1,6 +1,6 @@
 /* Samburext for C and C++: which square of a 501 by 501 PuzzleBoard a camera faces, or a refusal.
  *
- * Link with target/staticlib/libcapi.a, which `rt staticlib capi` writes (x86-64 Linux). Each function takes every input: it
+ * Link with target/staticlib/libsamburext.a, which tools/archive writes (x86-64 Linux). Each function takes every input: it
  * ends, reads and writes nothing but the slices it was lent, keeps nothing between calls, and may be called from several
  * threads at once, each with room of its own.
  *

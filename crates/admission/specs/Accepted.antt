@@ -17,7 +17,7 @@ use Rattle.laws.specs.WeightLaws.{confidence}
 use Rattle.board.specs.Hits.{EdgeList, Board, size}
 use Rattle.board.specs.Domain.{ListOk, Patterns, BoardOk}
 use Rattle.likelihood.specs.Likelihood.{acceptable}
-use Rattle.admission.specs.declared.refusal.Refusal.{Refusal}
+use Rattle.refusals.specs.declared.Refusal.{Refusal}
 use Rattle.checks.specs.Checks.{far, farAt, badCoordinate, badByte, inRange, marginTop, badConfidence, badLikelihood, firstBadCoordinate, firstBadByte, firstBadConfidence, firstBadLikelihood, lengthsDiffer, sizeBad, fieldBad, confidenceBad, likelihoodsDiffer, likelihoodBad, transformsBad, tableBad, originBad}
 use Rattle.admission.specs.Refusals.{numbered, fieldsBad, tablesBad, roomShort, softRoomShort, hardRefusal, softRefusal, statsRefusal}
 

@@ -5,11 +5,7 @@ ghost use Rattle.laws.specs.Weights.{oneF};
 ghost use Rattle.board.specs.Hits.{edges, tables};
 ghost use Rattle.checks.specs.Checks.{inRange, marginTop, likelihoodsDiffer, originBad};
 ghost use Rattle.admission.specs.Refusals.{earlier, refusedIf, roomShort, softRoomShort, tablesBad, listRefusal, likelihoodRefusal, settingsRefusal, hardRefusal, softRefusal, statsRefusal};
-
-// Why a call was refused: the number of document 01's table. Inside the checks 0 means that nothing is refused; an answer never holds that.
-pub struct Refusal {
-    pub number: u32,
-}
+use refusals::Refusal;
 
 // The refusal that comes first of two.
 fn first_of(a: Refusal, b: Refusal) -> Refusal

@@ -15,20 +15,21 @@ use Rattle.laws.specs.Weights.{zeroF}
 use Rattle.laws.specs.Cleared.{cleared-written}
 use Rattle.board.specs.Hits.{EdgeList, Board, Placing, size, hits}
 use Rattle.sums.specs.Sums.{Likelihoods}
-use Rattle.admission.specs.declared.refusal.Refusal.{Refusal}
+use Rattle.refusals.specs.declared.Refusal.{Refusal}
 use Rattle.admission.specs.Refusals.{hardRefusal, softRefusal, statsRefusal}
 use Rattle.admission.specs.Accepted.{HardAccepted, hard-accepted, SoftAccepted, soft-accepted}
 use Rattle.figures.specs.Figures.{noConfidence}
-use Rattle.soft.specs.Margin.{belowMargin}
-use Rattle.puzzleboard.specs.declared.answer.Decoded.{Decoded}
-use Rattle.puzzleboard.specs.declared.answer.Answer.{Answer}
-use Rattle.puzzleboard.specs.declared.answer.Answer.the-variants.{Found, Refused}
-use Rattle.puzzleboard.specs.declared.answer.MatchStats.{MatchStats}
-use Rattle.puzzleboard.specs.declared.answer.StatsAnswer.{StatsAnswer}
-use Rattle.puzzleboard.specs.declared.answer.StatsAnswer.the-variants as stats
-use Rattle.puzzleboard.specs.Hard.{pick, hardCore, hardAnswer, left, HardDone}
+use Rattle.margin.specs.Margin.{belowMargin}
+use Rattle.answer.specs.declared.Decoded.{Decoded}
+use Rattle.answer.specs.declared.Answer.{Answer}
+use Rattle.answer.specs.declared.Answer.the-variants.{Found, Refused}
+use Rattle.answer.specs.declared.MatchStats.{MatchStats}
+use Rattle.answer.specs.declared.StatsAnswer.{StatsAnswer}
+use Rattle.answer.specs.declared.StatsAnswer.the-variants as stats
+use Rattle.verdict.specs.Verdict.{pick}
+use Rattle.puzzleboard.specs.Hard.{hardCore, hardAnswer, left, HardDone}
 use Rattle.puzzleboard.specs.Soft.{softCore, softAnswer, SoftDone}
-use Rattle.puzzleboard.specs.Stats.{statsAnswer, statsOf, orCounted}
+use Rattle.stats.specs.Stats.{statsAnswer, statsOf, orCounted}
 use Rattle.puzzleboard.specs.Demand.{Leads, Names, AgreesPhysical}
 use Rattle.puzzleboard.specs.DemandLaws.{leader-named}
 use Rattle.puzzleboard.specs.SoftDemand.{marginOf, BestByLikelihood, SoftAnswered}

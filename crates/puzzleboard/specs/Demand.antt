@@ -15,8 +15,8 @@ use Rattle.hard.specs.Select.{selection}
 use Rattle.scan.specs.declared.scan.Candidate.{Candidate}
 use Rattle.scan.specs.declared.scan.RunnerUp.{RunnerUp}
 use Rattle.hard.specs.declared.select.Selection.the-variants.{Selected}
-use Rattle.puzzleboard.specs.declared.answer.Square.{Square}
-use Rattle.puzzleboard.specs.declared.answer.Decoded.{Decoded}
+use Rattle.answer.specs.declared.Square.{Square}
+use Rattle.answer.specs.declared.Decoded.{Decoded}
 
 -- "A placing is one place in the transform list with one of the 251,001 origins": 3 L rows of 3 M columns
 pub record OnBoard (B : Board) (ts : List ℕ) (P : Placing) : Type 0 where

@@ -19,7 +19,7 @@ use Rattle.scan.specs.Scan.{overLimit}
 use Rattle.hard.specs.Placings.{Sole, MostOther}
 use Rattle.hard.specs.OneList.{originNumber, keyAt}
 use Rattle.hard.specs.SelectTheorems.{hitsAtKey}
-use Rattle.puzzleboard.specs.declared.answer.Square.{Square}
+use Rattle.answer.specs.declared.Square.{Square}
 use Rattle.puzzleboard.specs.Demand.{OnBoard, Same, missesAt, Leads, RunsUp, Names}
 
 -- ---- one list has one leading placing

@@ -10,7 +10,7 @@ use lib.Ieee.{Float, nan, binary32, ofInt}
 use Rattle.laws.specs.Weights.{zeroF, oneF}
 use Rattle.laws.specs.Cleared.{cleared, SameBeyond}
 use Rattle.board.specs.Hits.{EdgeList, Board, size}
-use Rattle.admission.specs.declared.refusal.Refusal.{Refusal}
+use Rattle.refusals.specs.declared.Refusal.{Refusal}
 use Rattle.admission.specs.Refusals.{numbered, hardRefusal}
 use Rattle.scan.specs.declared.scan.Candidate.{Candidate}
 use Rattle.scan.specs.declared.scan.RunnerUp.{RunnerUp}
@@ -19,42 +19,10 @@ use Rattle.hard.specs.declared.select.Selection.the-variants as sel
 use Rattle.figures.specs.Figures.{rateOf, meanOf}
 use Rattle.figures.specs.Gate.{passed}
 use Rattle.hard.specs.Select.{selection}
-use Rattle.puzzleboard.specs.declared.answer.Decoded.{Decoded}
-use Rattle.puzzleboard.specs.declared.answer.Answer.{Answer}
-use Rattle.puzzleboard.specs.declared.answer.Answer.the-variants.{Found, Refused}
-
--- a refusal by its number, and nothing else
-abbrev pub refusedBy : ℕ → Answer
-refusedBy n = Refused (numbered n)
-
--- "origin and matrix must agree": the eight matrices differ, so transforms by number (`matrix-tells` in HardLaws)
-unfoldable pub agreed : ℕ → Candidate → ℕ → Candidate → Bool
-agreed t a s b = eqb t s && (eqb (a .row) (b .row) && eqb (a .col) (b .col))
-
--- "The answer holds the logical list's transform, origin, hits, edges, weighted score, rate, mean confidence, best score (= weighted score), runner-up hits
--- as score, margin, and the runner-up's transform and origin." "margin = best minus runner-up hits, not below 0"
-unfoldable pub decodedOf : ℕ → Candidate → RunnerUp → ℕ → Decoded
-decodedOf t w next edges = record {
-  square = record { transform = t; row = w .row; col = w .col };
-  hits = w .hits;
-  edges = edges;
-  weighted = w .score;
-  rate = rateOf edges (w .hits);
-  mean = meanOf (w .hits) (w .weight);
-  best = w .score;
-  next = ofInt binary32 (pos (next .hits));
-  margin = ofInt binary32 (pos (w .hits - next .hits));
-  runner = record { transform = next .transform; row = next .row; col = next .col };
-}
-
-abbrev pub pick : Bool → Answer → Answer → Answer
-pick true a b = a
-pick false a b = b
-
--- 12 where the winners differ, 13 where the gate is not passed, else found
-unfoldable pub judged : ℕ → Candidate → RunnerUp → ℕ → Candidate → ℕ → Answer
-unfolding decodedOf agreed
-judged t w next s p edges = pick (agreed t w s p) (pick (passed edges (w .hits) (next .hits)) (Found (decodedOf t w next edges)) (refusedBy 13)) (refusedBy 12)
+use Rattle.answer.specs.declared.Decoded.{Decoded}
+use Rattle.answer.specs.declared.Answer.{Answer}
+use Rattle.answer.specs.declared.Answer.the-variants.{Found, Refused}
+use Rattle.verdict.specs.Verdict.{refusedBy, pick, judged}
 
 -- "select on the logical list with the limit, then on the physical list with limit 1; origin and matrix must agree; then the gate on the logical list"
 abbrev pub afterPhysical : EdgeList → List ℕ → Candidate → RunnerUp → Selection → Answer

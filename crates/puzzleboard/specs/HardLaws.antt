@@ -16,7 +16,7 @@ use Rattle.board.specs.Transform.{mat}
 use Rattle.board.specs.Sides.{periodOf}
 use Rattle.board.specs.Domain.{ListOk, BoardOk}
 use Rattle.tables.specs.Room.{used}
-use Rattle.admission.specs.declared.refusal.Refusal.{Refusal}
+use Rattle.refusals.specs.declared.Refusal.{Refusal}
 use Rattle.admission.specs.Refusals.{hardRefusal}
 use Rattle.admission.specs.Accepted.{TransformsOk, HardAccepted}
 use Rattle.scan.specs.declared.scan.Candidate.{Candidate}
@@ -26,9 +26,10 @@ use Rattle.hard.specs.declared.select.Selection.the-variants as sel
 use Rattle.hard.specs.Select.{selection, SelectReady, SelectDone}
 use Rattle.hard.specs.SelectLaws.{select-beyond}
 use Rattle.hard.specs.SelectTheorems.{selected-in-range}
-use Rattle.puzzleboard.specs.declared.answer.Answer.{Answer}
-use Rattle.puzzleboard.specs.declared.answer.Answer.the-variants.{Found, Refused}
-use Rattle.puzzleboard.specs.Hard.{refusedBy, judged, afterPhysical, afterLogical, hardCore, hardAnswer, left, HardDone, CoreDone}
+use Rattle.answer.specs.declared.Answer.{Answer}
+use Rattle.answer.specs.declared.Answer.the-variants.{Found, Refused}
+use Rattle.verdict.specs.Verdict.{refusedBy, judged}
+use Rattle.puzzleboard.specs.Hard.{afterPhysical, afterLogical, hardCore, hardAnswer, left, HardDone, CoreDone}
 
 -- ---- the eight matrices differ
 -- the number of the transform with a matrix, by its four entries

@@ -23,10 +23,11 @@ use Rattle.scan.specs.declared.scan.Candidate.{Candidate}
 use Rattle.scan.specs.declared.scan.RunnerUp.{RunnerUp}
 use Rattle.hard.specs.declared.select.Selection.{Selection}
 use Rattle.hard.specs.declared.select.Selection.the-variants as sel
-use Rattle.puzzleboard.specs.declared.answer.Decoded.{Decoded}
-use Rattle.puzzleboard.specs.declared.answer.Answer.{Answer}
-use Rattle.puzzleboard.specs.declared.answer.Answer.the-variants.{Found, Refused}
-use Rattle.puzzleboard.specs.Hard.{refusedBy, agreed, decodedOf, pick, judged, afterPhysical, afterLogical, hardCore}
+use Rattle.answer.specs.declared.Decoded.{Decoded}
+use Rattle.answer.specs.declared.Answer.{Answer}
+use Rattle.answer.specs.declared.Answer.the-variants.{Found, Refused}
+use Rattle.verdict.specs.Verdict.{refusedBy, agreed, decodedOf, pick, judged}
+use Rattle.puzzleboard.specs.Hard.{afterPhysical, afterLogical, hardCore}
 use Rattle.puzzleboard.specs.Demand.{OnBoard, Same, Leads, RunsUp, Names, AgreesPhysical, Tells}
 use Rattle.puzzleboard.specs.DemandLaws.{keyOf, key-same, leads-sole}
 use Rattle.puzzleboard.specs.Winners.{placed, nextAt, winner-on, winner-leads, winner-hits, named, runner-hits, runs-up}

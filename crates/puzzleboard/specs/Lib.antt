@@ -1,12 +1,10 @@
-pub mod Stats
-pub mod StatsLaws
-pub mod Hard
-pub mod HardLaws
 pub mod Demand
 pub mod DemandLaws
-pub mod Winners
+pub mod Hard
+pub mod HardLaws
 pub mod HardTheorems
 pub mod Soft
-pub mod SoftLaws
 pub mod SoftDemand
+pub mod SoftLaws
 pub mod SoftTheorems
+pub mod Winners

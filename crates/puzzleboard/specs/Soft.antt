@@ -23,17 +23,18 @@ use Rattle.figures.specs.Figures.{rateOf, meanOf}
 use Rattle.figures.specs.Gate.{passed}
 use Rattle.figures.specs.Figures.{noConfidence}
 use Rattle.hard.specs.Select.{tablesOf, selection}
-use Rattle.soft.specs.declared.scan.SoftCandidate.{SoftCandidate}
-use Rattle.soft.specs.declared.scan.SoftChoice.{SoftChoice}
-use Rattle.soft.specs.declared.scan.SoftChoice.the-variants.{Nothing, Chosen}
-use Rattle.soft.specs.Margin.{softMargin, belowMargin}
+use Rattle.margin.specs.declared.scan.SoftCandidate.{SoftCandidate}
+use Rattle.margin.specs.declared.scan.SoftChoice.{SoftChoice}
+use Rattle.margin.specs.declared.scan.SoftChoice.the-variants.{Nothing, Chosen}
+use Rattle.margin.specs.Margin.{softMargin, belowMargin}
 use Rattle.soft.specs.Select.{softSelection}
-use Rattle.puzzleboard.specs.declared.stats.HitsWeight.{HitsWeight}
-use Rattle.puzzleboard.specs.declared.soft_decode.SoftBest.{SoftBest}
-use Rattle.puzzleboard.specs.declared.answer.Decoded.{Decoded}
-use Rattle.puzzleboard.specs.declared.answer.Answer.{Answer}
-use Rattle.puzzleboard.specs.declared.answer.Answer.the-variants.{Found, Refused}
-use Rattle.puzzleboard.specs.Hard.{refusedBy, pick, left}
+use Rattle.stats.specs.declared.stats.HitsWeight.{HitsWeight}
+use Rattle.verdict.specs.declared.soft_verdict.SoftBest.{SoftBest}
+use Rattle.answer.specs.declared.Decoded.{Decoded}
+use Rattle.answer.specs.declared.Answer.{Answer}
+use Rattle.answer.specs.declared.Answer.the-variants.{Found, Refused}
+use Rattle.verdict.specs.Verdict.{refusedBy, pick, softVerdict, softDecodedOf, bestOf}
+use Rattle.puzzleboard.specs.Hard.{left}
 
 -- ---- the physical list's figures
 -- the two cells of an origin, added: counts, and weights rounded once
@@ -47,33 +48,7 @@ cellFigures L M X row col = record {
 abbrev pub figuresOf : Board → EdgeList → ℕ → ℕ → ℕ → HitsWeight
 figuresOf B E t row col = cellFigures (periodOf B true) (periodOf B false) (tablesOf B E t) row col
 
--- ---- the verdict
--- "Then hard selection on the logical list must give the same origin and matrix and pass the gate": 15, 13, or 0
-unfoldable pub softVerdict : ℕ → SoftCandidate → ℕ → Candidate → RunnerUp → ℕ → ℕ
-softVerdict t first s w next edges =
-    cond (eqb t s && (eqb (first .row) (w .row) && eqb (first .col) (w .col))) (cond (passed edges (w .hits) (next .hits)) 0 13) 15
-
--- "the runner-up fields are replaced by the hard runner-up (score = its hits); the margin stays. Best score = f32 total, weighted score = that / edges; edges,
--- hits, rate and mean confidence are the physical list's."
-unfoldable pub softDecodedOf : ℕ → SoftBest → HitsWeight → ℕ → RunnerUp → Decoded
-softDecodedOf t best figures edges next = record {
-  square = record { transform = t; row = best .first .row; col = best .first .col };
-  hits = figures .hits;
-  edges = edges;
-  weighted = div binary32 (best .first .total) (ofInt binary32 (pos edges));
-  rate = rateOf edges (figures .hits);
-  mean = meanOf (figures .hits) (figures .weight);
-  best = best .first .total;
-  next = ofInt binary32 (pos (next .hits));
-  margin = best .margin;
-  runner = record { transform = next .transform; row = next .row; col = next .col };
-}
-
 -- ---- the answer
--- the two best candidates of a list of so many edges, with their margin
-abbrev pub bestOf : SoftCandidate → SoftCandidate → ℕ → SoftBest
-bestOf first second edges = record { first = first; second = second; margin = softMargin first second edges }
-
 module _ (P L : EdgeList) (ts : List ℕ) (B : Board) (limit : Float) where
   -- the two best by likelihood, where the logical list gave w with its runner-up
   unfoldable pub softJudged : SoftBest → Candidate → RunnerUp → Answer

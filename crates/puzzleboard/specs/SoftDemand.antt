@@ -13,11 +13,11 @@ use Rattle.board.specs.Sides.{periodOf}
 use Rattle.likelihood.specs.Likelihood.{dequantised}
 use Rattle.sums.specs.Sums.{Likelihoods, score}
 use Rattle.hard.specs.OneList.{keyAt}
-use Rattle.soft.specs.declared.scan.SoftCandidate.{SoftCandidate}
+use Rattle.margin.specs.declared.scan.SoftCandidate.{SoftCandidate}
 use Rattle.soft.specs.BestPlacing.{FirstPlace, SecondPlace}
-use Rattle.soft.specs.Margin.{softMargin, belowMargin}
+use Rattle.margin.specs.Margin.{softMargin, belowMargin}
 use Rattle.soft.specs.SelectLaws.{scoreAtKey}
-use Rattle.puzzleboard.specs.declared.answer.Decoded.{Decoded}
+use Rattle.answer.specs.declared.Decoded.{Decoded}
 use Rattle.puzzleboard.specs.Demand.{OnBoard, Names, Leads, RunsUp}
 
 -- the f32 total of a placing: its likelihood sum over the edges

@@ -21,7 +21,7 @@ use Rattle.board.specs.Sides.{periodOf}
 use Rattle.board.specs.Domain.{ListOk, BoardOk}
 use Rattle.tables.specs.Room.{used, TablesReady, TablesBuilt}
 use Rattle.sums.specs.Sums.{Likelihoods, LikelihoodsOk}
-use Rattle.admission.specs.declared.refusal.Refusal.{Refusal}
+use Rattle.refusals.specs.declared.Refusal.{Refusal}
 use Rattle.admission.specs.Refusals.{softRefusal}
 use Rattle.admission.specs.Accepted.{HardAccepted, SoftAccepted}
 use Rattle.scan.specs.declared.scan.Candidate.{Candidate}
@@ -32,22 +32,24 @@ use Rattle.best.specs.CellTables.{Period, CellTables, cells, TablesOk, cAt, wAt
 use Rattle.figures.specs.Figures.{totalConfidence, noConfidence}
 use Rattle.hard.specs.Select.{selection, SelectDone}
 use Rattle.hard.specs.SelectLaws.{RoomReady, roomCells, built-cells, tables-ok, period-h, period-v}
-use Rattle.soft.specs.declared.scan.SoftCandidate.{SoftCandidate}
-use Rattle.soft.specs.declared.scan.SoftScan.{SoftScan}
-use Rattle.soft.specs.declared.scan.SoftChoice.{SoftChoice}
-use Rattle.soft.specs.declared.scan.SoftChoice.the-variants.{Nothing, Chosen}
-use Rattle.soft.specs.Scan.{softChosen}
-use Rattle.soft.specs.Margin.{softMargin, belowMargin}
+use Rattle.margin.specs.declared.scan.SoftCandidate.{SoftCandidate}
+use Rattle.margin.specs.declared.scan.SoftScan.{SoftScan}
+use Rattle.margin.specs.declared.scan.SoftChoice.{SoftChoice}
+use Rattle.margin.specs.declared.scan.SoftChoice.the-variants.{Nothing, Chosen}
+use Rattle.margin.specs.Scan.{softChosen}
+use Rattle.margin.specs.Margin.{softMargin, belowMargin}
 use Rattle.soft.specs.Select.{softSelection, SoftReady, SoftScanned}
 use Rattle.soft.specs.SelectLaws.{room-beyond, soft-best-edges}
-use Rattle.puzzleboard.specs.declared.stats.HitsWeight.{HitsWeight}
-use Rattle.puzzleboard.specs.declared.soft_decode.SoftBest.{SoftBest}
-use Rattle.puzzleboard.specs.declared.answer.Decoded.{Decoded}
-use Rattle.puzzleboard.specs.declared.answer.Answer.{Answer}
-use Rattle.puzzleboard.specs.declared.answer.Answer.the-variants.{Found, Refused}
-use Rattle.puzzleboard.specs.Hard.{refusedBy, left}
+use Rattle.stats.specs.declared.stats.HitsWeight.{HitsWeight}
+use Rattle.verdict.specs.declared.soft_verdict.SoftBest.{SoftBest}
+use Rattle.answer.specs.declared.Decoded.{Decoded}
+use Rattle.answer.specs.declared.Answer.{Answer}
+use Rattle.answer.specs.declared.Answer.the-variants.{Found, Refused}
+use Rattle.verdict.specs.Verdict.{refusedBy}
+use Rattle.puzzleboard.specs.Hard.{left}
 use Rattle.puzzleboard.specs.HardLaws.{used-flat, ready-logical, beyond}
-use Rattle.puzzleboard.specs.Soft.{cellFigures, figuresOf, softVerdict, softDecodedOf, softJudged, afterHard, afterSoft, softCore, softAnswer, FiguresDone, LogicalDone, SoftCoreDone, SoftDone}
+use Rattle.verdict.specs.Verdict.{softVerdict, softDecodedOf}
+use Rattle.puzzleboard.specs.Soft.{cellFigures, figuresOf, softJudged, afterHard, afterSoft, softCore, softAnswer, FiguresDone, LogicalDone, SoftCoreDone, SoftDone}
 
 -- ---- the cells of an origin
 pub positive : {n : ℕ} → Period n → 0 < n

@@ -30,19 +30,20 @@ use Rattle.scan.specs.declared.scan.Candidate.{Candidate}
 use Rattle.scan.specs.declared.scan.RunnerUp.{RunnerUp}
 use Rattle.hard.specs.declared.select.Selection.{Selection}
 use Rattle.hard.specs.declared.select.Selection.the-variants as sel
-use Rattle.soft.specs.declared.scan.SoftCandidate.{SoftCandidate}
-use Rattle.soft.specs.declared.scan.SoftChoice.{SoftChoice}
-use Rattle.soft.specs.declared.scan.SoftChoice.the-variants.{Nothing, Chosen}
+use Rattle.margin.specs.declared.scan.SoftCandidate.{SoftCandidate}
+use Rattle.margin.specs.declared.scan.SoftChoice.{SoftChoice}
+use Rattle.margin.specs.declared.scan.SoftChoice.the-variants.{Nothing, Chosen}
 use Rattle.soft.specs.BestPlacing.{FirstPlace, SecondPlace, BestTwo}
 use Rattle.soft.specs.BestPlacingUnique.{best-two-only}
-use Rattle.soft.specs.Margin.{softMargin, belowMargin}
+use Rattle.margin.specs.Margin.{softMargin, belowMargin}
 use Rattle.soft.specs.Select.{softSelection}
 use Rattle.soft.specs.SelectLaws.{scoreAtKey, soft-best-edges}
-use Rattle.puzzleboard.specs.declared.answer.Decoded.{Decoded}
-use Rattle.puzzleboard.specs.declared.answer.Answer.{Answer}
-use Rattle.puzzleboard.specs.declared.answer.Answer.the-variants.{Found, Refused}
-use Rattle.puzzleboard.specs.Hard.{refusedBy, pick}
-use Rattle.puzzleboard.specs.Soft.{cellFigures, figuresOf, softVerdict, softDecodedOf, softJudged, bestOf, afterHard, afterSoft, softCore}
+use Rattle.answer.specs.declared.Decoded.{Decoded}
+use Rattle.answer.specs.declared.Answer.{Answer}
+use Rattle.answer.specs.declared.Answer.the-variants.{Found, Refused}
+use Rattle.verdict.specs.Verdict.{refusedBy, pick}
+use Rattle.verdict.specs.Verdict.{softVerdict, softDecodedOf, bestOf}
+use Rattle.puzzleboard.specs.Soft.{cellFigures, figuresOf, softJudged, afterHard, afterSoft, softCore}
 use Rattle.puzzleboard.specs.SoftLaws.{likelihoods-ok}
 use Rattle.puzzleboard.specs.Demand.{OnBoard, Same, Leads, RunsUp, Names}
 use Rattle.puzzleboard.specs.DemandLaws.{keyOf, placing, placing-on, key-same, key-back, row-back, col-back, leads-sole}

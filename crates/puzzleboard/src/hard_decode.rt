@@ -4,69 +4,11 @@ ghost use Prim.Native.Nat.{_≤_, _<_};
 ghost use lib.ListN.{length};
 ghost use Rattle.board.specs.Hits.{edges, tables};
 ghost use Rattle.admission.specs.Accepted.{HardAccepted};
-ghost use Rattle.puzzleboard.specs.Hard.{agreed, decodedOf, judged, CoreDone, HardDone};
-use crate::answer::Answer;
-use crate::answer::Decoded;
-use crate::answer::Square;
-use crate::refuse::refuse;
+ghost use Rattle.puzzleboard.specs.Hard.{CoreDone, HardDone};
+use answer::Answer;
 use hard::select::Selection;
-use scan::scan::Candidate;
-use scan::scan::RunnerUp;
-
-// Whether two winners agree in transform and origin.
-fn same_square(t: u8, a: Candidate, s: u8, b: Candidate) -> bool
-    ensures { λ r. ⌜ r ≡ agreed t a s b ⌝ }
-{
-    if t == s {
-        if a.row == b.row {
-            return a.col == b.col;
-        }
-    }
-    false
-}
-
-// What a found answer says of the winner w under transform t, with its runner-up.
-fn decoded(t: u8, w: Candidate, next: RunnerUp, edges: u32) -> Decoded
-    requires { ⌜ (w .hits ≤ edges) × (next .hits ≤ edges) × (edges ≤ 8192) ⌝ }
-    ensures { λ r. ⌜ r ≡ decodedOf t w next edges ⌝ }
-{
-    let square = Square {
-        transform: t as u32,
-        row: w.row,
-        col: w.col,
-    };
-    let runner = Square {
-        transform: next.transform as u32,
-        row: next.row,
-        col: next.col,
-    };
-    Decoded {
-        square,
-        hits: w.hits,
-        edges,
-        weighted: w.score,
-        rate: figures::rate(edges, w.hits),
-        mean: figures::mean(w.hits, w.weight),
-        best: w.score,
-        next: next.hits as f32,
-        margin: figures::margin(w.hits, next.hits) as f32,
-        runner,
-    }
-}
-
-// The logical winner w under transform t, with its runner-up, judged against the physical winner p under transform s: 12, 13 or found.
-fn judge(t: u8, w: Candidate, next: RunnerUp, s: u8, p: Candidate, edges: u32) -> Answer
-    requires { ⌜ (w .hits ≤ edges) × (next .hits ≤ edges) × (edges ≤ 8192) ⌝ }
-    ensures { λ r. ⌜ r ≡ judged t w next s p edges ⌝ }
-{
-    if !same_square(t, w, s, p) {
-        return refuse(12);
-    }
-    if !figures::passes(edges, w.hits, next.hits) {
-        return refuse(13);
-    }
-    Answer::Found(decoded(t, w, next, edges))
-}
+use verdict::verdict::judge;
+use verdict::verdict::refuse;
 
 // What an accepted hard call answers: the logical list with the limit, the physical list with limit 1, then both judged. The room is left as it was used.
 fn hard_core<'a>(

@@ -7,24 +7,19 @@ ghost use Rattle.sums.specs.Sums.{likelihoods};
 ghost use Rattle.tables.specs.Room.{TablesReady};
 ghost use Rattle.hard.specs.SelectLaws.{RoomReady, roomCells};
 ghost use Rattle.admission.specs.Accepted.{HardAccepted, SoftAccepted};
-ghost use Rattle.puzzleboard.specs.Soft.{cellFigures, softVerdict, softDecodedOf, FiguresDone, LogicalDone, SoftCoreDone, SoftDone};
-use crate::answer::Answer;
-use crate::answer::Decoded;
-use crate::answer::Square;
-use crate::refuse::refuse;
-use crate::stats::HitsWeight;
+ghost use Rattle.verdict.specs.Verdict.{softVerdict, softDecodedOf};
+ghost use Rattle.puzzleboard.specs.Soft.{cellFigures, FiguresDone, LogicalDone, SoftCoreDone, SoftDone};
+use answer::Answer;
 use hard::select::Selection;
+use margin::scan::SoftCandidate;
+use margin::scan::SoftChoice;
 use scan::scan::Candidate;
 use scan::scan::RunnerUp;
-use soft::scan::SoftCandidate;
-use soft::scan::SoftChoice;
-
-// The two best placings by likelihood, and how far the first is ahead per edge: kept together until the answer is assembled.
-pub struct SoftBest {
-    pub first: SoftCandidate,
-    pub second: SoftCandidate,
-    pub margin: f32,
-}
+use stats::stats::HitsWeight;
+use verdict::soft_verdict::SoftBest;
+use verdict::soft_verdict::soft_decoded;
+use verdict::soft_verdict::soft_verdict;
+use verdict::verdict::refuse;
 
 // The hits and the weight of one origin, read off the tables in the room.
 fn figures_at(
@@ -88,52 +83,6 @@ fn figures<'a>(
         row,
         col,
     )
-}
-
-// The soft winner under transform t against the hard winner w of the logical list under transform s: 15, 13, or 0 where both are passed.
-fn soft_verdict(t: u8, best: SoftBest, s: u8, w: Candidate, next: RunnerUp, edges: u32) -> u32
-    ensures { λ r. ⌜ r ≡ softVerdict t (best .first) s w next edges ⌝ }
-{
-    if t == s {
-        if best.first.row == w.row {
-            if best.first.col == w.col {
-                if figures::passes(edges, w.hits, next.hits) {
-                    return 0;
-                }
-                return 13;
-            }
-        }
-    }
-    15
-}
-
-// What a found soft answer says: the soft winner with its total and margin, the physical list's figures, and the hard runner-up.
-fn soft_decoded(t: u8, best: SoftBest, figures: HitsWeight, edges: u32, next: RunnerUp) -> Decoded
-    requires { ⌜ (figures .hits ≤ edges) × (edges ≤ 8192) × (next .hits ≤ 8192) ⌝ }
-    ensures { λ r. ⌜ r ≡ softDecodedOf t best figures edges next ⌝ }
-{
-    let square = Square {
-        transform: t as u32,
-        row: best.first.row,
-        col: best.first.col,
-    };
-    let runner = Square {
-        transform: next.transform as u32,
-        row: next.row,
-        col: next.col,
-    };
-    Decoded {
-        square,
-        hits: figures.hits,
-        edges,
-        weighted: best.first.total / edges as f32,
-        rate: figures::rate(edges, figures.hits),
-        mean: figures::mean(figures.hits, figures.weight),
-        best: best.first.total,
-        next: next.hits as f32,
-        margin: best.margin,
-        runner,
-    }
 }
 
 // The soft winner with its margin, against hard selection on the logical list: refused by that, 15, 13, or found. The room is left as it was used.
@@ -262,11 +211,11 @@ fn soft_core<'a>(
         v,
         sums,
     );
-    match soft::scan::finish(scan) {
+    match margin::scan::finish(scan) {
         SoftChoice::Nothing => refuse(14),
         SoftChoice::Chosen { first, second } => {
-            let lead = soft::margin::soft_margin(first, second, prows.len() as u32);
-            if soft::margin::below(lead, margin) {
+            let lead = margin::margin::soft_margin(first, second, prows.len() as u32);
+            if margin::margin::below(lead, margin) {
                 return refuse(14);
             }
             let best = SoftBest {

@@ -1,10 +1,10 @@
 // An answer as fifteen words: 0 or the refusal's number, transform, row, column, hits, edges, weighted score, rate, mean, best score, the runner-up's score (before
 // the gate: its hits), margin, and the runner-up's transform, row and column. A place that an answer leaves empty holds 0xffffffff.
 use crate::words::bits_of;
+use answer::Answer;
+use answer::Decoded;
+use answer::StatsAnswer;
 use hard::select::Selection;
-use puzzleboard::answer::Answer;
-use puzzleboard::answer::Decoded;
-use puzzleboard::answer::StatsAnswer;
 use scan::scan::Candidate;
 use scan::scan::RunnerUp;
 

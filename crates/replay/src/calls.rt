@@ -149,7 +149,7 @@ pub(crate) fn stats_call(
     n: Lengths,
     s: Settings,
 ) -> [u32; 15] {
-    let answer = puzzleboard::stats::match_stats(
+    let answer = stats::stats::match_stats(
         front_i32(rows, p.rows),
         front_i32(cols, p.cols),
         front_u8(orientations, p.orientations),

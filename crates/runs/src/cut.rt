@@ -3,7 +3,7 @@ ghost use mathlib.Core.Path.{_≡_};
 ghost use Prim.Native.Nat.{_<_};
 ghost use lib.ListN.{length};
 ghost use Rattle.runs.specs.Given.{Made};
-use puzzleboard::answer::StatsAnswer;
+use answer::StatsAnswer;
 
 // A number that looks random, below 2^31, after x.
 fn next_random(x: u64) -> u64 {
@@ -52,7 +52,7 @@ fn true_bit(
     let orientations = [orientation; 1];
     let bits = [0u8; 1];
     let confidences = [1.0f32; 1];
-    match puzzleboard::stats::match_stats(
+    match stats::stats::match_stats(
         &rows,
         &cols,
         &orientations,

@@ -5,7 +5,7 @@ mod part; // the front of a list
 mod cut; // boards of our own, and windows cut from them
 mod room; // what a call left in the lent room
 mod likelihoods; // a likelihood as a whole number, and a sum back to a float
-mod refusals; // refusals 1 to 9, alone and by pairs
+mod refused; // refusals 1 to 9, alone and by pairs
 mod class_tables; // the class tables of one list for two transforms
 mod windows; // hard decode of windows and of lists that it must refuse
 mod soft_windows; // soft decode of noisy windows
@@ -14,7 +14,7 @@ fn main() {
     print::print(b"== likelihoods ==\n");
     likelihoods::show_all();
     print::print(b"== refusals ==\n");
-    refusals::show_all();
+    refused::show_all();
     print::print(b"== class tables ==\n");
     class_tables::show_all();
     print::print(b"== windows ==\n");

@@ -1,8 +1,8 @@
 // Text, numbers and answers written to standard output.
+use answer::Answer;
+use answer::Square;
+use answer::StatsAnswer;
 use libc::STDOUT_FILENO;
-use puzzleboard::answer::Answer;
-use puzzleboard::answer::Square;
-use puzzleboard::answer::StatsAnswer;
 ghost use Prim.Native.Nat.{_≤_, _^_};
 ghost use lib.IntN.{natAbs};
 

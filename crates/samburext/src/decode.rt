@@ -1,6 +1,6 @@
 // The decoder called on what the files gave. One list serves for both where the view has only one; where the physical list has log likelihoods, decode is soft.
 use crate::view_file::View;
-use puzzleboard::answer::Answer;
+use answer::Answer;
 
 // Which part of the columns a list takes up.
 struct Part {

@@ -7,15 +7,15 @@ mod view_file; // a view's lists and settings
 mod board_file; // a board's tables
 mod page; // text put together before it is written
 mod words; // numbers in words
-mod answer; // the answer for people and for programs
+mod telling; // the answer for people and for programs
 mod decode; // the decoder called on what the files gave
 mod args; // what the command was asked for
 mod files; // the board and the view, read from their files
 mod map; // the picture
 mod help; // what the command says of itself
 
+use answer::Answer;
 use args::Options;
-use puzzleboard::answer::Answer;
 use view_file::View;
 
 // What is written where a file cannot be had: nothing but, for programs, a line that says so. The message has gone to standard error.
@@ -54,13 +54,13 @@ fn tell(o: Options, a: Answer, view: View, found: bool) {
     let soft = decode::is_soft(view);
     let mut room = page::blank();
     if o.plain {
-        let n = answer::put_plain(&mut room, 0, a, view, soft);
+        let n = telling::put_plain(&mut room, 0, a, view, soft);
         let n = put_map(&mut room, n, o, found);
         let n = page::put(&mut room, n, b"\n");
         page::say(&room, n);
         return;
     }
-    let n = answer::put_answer(&mut room, 0, a, view, soft);
+    let n = telling::put_answer(&mut room, 0, a, view, soft);
     let n = put_map(&mut room, n, o, found);
     page::say(&room, n);
 }

@@ -1,7 +1,4 @@
 // The picture: the whole board (SVG) with the square that the camera faces, the view's outline and the runner-up. Its unit is a square of the board; two pixels show one.
-use crate::answer::put_fit;
-use crate::answer::put_square;
-use crate::answer::put_turn;
 use crate::args::put_argument;
 use crate::page::blank;
 use crate::page::front;
@@ -10,11 +7,14 @@ use crate::page::put;
 use crate::page::put_count;
 use crate::page::put_float;
 use crate::page::write;
+use crate::telling::put_fit;
+use crate::telling::put_square;
+use crate::telling::put_turn;
 use crate::text::is_name;
 use crate::view_file::View;
 use crate::words::put_matrix;
-use puzzleboard::answer::Decoded;
-use puzzleboard::answer::Square;
+use answer::Decoded;
+use answer::Square;
 
 // One side of the outline: where it begins on the board, from 0 to 500, and how many squares it has.
 struct Span {

@@ -13,19 +13,19 @@ use Rattle.laws.specs.Best.{Weak}
 use Rattle.laws.specs.Grid.{Grid, origins}
 use Rattle.likelihood.specs.Likelihood.{dequantised}
 use Rattle.best.specs.CellTables.{Period}
-use Rattle.soft.specs.Sums.{SumTables, SumsOk, sumAt}
-use Rattle.soft.specs.Pair.{winnerOf, runnerOf}
-use Rattle.soft.specs.Scan.{softCandidate, softOffered, softEmpty, softFolded, softSelected, choiceOf, softChosen}
+use Rattle.pair.specs.Sums.{SumTables, SumsOk, sumAt}
+use Rattle.pair.specs.Pair.{winnerOf, runnerOf}
+use Rattle.margin.specs.Scan.{softCandidate, softOffered, softEmpty, softFolded, softSelected, choiceOf, softChosen}
 use Rattle.soft.specs.ScanLaws.{folded-with, soft-selected-count}
 use Rattle.soft.specs.SeparationLaws.{OnGrid, on-grid, sum-under}
 use Rattle.soft.specs.RunnerLaws.{winner-own, runner-up}
 use Rattle.soft.specs.BestPlacing.{OwnBest, Across, Down, RunnerUp, placed, BestTwo}
 use Rattle.soft.specs.SlotLaws.{above, SlotsIn, slots-two, slots-more}
 use Rattle.soft.specs.PlaceLaws.{offers-weak, places}
-use Rattle.soft.specs.declared.scan.SoftCandidate.{SoftCandidate}
-use Rattle.soft.specs.declared.scan.SoftScan.{SoftScan}
-use Rattle.soft.specs.declared.scan.SoftChoice.{SoftChoice}
-use Rattle.soft.specs.declared.scan.SoftChoice.the-variants.{Chosen}
+use Rattle.margin.specs.declared.scan.SoftCandidate.{SoftCandidate}
+use Rattle.margin.specs.declared.scan.SoftScan.{SoftScan}
+use Rattle.margin.specs.declared.scan.SoftChoice.{SoftChoice}
+use Rattle.margin.specs.declared.scan.SoftChoice.the-variants.{Chosen}
 
 -- ---- the offers: winner and runner-up of each list position in turn
 unfoldable pairOf : (ℕ → ℕ) → (ℕ → ℕ) → ℕ → ℕ

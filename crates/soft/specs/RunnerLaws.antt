@@ -15,11 +15,11 @@ use Rattle.laws.specs.Tests.{clash, compared, apart, decided}
 use Rattle.laws.specs.Counting.{count-one, other-passes}
 use Rattle.laws.specs.Whole.{lt-raised}
 use Rattle.laws.specs.Grid.{Grid, Laws}
-use Rattle.soft.specs.Level.{sAt, levelBest, levelOf, secondCell}
-use Rattle.soft.specs.LevelLaws.{cell-in, best-level, some-level, second-inside, second-other, second-early}
-use Rattle.soft.specs.Sums.{sumAt}
-use Rattle.soft.specs.Pair.{isTop, otherPair, nextPair, winnerOf, runnerOf}
-use Rattle.soft.specs.OtherLaws.{Out, missing, found, pair-law}
+use Rattle.pair.specs.Level.{sAt, levelBest, levelOf, secondCell}
+use Rattle.pair.specs.LevelLaws.{cell-in, best-level, some-level, second-inside, second-other, second-early}
+use Rattle.pair.specs.Sums.{sumAt}
+use Rattle.pair.specs.Pair.{isTop, otherPair, nextPair, winnerOf, runnerOf}
+use Rattle.pair.specs.OtherLaws.{Out, missing, found, pair-law}
 use Rattle.soft.specs.SeparationLaws.{OnGrid, rank, whole, top-rank, is-top, next-rank, small-h, small-v, sum-order, whole-key, whole-pair, whole-most, whole-cells, winner-under, winner-pair, whole-winner, winner-largest, winner-first}
 use Rattle.soft.specs.BestPlacing.{OwnBest, NotAfter, RunnerUp}
 

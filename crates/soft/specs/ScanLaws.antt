@@ -7,13 +7,13 @@ use lib.IntN.{ℤ}
 use lib.Ieee.{Float}
 use Rattle.laws.specs.Grid.{origins}
 use Rattle.likelihood.specs.Likelihood.{dequantised}
-use Rattle.soft.specs.Sums.{SumTables, sumAt}
-use Rattle.soft.specs.Pair.{winnerOf, runnerOf, twoOf}
-use Rattle.soft.specs.Scan.{yields, softCandidate, softOffered, softEmpty, softFolded, softSelected}
-use Rattle.soft.specs.declared.pair.TwoBest.{TwoBest}
-use Rattle.soft.specs.declared.scan.SoftCandidate.{SoftCandidate}
-use Rattle.soft.specs.declared.scan.SoftScan.{SoftScan}
-use Rattle.soft.specs.declared.scan.Slot.the-variants.{Held}
+use Rattle.pair.specs.Sums.{SumTables, sumAt}
+use Rattle.pair.specs.Pair.{winnerOf, runnerOf, twoOf}
+use Rattle.margin.specs.Scan.{yields, softCandidate, softOffered, softEmpty, softFolded, softSelected}
+use Rattle.pair.specs.declared.pair.TwoBest.{TwoBest}
+use Rattle.margin.specs.declared.scan.SoftCandidate.{SoftCandidate}
+use Rattle.margin.specs.declared.scan.SoftScan.{SoftScan}
+use Rattle.margin.specs.declared.scan.Slot.the-variants.{Held}
 
 -- ---- one candidate more
 module _ (s : SoftScan) (c : SoftCandidate) where

@@ -11,10 +11,10 @@ use Rattle.board.specs.Domain.{ListOk, BoardOk}
 use Rattle.tables.specs.Room.{used}
 use Rattle.sums.specs.Sums.{Likelihoods, LikelihoodsOk, sumsOf}
 use Rattle.sums.specs.SumsRoom.{SumsBuilt}
-use Rattle.soft.specs.Sums.{SumTables, sums}
-use Rattle.soft.specs.Scan.{softSelected, softChosen}
-use Rattle.soft.specs.declared.scan.SoftScan.{SoftScan}
-use Rattle.soft.specs.declared.scan.SoftChoice.{SoftChoice}
+use Rattle.pair.specs.Sums.{SumTables, sums}
+use Rattle.margin.specs.Scan.{softSelected, softChosen}
+use Rattle.margin.specs.declared.scan.SoftScan.{SoftScan}
+use Rattle.margin.specs.declared.scan.SoftChoice.{SoftChoice}
 
 -- the two tables of the transform t
 unfoldable pub sumTables : Board → EdgeList → Likelihoods → ℕ → SumTables

@@ -18,13 +18,13 @@ use Rattle.sums.specs.SumsRoom.{SumsReady, SumsBuilt}
 use Rattle.sums.specs.SumsTheorems.{length-sums, sums-small, read-sums, sums-again, key-sum, sum-rooms-equal}
 use Rattle.best.specs.CellTables.{Period}
 use Rattle.hard.specs.SelectLaws.{period-h, period-v}
-use Rattle.soft.specs.Sums.{SumTables, sums, SumsOk}
-use Rattle.soft.specs.Scan.{softEmpty, softFolded, softSelected, softChosen}
+use Rattle.pair.specs.Sums.{SumTables, sums, SumsOk}
+use Rattle.margin.specs.Scan.{softEmpty, softFolded, softSelected, softChosen}
 use Rattle.soft.specs.ScanLaws.{soft-selected-none, soft-selected-more, soft-selected-count}
 use Rattle.soft.specs.BestPlacing.{BestTwo}
 use Rattle.soft.specs.BestPlacingLaws.{soft-best}
-use Rattle.soft.specs.declared.scan.SoftScan.{SoftScan}
-use Rattle.soft.specs.declared.scan.SoftChoice.{SoftChoice}
+use Rattle.margin.specs.declared.scan.SoftScan.{SoftScan}
+use Rattle.margin.specs.declared.scan.SoftChoice.{SoftChoice}
 use Rattle.soft.specs.Select.{sumTables, softScanOf, softSelection, SoftReady, SumRoom, SoftScanned}
 
 -- the two tables in a room: horizontal cells, then vertical cells

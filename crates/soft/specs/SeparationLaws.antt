@@ -15,12 +15,12 @@ use Rattle.laws.specs.Whole.{raised, raised-order, raised-add, raised-same, eqZ
 use Rattle.laws.specs.Grid.{Grid, Laws, origins}
 use Rattle.best.specs.CellTables.{Period}
 use Rattle.grid.specs.RowMajorLaws.{major-le, major-is}
-use Rattle.soft.specs.Level.{sAt, levelBest, secondCell}
-use Rattle.soft.specs.LevelLaws.{cell-in, largest, second-largest, best-level}
-use Rattle.soft.specs.Sums.{SumsOk, sumAt}
-use Rattle.soft.specs.SumsLaws.{sum-small, all-bounded, h-two, v-two}
-use Rattle.soft.specs.Pair.{isTop, winnerOf}
-use Rattle.soft.specs.PairLaws.{board-grid}
+use Rattle.pair.specs.Level.{sAt, levelBest, secondCell}
+use Rattle.pair.specs.LevelLaws.{cell-in, largest, second-largest, best-level}
+use Rattle.pair.specs.Sums.{SumsOk, sumAt}
+use Rattle.pair.specs.SumsLaws.{sum-small, all-bounded, h-two, v-two}
+use Rattle.pair.specs.Pair.{isTop, winnerOf}
+use Rattle.pair.specs.PairLaws.{board-grid}
 
 -- ---- one table, its sums raised into the naturals
 abbrev pub rank : List ℤ → ℕ → ℕ

@@ -2,12 +2,12 @@
 ghost use mathlib.Core.Path.{_≡_};
 ghost use Prim.Native.Nat.{_≤_, _<_};
 ghost use Rattle.best.specs.CellTables.{Period};
-ghost use Rattle.soft.specs.Sums.{SumsOk, sums};
-ghost use Rattle.soft.specs.Scan.{yields, softCandidate, softEmpty, softOffered, softFolded};
-use crate::pair::two_best;
-use crate::scan::Slot;
-use crate::scan::SoftCandidate;
-use crate::scan::SoftScan;
+ghost use Rattle.pair.specs.Sums.{SumsOk, sums};
+ghost use Rattle.margin.specs.Scan.{yields, softCandidate, softEmpty, softOffered, softFolded};
+use margin::scan::Slot;
+use margin::scan::SoftCandidate;
+use margin::scan::SoftScan;
+use pair::pair::two_best;
 
 // A scan of no transforms.
 pub fn empty() -> SoftScan

@@ -4,10 +4,10 @@ ghost use Prim.Native.Nat.{_<_};
 ghost use lib.ListN.{length};
 ghost use Rattle.board.specs.Hits.{edges, tables};
 ghost use Rattle.sums.specs.Sums.{likelihoods};
-ghost use Rattle.soft.specs.Scan.{softFolded};
+ghost use Rattle.margin.specs.Scan.{softFolded};
 ghost use Rattle.soft.specs.Select.{SoftReady, SoftScanned};
 ghost use Rattle.soft.specs.SelectLaws.{roomSums, RoomReady};
-use crate::scan::SoftScan;
+use margin::scan::SoftScan;
 
 // One transform's sums, where they were built in the room, folded into the scan.
 fn fold_room(scan: SoftScan, sums: &[i64], long: usize, wide: usize) -> SoftScan

@@ -3,7 +3,7 @@ use native.Mathlib.Omega.{arith}
 use denote.Ref.{now}
 use lib.ListN.{length}
 use Rattle.board.specs.Hits.{edges, tables}
-use Rattle.admission.specs.declared.refusal.Refusal.{Refusal}
+use Rattle.refusals.specs.declared.Refusal.{Refusal}
 use Rattle.admission.specs.Accepted.{HardAccepted, hard-accepted}
 use Rattle.puzzleboard.specs.HardLaws.{hard-refused, hard-done}
 use borrow.Author.Needs.{needs}

@@ -4,7 +4,7 @@ use denote.Ref.{now}
 use lib.ListN.{length}
 use Rattle.board.specs.Hits.{edges, tables}
 use Rattle.sums.specs.Sums.{Likelihoods, likelihoods}
-use Rattle.admission.specs.declared.refusal.Refusal.{Refusal}
+use Rattle.refusals.specs.declared.Refusal.{Refusal}
 use Rattle.admission.specs.Accepted.{SoftAccepted, soft-accepted}
 use Rattle.puzzleboard.specs.SoftLaws.{soft-refused, soft-done}
 use borrow.Author.Needs.{needs}

@@ -5,9 +5,9 @@ use borrow.Author.Needs.{needs}
 use native.Mathlib.Nat.{div-le-self, mod-le}
 use Rattle.laws.specs.Grid.{origins}
 use Rattle.hard.specs.TransformLaws.{grid}
-use Rattle.soft.specs.Level.{sAt}
-use Rattle.soft.specs.Sums.{sums}
-use Rattle.soft.specs.SumsLaws.{sum-fits, sum-small, sum-read}
+use Rattle.pair.specs.Level.{sAt}
+use Rattle.pair.specs.Sums.{sums}
+use Rattle.pair.specs.SumsLaws.{sum-fits, sum-small, sum-read}
 use Rattle.soft.specs.ScanLaws.{candidate-made}
 use Rattle.soft.proofs.record.candidate_of.Statement.{statement}
 use Rattle.soft.proofs.record.candidate_of.Tie as tie

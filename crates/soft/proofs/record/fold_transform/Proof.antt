@@ -1,6 +1,6 @@
 use borrow.Author.Needs.{needs}
-use Rattle.soft.specs.Sums.{sums}
-use Rattle.soft.specs.PairLaws.{two-small}
+use Rattle.pair.specs.Sums.{sums}
+use Rattle.pair.specs.PairLaws.{two-small}
 use Rattle.soft.specs.ScanLaws.{folded}
 use Rattle.soft.proofs.record.fold_transform.Statement.{statement}
 use Rattle.soft.proofs.record.fold_transform.Tie as tie

@@ -1,4 +1,0 @@
-pub mod Flat
-pub mod FlatLaws
-pub mod Exports
-pub mod FoundLaws

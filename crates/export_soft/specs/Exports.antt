@@ -1,0 +1,18 @@
+-- What the exported soft decode promises for all inputs: the public library's answer as a struct, and the lent room as the public library leaves it.
+use mathlib.Core.Path.{_≡_}
+use mathlib.Core.List.{List}
+use Prim.Native.Nat.{ℕ}
+use lib.IntN.{ℤ}
+use lib.Ieee.{Float}
+use Rattle.board.specs.Hits.{EdgeList, Board}
+use Rattle.sums.specs.Sums.{Likelihoods}
+use Rattle.answer.specs.declared.Answer.{Answer}
+use Rattle.puzzleboard.specs.Soft.{SoftDone}
+use Rattle.flat.specs.declared.flat.FlatAnswer.{FlatAnswer}
+use Rattle.flat.specs.Flat.{flat}
+
+-- r is the struct of what `decode_soft` promises to tell, and all three room slices are what it promises to leave
+pub record SoftFlat (P : EdgeList) (X : Likelihoods) (L : EdgeList) (ts : List ℕ) (B : Board) (limit least : Float) (c c' : List ℕ) (w w' : List Float) (a a' : List ℤ) (r : FlatAnswer) : Type 0 where
+  pub told : Answer
+  pub done : SoftDone P X L ts B limit least c c' w w' a a' told
+  pub shown : r ≡ flat told

@@ -1,0 +1,53 @@
+// The answer of match statistics as a struct of plain numbers. A refusal fills every other field with what counted statistics never have.
+ghost use mathlib.Core.Path.{_≡_};
+ghost use Rattle.flat.specs.Flat.{flatStats, flatCounted, flatUncounted};
+use crate::flat::NOTHING;
+use answer::MatchStats;
+use answer::StatsAnswer;
+
+// The answer of match statistics: refusal is 0 when counted.
+#[repr(C)]
+pub struct FlatStats {
+    pub refusal: u32,
+    pub edges: u32,
+    pub hits: u32,
+    pub error_rate: f32,
+    pub mean_confidence: f32,
+}
+
+// Statistics that were counted, field by field.
+fn counted(s: MatchStats) -> FlatStats
+    ensures { λ r. ⌜ r ≡ flatCounted s ⌝ }
+{
+    FlatStats {
+        refusal: 0,
+        edges: s.edges,
+        hits: s.hits,
+        error_rate: s.rate,
+        mean_confidence: s.mean,
+    }
+}
+
+// Statistics that were refused: the number alone.
+fn uncounted(number: u32) -> FlatStats
+    ensures { λ r. ⌜ r ≡ flatUncounted number ⌝ }
+{
+    let none = crate::flat::no_number();
+    FlatStats {
+        refusal: number,
+        edges: NOTHING,
+        hits: NOTHING,
+        error_rate: none,
+        mean_confidence: none,
+    }
+}
+
+// The answer of match statistics as a struct.
+pub fn flattened_stats(answer: StatsAnswer) -> FlatStats
+    ensures { λ r. ⌜ r ≡ flatStats answer ⌝ }
+{
+    match answer {
+        StatsAnswer::Counted(s) => counted(s),
+        StatsAnswer::Refused(refusal) => uncounted(refusal.number),
+    }
+}

@@ -1,0 +1,7 @@
+pub mod Level
+pub mod LevelLaws
+pub mod OtherLaws
+pub mod Pair
+pub mod PairLaws
+pub mod Sums
+pub mod SumsLaws

@@ -1,0 +1,168 @@
+// Two tables of likelihood sums: the winner of a transform and its runner-up, each as the key of its origin.
+ghost use mathlib.Core.Path.{_≡_};
+ghost use mathlib.Core.Bool.{not, _&&_};
+ghost use Prim.Native.Nat.{_*_, _<_};
+ghost use lib.Dec.{eqb};
+ghost use lib.ListN.{length};
+ghost use Rattle.laws.specs.Grid.{origins};
+ghost use Rattle.best.specs.CellTables.{Period};
+ghost use Rattle.grid.specs.RowMajor.{lowest, rowMajor};
+ghost use Rattle.pair.specs.Level.{level};
+ghost use Rattle.pair.specs.Sums.{SumsOk};
+ghost use Rattle.pair.specs.Pair.{LevelsOk, filled, otherIn, otherPair, nextPair, twoOf};
+use crate::level::LevelMax;
+use crate::level::is_level;
+use crate::level::level_max;
+
+// The keys of a transform's winner and of its runner-up.
+pub struct TwoBest {
+    pub winner: usize,
+    pub runner: usize,
+}
+
+// The least of start and the keys of the horizontal cell h with each vertical cell of that sum. No origin of h stands above row h / 3, so where start stands
+// there or higher up, no vertical cell is looked at.
+fn lowest_key(sums: &[i64], top: i64, h: usize, start: usize, long: usize, wide: usize) -> usize
+    requires { ⌜ Period long × Period wide × (length (now sums) ≡ 3 * wide) × (h < 3 * long) ⌝ }
+    ensures { λ r. ⌜ r ≡ lowest (level (now (sums .entry)) top) (origins long wide .key h) start (length (now (sums .entry))) ⌝ }
+{
+    if start <= h / 3 * (3 * wide) {
+        return start;
+    }
+    let mut best: usize = start;
+    let mut v: usize = 0;
+    while v < sums.len() {
+        if is_level(sums[v], top) {
+            let k = grid::origin::key_of(h, v, long, wide);
+            if k < best {
+                best = k;
+            }
+        }
+        v += 1;
+    }
+    best
+}
+
+// The row-major first origin over the pairs of a horizontal cell of sum ht and a vertical cell of sum vt.
+fn row_major_first(hs: &[i64], ht: i64, vs: &[i64], vt: i64, long: usize, wide: usize) -> usize
+    requires { ⌜ Period long × Period wide × (length (now hs) ≡ 3 * long) × (length (now vs) ≡ 3 * wide) ⌝ }
+    ensures { λ r. ⌜ r ≡ rowMajor (origins long wide) (length (now (vs .entry))) (level (now (hs .entry)) ht) (level (now (vs .entry)) vt) (length (now (hs .entry))) ⌝ }
+{
+    let mut best: usize = 3 * long * (3 * wide);
+    let mut h: usize = 0;
+    while h < hs.len() {
+        if is_level(hs[h], ht) {
+            best = lowest_key(vs, vt, h, best, long, wide);
+        }
+        h += 1;
+    }
+    best
+}
+
+// One pair more in the search for another pair than the winner: it is taken where none was found before it, its cells are level and it is not the winner.
+// Its key is worked out only where it may be taken.
+fn fill(
+    found: usize,
+    none: usize,
+    level: bool,
+    h: usize,
+    v: usize,
+    winner: usize,
+    long: usize,
+    wide: usize,
+) -> usize
+    requires { ⌜ Period long × Period wide × (h < 3 * long) × (v < 3 * wide) ⌝ }
+    ensures { λ r. ⌜ r ≡ filled none found (level && not (eqb (origins long wide .key h v) winner)) (origins long wide .key h v) ⌝ }
+{
+    if found == none {
+        if level {
+            let key = grid::origin::key_of(h, v, long, wide);
+            if key != winner {
+                return key;
+            }
+        }
+    }
+    found
+}
+
+// The same search over all vertical cells of sum top with the horizontal cell h. Where a pair was found before, no vertical cell is looked at.
+fn other_in(
+    sums: &[i64],
+    top: i64,
+    h: usize,
+    winner: usize,
+    start: usize,
+    long: usize,
+    wide: usize,
+) -> usize
+    requires { ⌜ Period long × Period wide × (length (now sums) ≡ 3 * wide) × (h < 3 * long) ⌝ }
+    ensures { λ r. ⌜ r ≡ otherIn (origins long wide) (level (now (sums .entry)) top) h winner start (length (now (sums .entry))) ⌝ }
+{
+    let none = 3 * long * (3 * wide);
+    if start != none {
+        return start;
+    }
+    let mut found: usize = start;
+    let mut v: usize = 0;
+    while v < sums.len() {
+        let level = is_level(sums[v], top);
+        found = fill(found, none, level, h, v, winner, long, wide);
+        v += 1;
+    }
+    found
+}
+
+// The first pair of a horizontal cell of sum ht and a vertical cell of sum vt, by horizontal then vertical position, that is not the winner.
+fn other_pair(
+    hs: &[i64],
+    ht: i64,
+    vs: &[i64],
+    vt: i64,
+    winner: usize,
+    long: usize,
+    wide: usize,
+) -> usize
+    requires { ⌜ Period long × Period wide × (length (now hs) ≡ 3 * long) × (length (now vs) ≡ 3 * wide) ⌝ }
+    ensures { λ r. ⌜ r ≡ otherPair (origins long wide) (length (now (vs .entry))) (level (now (hs .entry)) ht) (level (now (vs .entry)) vt) winner (length (now (hs .entry))) ⌝ }
+{
+    let mut found: usize = 3 * long * (3 * wide);
+    let mut h: usize = 0;
+    while h < hs.len() {
+        if is_level(hs[h], ht) {
+            found = other_in(vs, vt, h, winner, found, long, wide);
+        }
+        h += 1;
+    }
+    found
+}
+
+// The better of the two pairs with one second-best cell, horizontal on a tie.
+fn next_pair(a: LevelMax, b: LevelMax, long: usize, wide: usize) -> usize
+    requires { ⌜ Period long × Period wide × LevelsOk long wide a b ⌝ }
+    ensures { λ r. ⌜ r ≡ nextPair (origins long wide) a b ⌝ }
+{
+    let across = a.under + b.top;
+    let down = a.top + b.under;
+    if across < down {
+        return grid::origin::key_of(a.cell, b.second, long, wide);
+    }
+    grid::origin::key_of(a.second, b.cell, long, wide)
+}
+
+// The winner of a transform and its runner-up. Where one pair is alone at the top, it is the pair of the best cells, and no table is walked again.
+pub fn two_best(hs: &[i64], vs: &[i64], long: usize, wide: usize) -> TwoBest
+    requires { ⌜ Period long × Period wide × SumsOk long wide (now hs) (now vs) ⌝ }
+    ensures { λ r. ⌜ r ≡ twoOf (origins long wide) (now (hs .entry)) (now (vs .entry)) ⌝ }
+{
+    let a = level_max(hs);
+    let b = level_max(vs);
+    let pairs = a.level * b.level;
+    if pairs > 1 {
+        let winner = row_major_first(hs, a.top, vs, b.top, long, wide);
+        let runner = other_pair(hs, a.top, vs, b.top, winner, long, wide);
+        return TwoBest { winner, runner };
+    }
+    let winner = grid::origin::key_of(a.cell, b.cell, long, wide);
+    let runner = next_pair(a, b, long, wide);
+    TwoBest { winner, runner }
+}

@@ -1,0 +1,69 @@
+-- One edge more of match statistics, and the two ways in which they end.
+use mathlib.Core.Path.{_≡_, refl, sym, ap, ap₂, _∙_}
+use mathlib.Core.Bool.{Bool, true, false}
+use Prim.Native.Nat.{ℕ, _+_, _≤_, _<_}
+use native.Mathlib.Omega.{arith}
+use lib.Dec.{eqb}
+use lib.ListN.{getD, length}
+use lib.IntN.{ℤ, pos}
+use lib.Ieee.{Float, nan, binary32, add}
+use borrow.Author.Tests.{eq-eqb, ne-eqb}
+use Rattle.laws.specs.Fold.{fold, put, one, count, fold-more, fold-zero}
+use Rattle.laws.specs.Counting.{count-le}
+use Rattle.laws.specs.Weights.{zeroF}
+use Rattle.board.specs.Transform.{lookupOf}
+use Rattle.board.specs.Hits.{EdgeList, Board, size, seen, look, predicted, hit, hits}
+use Rattle.board.specs.Domain.{EdgeOk}
+use Rattle.figures.specs.Figures.{meanOf}
+use Rattle.refusals.specs.declared.Refusal.{Refusal}
+use Rattle.answer.specs.declared.MatchStats.{MatchStats}
+use Rattle.answer.specs.declared.StatsAnswer.the-variants.{Counted, Refused}
+use Rattle.stats.specs.declared.stats.HitsWeight.{HitsWeight}
+use Rattle.admission.specs.Refusals.{statsRefusal}
+use Rattle.admission.specs.Accepted.{StatsAccepted}
+use Rattle.stats.specs.Stats.{statsRate, hitWeight, statsOf, statsAnswer, orCounted, added, hitsAndWeight}
+
+module _ (E : EdgeList) (t row col : ℕ) (B : Board) where
+  -- after n edges
+  unfoldable pub soFar : ℕ → HitsWeight
+  soFar n = record { hits = count n (hit B E t row col); weight = hitWeight B E t row col n }
+
+  pub so-far-none : record { hits = 0; weight = zeroF } ≡ soFar 0
+  unfolding soFar hitWeight
+  so-far-none = sym (ap₂ pair (fold-zero _+_ 0 (hit B E t row col) one) (fold-zero (add binary32) zeroF (hit B E t row col) (λ i. getD (E .confidences) i nan)))
+    where
+      pair : ℕ → Float → HitsWeight
+      pair h w = record { hits = h; weight = w }
+
+  pub so-far-more : (n : ℕ) (s r : HitsWeight) (b : Bool) → s ≡ soFar n → b ≡ hit B E t row col n → r ≡ added s b (getD (E .confidences) n nan) → r ≡ soFar (n + 1)
+  unfolding soFar hitWeight
+  so-far-more n s r b e h k =
+      k ∙ ap₂ (λ (x : HitsWeight) (y : Bool). added x y (getD (E .confidences) n nan)) e h
+      ∙ sym (ap₂ pair (fold-more _+_ 0 (hit B E t row col) one n) (fold-more (add binary32) zeroF (hit B E t row col) (λ i. getD (E .confidences) i nan) n))
+    where
+      pair : ℕ → Float → HitsWeight
+      pair h w = record { hits = h; weight = w }
+
+  pub so-far-few : (n : ℕ) → soFar n .hits ≤ n
+  unfolding soFar
+  so-far-few n = count-le (hit B E t row col) n
+
+  pub so-far-all : soFar (size E) ≡ hitsAndWeight E t row col B
+  unfolding soFar hitsAndWeight hits
+  so-far-all = refl
+
+  -- an edge of an accepted list
+  pub edge-ok : StatsAccepted E t row col B → (i : ℕ) → i < size E → EdgeOk (getD (E .rows) i (pos 0)) (getD (E .cols) i (pos 0)) (seen E i) t
+  edge-ok a i h = record { near-row = a .list .near-row i h; near-col = a .list .near-col i h; bit = a .list .bit i h; transform = a .transform }
+
+  -- ---- the two ends
+  pub stats-refused : (r : Refusal) → r ≡ statsRefusal E t row col B → (r .number ≡ 0 → ⊥) → Refused r ≡ statsAnswer E t row col B
+  unfolding statsAnswer
+  stats-refused r e n = let f : eqb (statsRefusal E t row col B .number) 0 ≡ false = ap (λ (x : Refusal). eqb (x .number) 0) (sym e) ∙ ne-eqb (r .number) 0 n in rw f (ap Refused e)
+
+  pub stats-counted : (r : Refusal) (c : HitsWeight) (s : MatchStats) → r ≡ statsRefusal E t row col B → r .number ≡ 0 → c ≡ hitsAndWeight E t row col B
+      → s ≡ record { edges = size E; hits = c .hits; rate = statsRate (size E) (c .hits); mean = meanOf (c .hits) (c .weight) } → Counted s ≡ statsAnswer E t row col B
+  unfolding statsAnswer statsOf hitsAndWeight
+  stats-counted r c s e z k d =
+      let f : eqb (statsRefusal E t row col B .number) 0 ≡ true = ap (λ (x : Refusal). eqb (x .number) 0) (sym e) ∙ eq-eqb (r .number) 0 z in
+      rw f (ap Counted (d ∙ ap (λ (x : HitsWeight). record { edges = size E; hits = x .hits; rate = statsRate (size E) (x .hits); mean = meanOf (x .hits) (x .weight) }) k))

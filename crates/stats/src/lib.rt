@@ -1,0 +1,2 @@
+// Match statistics: how a list fits one known placing.
+pub mod stats; // match statistics of one known placing

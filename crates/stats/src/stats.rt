@@ -1,0 +1,136 @@
+// Match statistics: how a list fits one known placing.
+ghost use mathlib.Core.Path.{_≡_};
+ghost use Prim.Native.Nat.{_≤_, _<_};
+ghost use Rattle.board.specs.Hits.{edges, tables};
+ghost use Rattle.admission.specs.Accepted.{StatsAccepted};
+ghost use Rattle.stats.specs.Stats.{added, hitsAndWeight, statsRate, statsOf, statsAnswer};
+use answer::MatchStats;
+use answer::StatsAnswer;
+
+// Hits so far, and the sum of their confidences.
+pub struct HitsWeight {
+    pub hits: u32,
+    pub weight: f32,
+}
+
+// One edge more: a hit adds one and its confidence.
+fn add_edge(sum: HitsWeight, hit: bool, confidence: f32) -> HitsWeight
+    requires { ⌜ sum .hits < 8192 ⌝ }
+    ensures { λ r. ⌜ r ≡ added sum hit confidence ⌝ }
+{
+    if hit {
+        return HitsWeight {
+            hits: sum.hits + 1,
+            weight: sum.weight + confidence,
+        };
+    }
+    sum
+}
+
+// The hits of a list at one placing, and their confidences added in list order.
+fn count_hits(
+    rows: &[i32],
+    cols: &[i32],
+    orientations: &[u8],
+    bits: &[u8],
+    confidences: &[f32],
+    transform: u8,
+    row: u32,
+    col: u32,
+    h: &[u8],
+    v: &[u8],
+) -> HitsWeight
+    requires { ⌜ StatsAccepted
+        (edges (now rows) (now cols) (now orientations) (now bits) (now confidences))
+        transform row col (tables (now h) (now v)) ⌝ }
+    ensures { λ r. ⌜ r ≡ hitsAndWeight
+        (edges (now (rows .entry)) (now (cols .entry)) (now (orientations .entry)) (now (bits .entry)) (now (confidences .entry)))
+        transform row col (tables (now (h .entry)) (now (v .entry))) ⌝ }
+{
+    let matrix = board::transform::matrix_of(transform);
+    let mut sum = HitsWeight {
+        hits: 0,
+        weight: 0.0,
+    };
+    for i in 0..rows.len() {
+        let hit = board::pattern::is_hit(
+            h,
+            v,
+            rows[i],
+            cols[i],
+            orientations[i],
+            bits[i],
+            transform,
+            matrix,
+            row,
+            col,
+        );
+        sum = add_edge(sum, hit, confidences[i]);
+    }
+    sum
+}
+
+// Misses over edges, one f32 division; 1 for no edges.
+fn rate(edges: u32, hits: u32) -> f32
+    requires { ⌜ (hits ≤ edges) × (edges ≤ 8192) ⌝ }
+    ensures { λ r. ⌜ r ≡ statsRate edges hits ⌝ }
+{
+    if edges == 0 {
+        return 1.0;
+    }
+    figures::rate(edges, hits)
+}
+
+// Edges, hits, rate and mean of one list at one known transform and origin, for all inputs.
+pub fn match_stats(
+    rows: &[i32],
+    cols: &[i32],
+    orientations: &[u8],
+    bits: &[u8],
+    confidences: &[f32],
+    transform: u8,
+    row: u32,
+    col: u32,
+    h: &[u8],
+    v: &[u8],
+) -> StatsAnswer
+    ensures { λ r. ⌜ r ≡ statsAnswer
+        (edges (now (rows .entry)) (now (cols .entry)) (now (orientations .entry)) (now (bits .entry)) (now (confidences .entry)))
+        transform row col (tables (now (h .entry)) (now (v .entry))) ⌝ }
+{
+    let refusal = admission::refusal::stats_refusal(
+        rows,
+        cols,
+        orientations,
+        bits,
+        confidences,
+        transform,
+        row,
+        col,
+        h,
+        v,
+    );
+    if refusal.number != 0 {
+        return StatsAnswer::Refused(refusal);
+    }
+    let counted = count_hits(
+        rows,
+        cols,
+        orientations,
+        bits,
+        confidences,
+        transform,
+        row,
+        col,
+        h,
+        v,
+    );
+    let edges = rows.len() as u32;
+    let hits = counted.hits;
+    StatsAnswer::Counted(MatchStats {
+        edges,
+        hits,
+        rate: rate(edges, hits),
+        mean: figures::mean(hits, counted.weight),
+    })
+}

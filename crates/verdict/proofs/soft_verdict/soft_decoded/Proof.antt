@@ -1,0 +1,47 @@
+use mathlib.Core.Path.{_≡_}
+use Prim.Native.Nat.{ℕ, _≤_, _^_}
+use native.Mathlib.Omega.{arith}
+use lib.Dec.{le→leb}
+use lib.IntN.{pos}
+use lib.Ieee.{inFloat, ofInt, div, binary32}
+use Rattle.verdict.specs.Verdict.{softDecodedOf}
+use borrow.Author.Needs.{needs}
+use Rattle.verdict.proofs.soft_verdict.soft_decoded.Statement.{statement}
+use Rattle.verdict.proofs.soft_verdict.soft_decoded.Tie as tie
+
+cast-t8 : tie.Need-cast-t8
+cast-t8 c = search needs
+
+int-to-float-t9 : tie.Need-int-to-float-t9
+unfolding inFloat
+int-to-float-t9 c = le→leb (c .before .before .args .edges) (2 ^ 24) (omega (arith, c .before .before .pre .1))
+
+rate-requires : tie.Need-rate-requires
+rate-requires c κs = search needs
+
+mean-requires : tie.Need-mean-requires
+mean-requires c κs = search needs
+
+int-to-float-t13 : tie.Need-int-to-float-t13
+unfolding inFloat
+int-to-float-t13 c = le→leb (c .before .before .before .before .before .before .args .next .hits) (2 ^ 24) (omega (arith, c .before .before .before .before .before .before .pre .2))
+
+returns : tie.Need-returns
+unfolding softDecodedOf
+returns c =
+    let a = c .before .before .before .before .before .before .args in
+    λ i. record {
+      square = record { transform = a .t; row = a .best .first .row; col = a .best .first .col };
+      hits = a .figures .hits;
+      edges = a .edges;
+      weighted = div binary32 (a .best .first .total) (ofInt binary32 (pos (a .edges)));
+      rate = c .before .before .rate .ensures i;
+      mean = c .before .mean .ensures i;
+      best = a .best .first .total;
+      next = ofInt binary32 (pos (a .next .hits));
+      margin = a .best .margin;
+      runner = record { transform = a .next .transform; row = a .next .row; col = a .next .col };
+    }
+
+pub soft-decoded-spec : {M : Type 1} → statement M
+soft-decoded-spec = tie.close (tie.spec cast-t8 int-to-float-t9 rate-requires mean-requires int-to-float-t13 returns)

@@ -1,0 +1,50 @@
+use mathlib.Core.Path.{_≡_, sym, ap, subst}
+use Prim.Native.Nat.{ℕ, _-_, _≤_, _^_}
+use native.Mathlib.Omega.{arith}
+use lib.Dec.{le→leb}
+use lib.IntN.{pos}
+use lib.Ieee.{inFloat, ofInt, binary32}
+use Rattle.verdict.specs.Verdict.{decodedOf}
+use borrow.Author.Needs.{needs}
+use Rattle.verdict.proofs.verdict.decoded.Statement.{statement}
+use Rattle.verdict.proofs.verdict.decoded.Tie as tie
+
+cast-t7 : tie.Need-cast-t7
+cast-t7 c = search needs
+
+rate-requires : tie.Need-rate-requires
+rate-requires c κs = search needs
+
+mean-requires : tie.Need-mean-requires
+mean-requires c κs = search needs
+
+int-to-float-t10 : tie.Need-int-to-float-t10
+unfolding inFloat
+int-to-float-t10 c = le→leb (c .before .before .before .before .args .next .hits) (2 ^ 24) (omega arith)
+
+margin-requires : tie.Need-margin-requires
+margin-requires c κs = search needs
+
+int-to-float-t11 : tie.Need-int-to-float-t11
+unfolding inFloat
+int-to-float-t11 c = le→leb (c .before .margin .result) (2 ^ 24) (omega (arith, c .before .margin .ensures))
+
+returns : tie.Need-returns
+unfolding decodedOf
+returns c =
+    let a = c .before .before .before .before .before .before .args in
+    λ i. record {
+      square = record { transform = a .t; row = a .w .row; col = a .w .col };
+      hits = a .w .hits;
+      edges = a .edges;
+      weighted = a .w .score;
+      rate = c .before .before .before .before .rate .ensures i;
+      mean = c .before .before .before .mean .ensures i;
+      best = a .w .score;
+      next = ofInt binary32 (pos (a .next .hits));
+      margin = ofInt binary32 (pos (c .before .margin .ensures i));
+      runner = record { transform = a .next .transform; row = a .next .row; col = a .next .col };
+    }
+
+pub decoded-spec : {M : Type 1} → statement M
+decoded-spec = tie.close (tie.spec cast-t7 rate-requires mean-requires int-to-float-t10 margin-requires int-to-float-t11 returns)

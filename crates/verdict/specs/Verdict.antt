@@ -1,0 +1,77 @@
+-- The verdict on the winners (document 01, 'Hard selection', 'Soft selection'): whether they agree, the gate, and what a found answer holds.
+use mathlib.Core.Bool.{Bool, true, false, cond, _&&_}
+use Prim.Native.Nat.{ℕ, _-_}
+use lib.Dec.{eqb}
+use lib.IntN.{pos}
+use lib.Ieee.{binary32, div, ofInt}
+use Rattle.admission.specs.Refusals.{numbered}
+use Rattle.scan.specs.declared.scan.Candidate.{Candidate}
+use Rattle.scan.specs.declared.scan.RunnerUp.{RunnerUp}
+use Rattle.figures.specs.Figures.{rateOf, meanOf}
+use Rattle.figures.specs.Gate.{passed}
+use Rattle.margin.specs.declared.scan.SoftCandidate.{SoftCandidate}
+use Rattle.margin.specs.Margin.{softMargin}
+use Rattle.stats.specs.declared.stats.HitsWeight.{HitsWeight}
+use Rattle.verdict.specs.declared.soft_verdict.SoftBest.{SoftBest}
+use Rattle.answer.specs.declared.Decoded.{Decoded}
+use Rattle.answer.specs.declared.Answer.{Answer}
+use Rattle.answer.specs.declared.Answer.the-variants.{Found, Refused}
+
+-- a refusal by its number, and nothing else
+abbrev pub refusedBy : ℕ → Answer
+refusedBy n = Refused (numbered n)
+
+-- "origin and matrix must agree": the eight matrices differ, so transforms by number (`matrix-tells` in HardLaws)
+unfoldable pub agreed : ℕ → Candidate → ℕ → Candidate → Bool
+agreed t a s b = eqb t s && (eqb (a .row) (b .row) && eqb (a .col) (b .col))
+
+-- "The answer holds the logical list's transform, origin, hits, edges, weighted score, rate, mean confidence, best score (= weighted score), runner-up hits
+-- as score, margin, and the runner-up's transform and origin." "margin = best minus runner-up hits, not below 0"
+unfoldable pub decodedOf : ℕ → Candidate → RunnerUp → ℕ → Decoded
+decodedOf t w next edges = record {
+  square = record { transform = t; row = w .row; col = w .col };
+  hits = w .hits;
+  edges = edges;
+  weighted = w .score;
+  rate = rateOf edges (w .hits);
+  mean = meanOf (w .hits) (w .weight);
+  best = w .score;
+  next = ofInt binary32 (pos (next .hits));
+  margin = ofInt binary32 (pos (w .hits - next .hits));
+  runner = record { transform = next .transform; row = next .row; col = next .col };
+}
+
+abbrev pub pick : Bool → Answer → Answer → Answer
+pick true a b = a
+pick false a b = b
+
+-- 12 where the winners differ, 13 where the gate is not passed, else found
+unfoldable pub judged : ℕ → Candidate → RunnerUp → ℕ → Candidate → ℕ → Answer
+unfolding decodedOf agreed
+judged t w next s p edges = pick (agreed t w s p) (pick (passed edges (w .hits) (next .hits)) (Found (decodedOf t w next edges)) (refusedBy 13)) (refusedBy 12)
+
+-- ---- soft decode
+-- "Then hard selection on the logical list must give the same origin and matrix and pass the gate": 15, 13, or 0
+unfoldable pub softVerdict : ℕ → SoftCandidate → ℕ → Candidate → RunnerUp → ℕ → ℕ
+softVerdict t first s w next edges =
+    cond (eqb t s && (eqb (first .row) (w .row) && eqb (first .col) (w .col))) (cond (passed edges (w .hits) (next .hits)) 0 13) 15
+
+-- "the runner-up fields are replaced by the hard runner-up (score = its hits); the margin stays. Best score = f32 total, weighted score = that / edges; edges,
+-- hits, rate and mean confidence are the physical list's."
+unfoldable pub softDecodedOf : ℕ → SoftBest → HitsWeight → ℕ → RunnerUp → Decoded
+softDecodedOf t best figures edges next = record {
+  square = record { transform = t; row = best .first .row; col = best .first .col };
+  hits = figures .hits;
+  edges = edges;
+  weighted = div binary32 (best .first .total) (ofInt binary32 (pos edges));
+  rate = rateOf edges (figures .hits);
+  mean = meanOf (figures .hits) (figures .weight);
+  best = best .first .total;
+  next = ofInt binary32 (pos (next .hits));
+  margin = best .margin;
+  runner = record { transform = next .transform; row = next .row; col = next .col };
+}
+
+-- the two best candidates of a list of so many edges, with their margin
+abbrev pub bestOf : SoftCandidate → SoftCandidate → ℕ → SoftBest
+bestOf first second edges = record { first = first; second = second; margin = softMargin first second edges }

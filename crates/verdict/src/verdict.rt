@@ -1,0 +1,72 @@
+// The verdict on the winners, by value: whether they agree, the gate, and the found answer put together; or a refusal by its number.
+ghost use mathlib.Core.Path.{_≡_};
+ghost use Prim.Native.Nat.{_≤_, _<_};
+ghost use Rattle.verdict.specs.Verdict.{refusedBy, agreed, decodedOf, judged};
+use answer::Answer;
+use answer::Decoded;
+use answer::Square;
+use refusals::Refusal;
+use scan::scan::Candidate;
+use scan::scan::RunnerUp;
+
+// A refusal by its number.
+pub fn refuse(number: u32) -> Answer
+    ensures { λ r. ⌜ r ≡ refusedBy number ⌝ }
+{
+    Answer::Refused(Refusal { number })
+}
+
+// Whether two winners agree in transform and origin.
+pub fn same_square(t: u8, a: Candidate, s: u8, b: Candidate) -> bool
+    ensures { λ r. ⌜ r ≡ agreed t a s b ⌝ }
+{
+    if t == s {
+        if a.row == b.row {
+            return a.col == b.col;
+        }
+    }
+    false
+}
+
+// What a found answer says of the winner w under transform t, with its runner-up.
+pub fn decoded(t: u8, w: Candidate, next: RunnerUp, edges: u32) -> Decoded
+    requires { ⌜ (w .hits ≤ edges) × (next .hits ≤ edges) × (edges ≤ 8192) ⌝ }
+    ensures { λ r. ⌜ r ≡ decodedOf t w next edges ⌝ }
+{
+    let square = Square {
+        transform: t as u32,
+        row: w.row,
+        col: w.col,
+    };
+    let runner = Square {
+        transform: next.transform as u32,
+        row: next.row,
+        col: next.col,
+    };
+    Decoded {
+        square,
+        hits: w.hits,
+        edges,
+        weighted: w.score,
+        rate: figures::rate(edges, w.hits),
+        mean: figures::mean(w.hits, w.weight),
+        best: w.score,
+        next: next.hits as f32,
+        margin: figures::margin(w.hits, next.hits) as f32,
+        runner,
+    }
+}
+
+// The logical winner w under transform t, with its runner-up, judged against the physical winner p under transform s: 12, 13 or found.
+pub fn judge(t: u8, w: Candidate, next: RunnerUp, s: u8, p: Candidate, edges: u32) -> Answer
+    requires { ⌜ (w .hits ≤ edges) × (next .hits ≤ edges) × (edges ≤ 8192) ⌝ }
+    ensures { λ r. ⌜ r ≡ judged t w next s p edges ⌝ }
+{
+    if !same_square(t, w, s, p) {
+        return refuse(12);
+    }
+    if !figures::passes(edges, w.hits, next.hits) {
+        return refuse(13);
+    }
+    Answer::Found(decoded(t, w, next, edges))
+}

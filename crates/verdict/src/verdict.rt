@@ -17,7 +17,7 @@ pub fn refuse(number: u32) -> Answer
 }
 
 // Whether two winners agree in transform and origin.
-pub fn same_square(t: u8, a: Candidate, s: u8, b: Candidate) -> bool
+fn same_square(t: u8, a: Candidate, s: u8, b: Candidate) -> bool
     ensures { λ r. ⌜ r ≡ agreed t a s b ⌝ }
 {
     if t == s {
@@ -29,7 +29,7 @@ pub fn same_square(t: u8, a: Candidate, s: u8, b: Candidate) -> bool
 }
 
 // What a found answer says of the winner w under transform t, with its runner-up.
-pub fn decoded(t: u8, w: Candidate, next: RunnerUp, edges: u32) -> Decoded
+fn decoded(t: u8, w: Candidate, next: RunnerUp, edges: u32) -> Decoded
     requires { ⌜ (w .hits ≤ edges) × (next .hits ≤ edges) × (edges ≤ 8192) ⌝ }
     ensures { λ r. ⌜ r ≡ decodedOf t w next edges ⌝ }
 {

@@ -12,7 +12,6 @@ use crate::telling::put_square;
 use crate::telling::put_turn;
 use crate::text::is_name;
 use crate::view_file::View;
-use crate::words::put_matrix;
 use answer::Decoded;
 use answer::Square;
 
@@ -22,13 +21,9 @@ struct Span {
     size: u32,
 }
 
-// Whether the board's columns fall as the view's own coordinate grows, under a transform; and its rows.
-fn columns_fall(t: u32) -> bool {
-    t == 1 || t == 2 || t == 4 || t == 7
-}
-
-fn rows_fall(t: u32) -> bool {
-    t == 2 || t == 3 || t == 6 || t == 7
+// The matrix of a transform, as the board has it.
+fn matrix_of(t: u32) -> [[i32; 2]; 2] {
+    board::transform::matrix_of((t % 8) as u8)
 }
 
 // The squares of the board that the view's coordinates from low to high cover at an origin, along one side. The coordinates are counted from -1,000,000; a multiple
@@ -58,21 +53,25 @@ fn covered(low: u32, high: u32, falls: bool, origin: u32) -> Span {
     }
 }
 
+// The outline along one side of the board, by the matrix's entries for that side: it goes with the view's columns or with its rows, and falls where the entry is -1.
+fn span_of(view: View, entries: [i32; 2], origin: u32) -> Span {
+    let by_column = entries[0];
+    let by_row = entries[1];
+    if by_row == 0 {
+        return covered(view.left, view.right, by_column < 0, origin);
+    }
+    covered(view.top, view.bottom, by_row < 0, origin)
+}
+
 // The outline's columns, and its rows.
 fn span_of_columns(view: View, s: Square) -> Span {
-    let t = s.transform;
-    if t % 2 == 1 {
-        return covered(view.top, view.bottom, columns_fall(t), s.col);
-    }
-    covered(view.left, view.right, columns_fall(t), s.col)
+    let matrix = matrix_of(s.transform);
+    span_of(view, matrix[0], s.col)
 }
 
 fn span_of_rows(view: View, s: Square) -> Span {
-    let t = s.transform;
-    if t % 2 == 1 {
-        return covered(view.left, view.right, rows_fall(t), s.row);
-    }
-    covered(view.top, view.bottom, rows_fall(t), s.row)
+    let matrix = matrix_of(s.transform);
+    span_of(view, matrix[1], s.row)
 }
 
 // A place, or the same one board before it.
@@ -126,6 +125,36 @@ fn put_move(page: &mut [u8; 32768], at: usize, s: Square) -> usize {
     let n = put(page, n, b" ");
     let n = put_count(page, n, s.row);
     put(page, n, b")")
+}
+
+// One entry of a matrix.
+fn put_entry(page: &mut [u8; 32768], at: usize, x: i32) -> usize {
+    if x < 0 {
+        return put(page, at, b"-1");
+    }
+    if x > 0 {
+        return put(page, at, b"1");
+    }
+    put(page, at, b"0")
+}
+
+// A column of a matrix.
+fn put_column(page: &mut [u8; 32768], at: usize, upper: i32, lower: i32) -> usize {
+    let n = put_entry(page, at, upper);
+    let n = put(page, n, b" ");
+    let n = put_entry(page, n, lower);
+    put(page, n, b" ")
+}
+
+// A transform's matrix as a picture gives it, column by column, with no move.
+fn put_matrix(page: &mut [u8; 32768], at: usize, transform: u32) -> usize {
+    let matrix = matrix_of(transform);
+    let upper = matrix[0];
+    let lower = matrix[1];
+    let n = put(page, at, b"matrix(");
+    let n = put_column(page, n, upper[0], lower[0]);
+    let n = put_column(page, n, upper[1], lower[1]);
+    put(page, n, b"0 0)")
 }
 
 // The square that the camera faces: a ring round it, an arrow that is right in the view and a broken one that is down.

@@ -63,20 +63,6 @@ pub(crate) fn put_directions(page: &mut [u8; 32768], at: usize, transform: u32) 
     }
 }
 
-// A transform's matrix as a picture gives it, column by column.
-pub(crate) fn put_matrix(page: &mut [u8; 32768], at: usize, transform: u32) -> usize {
-    match transform {
-        1 => put(page, at, b"matrix(0 1 -1 0 0 0)"),
-        2 => put(page, at, b"matrix(-1 0 0 -1 0 0)"),
-        3 => put(page, at, b"matrix(0 -1 1 0 0 0)"),
-        4 => put(page, at, b"matrix(-1 0 0 1 0 0)"),
-        5 => put(page, at, b"matrix(0 1 1 0 0 0)"),
-        6 => put(page, at, b"matrix(1 0 0 -1 0 0)"),
-        7 => put(page, at, b"matrix(0 -1 -1 0 0 0)"),
-        _ => put(page, at, b"matrix(1 0 0 1 0 0)"),
-    }
-}
-
 // What a refusal by the checks means. A file that was read cannot provoke most of them: its reader names the line instead.
 fn put_early(page: &mut [u8; 32768], at: usize, number: u32) -> usize {
     match number {

@@ -11,8 +11,8 @@ use Rattle.laws.specs.Weights.{zeroF}
 use Rattle.board.specs.Hits.{EdgeList, Board}
 use Rattle.board.specs.Sides.{tableOf, periodOf, sideHits}
 use Rattle.cells.specs.Listed.{listed}
-use Rattle.groups.specs.Groups.{groupCount, groupWeight}
-use Rattle.groups.specs.Terms.{termC, termW}
+use Rattle.groups.specs.Groups.{groupSum, groupCount, confidenceAt}
+use Rattle.groups.specs.Terms.{termSum}
 
 -- ---- the classes of a cell
 -- how many cells stand in a row of the table
@@ -31,7 +31,8 @@ shortClass B s k = cond s (k % width B s) (k / width B s)
 abbrev pub patternAt : List ℕ → ℕ → ℕ → ℕ
 patternAt ps class family = getD ps ((class + family) % length ps) 0
 
--- the first n families added by rising long residue, from z, at the class (lc, sc), where a family adds `term f p s` at pattern p and short class s
+-- "Families are added to cells by rising long residue, from 0": the first n of them at the class (lc, sc), where a family adds `term f p s` at pattern p and short
+-- class s, for any addition with its zero
 unfoldable pub cellSum : {A : Type 0} → (A → A → A) → A → (ℕ → ℕ → ℕ → A) → List ℕ → ℕ → ℕ → ℕ → A
 cellSum op z term ps n lc sc = fold op z n all (λ f. term f (patternAt ps lc f) sc)
 
@@ -39,22 +40,29 @@ cellSum op z term ps n lc sc = fold op z n all (λ f. term f (patternAt ps lc f)
 abbrev pub family : {A : Type 0} → (ℕ → A) → ℕ → ℕ → A
 family g f j = g (f * 6 + j)
 
--- what a family adds to the counts, and to the weights
+-- what family f adds, where group k has g k edges and holds x k
+abbrev pub familyOf : {A : Type 0} → (A → A → A) → A → (ℕ → ℕ) → (ℕ → A) → ℕ → ℕ → ℕ → A
+familyOf op z g x f = termSum op z 6 (family g f) (family x f)
+
+-- to the counts, and to the weights
 abbrev pub familyC : (ℕ → ℕ) → ℕ → ℕ → ℕ → ℕ
-familyC g f = termC 6 (family g f)
+familyC g = familyOf _+_ 0 g g
 
 abbrev pub familyW : (ℕ → ℕ) → (ℕ → Float) → ℕ → ℕ → ℕ → Float
-familyW g w f = termW 6 (family g f) (family w f)
+familyW = familyOf (add binary32) zeroF
 
 -- ---- what a cell holds
 -- its count: the hits of its side's edges at the origin that is its class
 unfoldable pub cellCount : Board → EdgeList → ℕ → Bool → ℕ → ℕ
 cellCount B E t s k = sideHits B E t s (k / width B s) (k % width B s)
 
--- its weight, in the stated order of rounding: groups, terms, cells
+-- what edges hold, by groups, terms and families, at the class (lc, sc) of the side s, where edge i holds x i: the three sentences together, for any addition
+abbrev pub classSum : {A : Type 0} → (A → A → A) → A → (ℕ → A) → Board → EdgeList → ℕ → Bool → ℕ → ℕ → A
+classSum op z x B E t s lc sc = cellSum op z (familyOf op z (groupCount B E t s) (groupSum op z x B E t s)) (tableOf B s) (periodOf B s) lc sc
+
+-- its weight, in the stated order of rounding
 unfoldable pub cellWeight : Board → EdgeList → ℕ → Bool → ℕ → Float
-cellWeight B E t s k =
-    cellSum (add binary32) zeroF (familyW (groupCount B E t s) (groupWeight B E t s)) (tableOf B s) (periodOf B s) (longClass B s k) (shortClass B s k)
+cellWeight B E t s k = classSum (add binary32) zeroF (confidenceAt E) B E t s (longClass B s k) (shortClass B s k)
 
 -- ---- the tables of transform t: the counts of the side s, and its weights, cell by cell
 unfoldable pub countsOf : Board → EdgeList → ℕ → Bool → List ℕ

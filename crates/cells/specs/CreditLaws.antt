@@ -13,6 +13,7 @@ use lib.Seq.{getD-drop}
 use lib.Ieee.{Float, nan, binary32, add}
 use Rattle.laws.specs.Fold.{fold, all}
 use Rattle.laws.specs.PlusZero.{add-plus-zero}
+use Rattle.laws.specs.Weights.{zeroF}
 use Rattle.laws.specs.Residues.{below-3}
 use Rattle.laws.specs.Tests.{split}
 use Rattle.laws.specs.Zone.{zone-none}
@@ -22,7 +23,7 @@ use Rattle.board.specs.HitsLaws.{side-some}
 use Rattle.groups.specs.declared.terms.FamilyTerm.{FamilyTerm}
 use Rattle.cells.specs.Spread.{Fits, Spread, fits-next, spread-next, fits-perm, spread-perm}
 use Rattle.groups.specs.Terms.{term, Terms, noTerm, placesN, placesF}
-use Rattle.groups.specs.TermsLaws.{terms-at, no-count, no-weight}
+use Rattle.groups.specs.TermsLaws.{terms-at, no-term}
 use Rattle.cells.specs.Cells.{longClass, shortClass}
 use Rattle.cells.specs.Credit.{stepped, listed, CountsFit, WeightsFit, CountsAdded, WeightsAdded, CountsIn, WeightsIn, runPlace, entry, runTerm, fourPlace, fourTerm, Standing, RunReady, RunCells, RunCredited, longStep, shortStep, cellPattern, FamilyReady, FamilyCredited}
 use Rattle.cells.specs.LayoutLaws.{stand, short-below}
@@ -277,10 +278,10 @@ module _ (terms : List (List FamilyTerm)) (part : List ℕ) (n at long short : �
 pub family-empty : (B : Board) (s : Bool) (f long short cells groups : ℕ) (c : List ℕ) (w : List Float) → FamilyReady B s f long short cells groups c w
     → fold _+_ 0 6 all (placesN (groups + f * 6) c) ≡ 0 → FamilyCredited B s f cells groups c c w w
 family-empty B s f long short cells groups c w R none = record {
-  counts = zone-none 0 _ cells (3 * periodOf B s) c (λ k h. sym (ap (λ x. placesN cells c k + x) (no-count (placesN (groups + f * 6) c) none (cellPattern B s f k) (shortClass B s k)) ∙ add-zero (placesN cells c k)));
+  counts = zone-none 0 _ cells (3 * periodOf B s) c (λ k h. sym (ap (λ x. placesN cells c k + x) (no-term (placesN (groups + f * 6) c) none (cellPattern B s f k) (shortClass B s k) _+_ 0 (placesN (groups + f * 6) c)) ∙ add-zero (placesN cells c k)));
   weights =
       zone-none nan _ cells (3 * periodOf B s) w
-      (λ k h. sym (ap (add binary32 (placesF cells w k)) (no-weight (placesN (groups + f * 6) c) none (cellPattern B s f k) (shortClass B s k) (placesF (groups + f * 6) w)) ∙ add-plus-zero (placesF cells w k) (R .plain k h)));
+      (λ k h. sym (ap (add binary32 (placesF cells w k)) (no-term (placesN (groups + f * 6) c) none (cellPattern B s f k) (shortClass B s k) (add binary32) zeroF (placesF (groups + f * 6) w)) ∙ add-plus-zero (placesF cells w k) (R .plain k h)));
 }
 
 -- ---- a family, where its terms stand in a table

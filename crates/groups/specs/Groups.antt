@@ -5,7 +5,7 @@ use lib.Dec.{eqb}
 use lib.ListN.{getD}
 use lib.IntN.{ℤ}
 use lib.Ieee.{Float, nan, binary32, add}
-use Rattle.laws.specs.Fold.{fold, count}
+use Rattle.laws.specs.Fold.{fold, one}
 use Rattle.laws.specs.Remainder.{emod}
 use Rattle.laws.specs.Weights.{zeroF}
 use Rattle.board.specs.declared.transform.EdgeLookup.{EdgeLookup}
@@ -28,13 +28,17 @@ member B E t s k i = onSide E t s i && eqb (groupAt B E t s i) k
 abbrev pub confidenceAt : EdgeList → ℕ → Float
 confidenceAt E i = getD (E .confidences) i nan
 
--- how many edges a group has
-abbrev pub groupCount : Board → EdgeList → ℕ → Bool → ℕ → ℕ
-groupCount B E t s k = count (size E) (member B E t s k)
+-- "added, in list order, to its group, from 0": group k of the side s under the transform t, where edge i adds x i, for any addition with its zero
+abbrev pub groupSum : {A : Type 0} → (A → A → A) → A → (ℕ → A) → Board → EdgeList → ℕ → Bool → ℕ → A
+groupSum op z x B E t s k = fold op z (size E) (member B E t s k) x
 
--- their confidences, added in list order from 0
+-- how many edges a group has: each adds one
+abbrev pub groupCount : Board → EdgeList → ℕ → Bool → ℕ → ℕ
+groupCount = groupSum _+_ 0 one
+
+-- its weight: each adds its confidence
 abbrev pub groupWeight : Board → EdgeList → ℕ → Bool → ℕ → Float
-groupWeight B E t s k = fold (add binary32) zeroF (size E) (member B E t s k) (confidenceAt E)
+groupWeight B E = groupSum (add binary32) zeroF (confidenceAt E) B E
 
 -- ---- where a group stands when the groups of both sides stand in one row, the horizontal ones first; L and M are the periods
 abbrev pub placeOf : ℕ → ℕ → EdgeLookup → ℕ → ℕ

@@ -20,12 +20,16 @@ agrees p s j = eqb (bitAt p ((s + j / 2) % 3)) (j % 2)
 abbrev pub adds : (ℕ → ℕ) → ℕ → ℕ → ℕ → Bool
 adds c p s j = not (eqb (c j) 0) && agrees p s j
 
--- the count that the first n groups add, and the weight
-unfoldable pub termC : ℕ → (ℕ → ℕ) → ℕ → ℕ → ℕ
-termC n c p s = fold _+_ 0 n (adds c p s) c
+-- what the first n groups add, "in the order short·2+bit", where group j has c j edges and holds x j, for any addition with its zero
+unfoldable pub termSum : {A : Type 0} → (A → A → A) → A → ℕ → (ℕ → ℕ) → (ℕ → A) → ℕ → ℕ → A
+termSum op z n c x p s = fold op z n (adds c p s) x
 
-unfoldable pub termW : ℕ → (ℕ → ℕ) → (ℕ → Float) → ℕ → ℕ → Float
-termW n c w p s = fold (add binary32) zeroF n (adds c p s) w
+-- to the count, and to the weight
+abbrev pub termC : ℕ → (ℕ → ℕ) → ℕ → ℕ → ℕ
+termC n c = termSum _+_ 0 n c c
+
+abbrev pub termW : ℕ → (ℕ → ℕ) → (ℕ → Float) → ℕ → ℕ → Float
+termW = termSum (add binary32) zeroF
 
 -- all six
 unfoldable pub term : (ℕ → ℕ) → (ℕ → Float) → ℕ → ℕ → FamilyTerm

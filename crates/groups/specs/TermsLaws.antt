@@ -14,7 +14,7 @@ use Rattle.laws.specs.DoubleCounting.{fold-ext}
 use Rattle.laws.specs.Weights.{zeroF}
 use Rattle.board.specs.Hits.{bitAt}
 use Rattle.groups.specs.declared.terms.FamilyTerm.{FamilyTerm}
-use Rattle.groups.specs.Terms.{agrees, adds, termC, termW, term, Terms, noTerm, placesN}
+use Rattle.groups.specs.Terms.{agrees, adds, termSum, termC, termW, term, Terms, noTerm, placesN}
 
 -- ---- one group more: c j edges of weight w j, b the pattern's bit
 module _ (c : ℕ → ℕ) (w : ℕ → Float) (p s j : ℕ) where
@@ -26,11 +26,11 @@ module _ (c : ℕ → ℕ) (w : ℕ → Float) (p s j : ℕ) where
   Passed = (termC (j + 1) c p s ≡ termC j c p s) × (termW (j + 1) c w p s ≡ termW j c w p s)
 
   taken : adds c p s j ≡ true → Taken
-  unfolding termC termW
+  unfolding termSum
   taken h = (fold-hit _+_ 0 (adds c p s) c j h, fold-hit (add binary32) zeroF (adds c p s) w j h)
 
   passed : adds c p s j ≡ false → Passed
-  unfolding termC termW
+  unfolding termSum
   passed h = (fold-miss _+_ 0 (adds c p s) c j h, fold-miss (add binary32) zeroF (adds c p s) w j h)
 
   pub term-empty : c j ≡ 0 → Passed
@@ -44,7 +44,7 @@ module _ (c : ℕ → ℕ) (w : ℕ → Float) (p s j : ℕ) where
 
 -- a count so far, and one group more, is at most that of all six
 pub few-so-far : (c : ℕ → ℕ) (p s j : ℕ) → j < 6 → fold _+_ 0 6 all c ≤ 8192 → termC j c p s + c j ≤ 8192
-unfolding termC
+unfolding termSum
 few-so-far c p s j h k =
     let a : fold _+_ 0 j (adds c p s) c ≤ fold _+_ 0 j all c = sum-some (adds c p s) c j in
     let b : fold _+_ 0 (j + 1) all c ≤ fold _+_ 0 6 all c = sum-mono all c (j + 1) 6 (omega arith) in
@@ -70,13 +70,9 @@ module _ (n : ℕ) (c c' : ℕ → ℕ) (p s : ℕ) (e : (j : ℕ) → j < n →
   same-adds : (j : ℕ) → j < n → adds c p s j ≡ adds c' p s j
   same-adds j h = ap (λ x. not (eqb x 0) && agrees p s j) (e j h)
 
-  pub same-termC : termC n c p s ≡ termC n c' p s
-  unfolding termC
-  same-termC = fold-ext _+_ 0 n (adds c p s) (adds c' p s) c c' same-adds e
-
-  pub same-termW : (w w' : ℕ → Float) → ((j : ℕ) → j < n → w j ≡ w' j) → termW n c w p s ≡ termW n c' w' p s
-  unfolding termW
-  same-termW w w' f = fold-ext (add binary32) zeroF n (adds c p s) (adds c' p s) w w' same-adds f
+  pub same-term : {A : Type 0} (op : A → A → A) (z : A) (x x' : ℕ → A) → ((j : ℕ) → j < n → x j ≡ x' j) → termSum op z n c x p s ≡ termSum op z n c' x' p s
+  unfolding termSum
+  same-term op z x x' f = fold-ext op z n (adds c p s) (adds c' p s) x x' same-adds f
 
 -- ---- six groups together
 pub six-sum : (l : List ℕ) (from : ℕ)
@@ -98,10 +94,6 @@ module _ (c : ℕ → ℕ) (none : fold _+_ 0 6 all c ≡ 0) (p s : ℕ) where
   left-out : (j : ℕ) → j < 6 → adds c p s j ≡ false
   left-out j h = ap (λ x. not (eqb x 0) && agrees p s j) (no-edge j h)
 
-  pub no-count : termC 6 c p s ≡ 0
-  unfolding termC fold
-  no-count = fold-ext _+_ 0 6 (adds c p s) (λ j. false) c c left-out (λ j h. refl)
-
-  pub no-weight : (w : ℕ → Float) → termW 6 c w p s ≡ zeroF
-  unfolding termW fold
-  no-weight w = fold-ext (add binary32) zeroF 6 (adds c p s) (λ j. false) w w left-out (λ j h. refl)
+  pub no-term : {A : Type 0} (op : A → A → A) (z : A) (x : ℕ → A) → termSum op z 6 c x p s ≡ z
+  unfolding termSum fold
+  no-term op z x = fold-ext op z 6 (adds c p s) (λ j. false) x x left-out (λ j h. refl)

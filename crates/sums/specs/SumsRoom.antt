@@ -4,18 +4,17 @@ use mathlib.Core.List.{List}
 use Prim.Native.Nat.{ℕ, _≤_, _<_}
 use lib.ListN.{length}
 use lib.IntN.{ℤ, pos, _+ℤ_}
-use Rattle.laws.specs.Fold.{fold}
 use Rattle.board.specs.Hits.{EdgeList, Board, size}
 use Rattle.board.specs.Sides.{periodOf}
 use Rattle.board.specs.Domain.{ListOk, BoardOk}
-use Rattle.groups.specs.Groups.{member}
+use Rattle.groups.specs.Groups.{groupSum}
 use Rattle.tables.specs.Room.{used, Laid}
 use Rattle.sums.specs.Sums.{Likelihoods, LikelihoodsOk, cellScore}
 use Rattle.sums.specs.SumParts.{valueAt}
 
 -- the sum of a group's likelihoods: row 0 match, row 1 mismatch
 abbrev pub groupScore : Board → EdgeList → Likelihoods → ℕ → ℕ → Bool → ℕ → ℤ
-groupScore B E X t i s k = fold _+ℤ_ (pos 0) (size E) (member B E t s k) (valueAt X i)
+groupScore B E X t i = groupSum _+ℤ_ (pos 0) (valueAt X i) B E t
 
 -- the list, its likelihoods, the pattern tables and the transform are accepted, and the room is long enough
 pub record SumsReady (B : Board) (E : EdgeList) (X : Likelihoods) (t : ℕ) (a : List ℤ) : Type 0 where

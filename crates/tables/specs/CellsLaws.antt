@@ -11,7 +11,7 @@ use lib.ListN.{getD, length}
 use lib.Ieee.{Float, binary32, add, fits}
 use borrow.Author.Tests.{lt-ltb}
 use Rattle.laws.specs.Tests.{and-ext}
-use Rattle.laws.specs.Fold.{fold, put, all, one, fold-zero, fold-hit, sum-some, sum-mono, sum-le}
+use Rattle.laws.specs.Fold.{fold, put, all, one, count, fold-zero, fold-hit, sum-some, sum-mono, sum-le}
 use Rattle.laws.specs.Counting.{count-le}
 use Rattle.laws.specs.DoubleCounting.{fold-ext, flatten, regroup, edge-by-edge}
 use Rattle.laws.specs.Remainder.{emod}
@@ -23,10 +23,10 @@ use Rattle.laws.specs.Zone.{Zone}
 use Rattle.board.specs.Hits.{EdgeList, Board, size, seen, bitAt, patternBit, hit}
 use Rattle.board.specs.Sides.{onSide, tableOf, periodOf, longOf, shortOf, sideHits}
 use Rattle.board.specs.HitsLaws.{hit-side}
-use Rattle.groups.specs.Groups.{group, groupAt, member, groupCount, groupWeight, confidenceAt}
-use Rattle.groups.specs.Terms.{agrees, adds, termC, termW}
-use Rattle.groups.specs.TermsLaws.{same-termC, same-termW}
-use Rattle.cells.specs.Cells.{longClass, shortClass, patternAt, cellSum, family, familyC, familyW, cellCount}
+use Rattle.groups.specs.Groups.{group, groupAt, member, groupSum, groupCount, groupWeight, confidenceAt}
+use Rattle.groups.specs.Terms.{agrees, adds, termSum}
+use Rattle.groups.specs.TermsLaws.{same-term}
+use Rattle.cells.specs.Cells.{longClass, shortClass, patternAt, cellSum, family, familyOf, familyC, familyW, classSum, cellCount}
 use Rattle.groups.specs.FillLaws.{group-below}
 use Rattle.tables.specs.Side.{total}
 
@@ -59,13 +59,11 @@ module _ {A : Type 0} (op : A → A → A) (z : A) (term : ℕ → ℕ → ℕ �
 same-family : {A : Type 0} (g g' : ℕ → A) (n : ℕ) → ((k : ℕ) → k < n * 6 → g k ≡ g' k) → (f : ℕ) → f < n → (j : ℕ) → j < 6 → family g f j ≡ family g' f j
 same-family g g' n e f h j l = e (f * 6 + j) (omega arith)
 
-module _ (g g' : ℕ → ℕ) (n : ℕ) (e : (k : ℕ) → k < n * 6 → g k ≡ g' k) (ps : List ℕ) (lc s : ℕ) where
-  pub same-cellC : cellSum _+_ 0 (familyC g) ps n lc s ≡ cellSum _+_ 0 (familyC g') ps n lc s
-  same-cellC = cell-same _+_ 0 (familyC g) ps (familyC g') n lc s (λ f h p. same-termC 6 (family g f) (family g' f) p s (same-family g g' n e f h))
-
-  pub same-cellW : (w w' : ℕ → Float) → ((k : ℕ) → k < n * 6 → w k ≡ w' k) → cellSum (add binary32) zeroF (familyW g w) ps n lc s ≡ cellSum (add binary32) zeroF (familyW g' w') ps n lc s
-  same-cellW w w' i = cell-same (add binary32) zeroF (familyW g w) ps (familyW g' w') n lc s
-      (λ f h p. same-termW 6 (family g f) (family g' f) p s (same-family g g' n e f h) (family w f) (family w' f) (same-family w w' n i f h))
+pub same-cell : {A : Type 0} (op : A → A → A) (z : A) (g g' : ℕ → ℕ) (x x' : ℕ → A) (n : ℕ) → ((k : ℕ) → k < n * 6 → g k ≡ g' k) → ((k : ℕ) → k < n * 6 → x k ≡ x' k)
+    → (ps : List ℕ) (lc s : ℕ) → cellSum op z (familyOf op z g x) ps n lc s ≡ cellSum op z (familyOf op z g' x') ps n lc s
+same-cell op z g g' x x' n e d ps lc s =
+    cell-same op z (familyOf op z g x) ps (familyOf op z g' x') n lc s
+    (λ f h p. same-term 6 (family g f) (family g' f) p s (same-family g g' n e f h) op z (family x f) (family x' f) (same-family x x' n d f h))
 
 -- ---- a cell has no more than all groups together
 pub total-mono : (g : ℕ → ℕ) (f n : ℕ) → f ≤ n → total g f ≤ total g n
@@ -77,7 +75,7 @@ unfolding total
 by-family g n = flatten _+_ 0 add-zero add-assoc add-comm 6 n (λ f. all) (family g) ∙ fold-ext _+_ 0 (n * 6) all all (λ k. g (k / 6 * 6 + k % 6)) g (λ k l. refl) (λ k l. ap g (div-add-mod' k 6))
 
 pub cell-total : (g : ℕ → ℕ) (ps : List ℕ) (n lc s : ℕ) → cellSum _+_ 0 (familyC g) ps n lc s ≤ total g n
-unfolding cellSum termC
+unfolding cellSum termSum
 cell-total g ps n lc s =
     le-trans
     (sum-le n (λ f. fold _+_ 0 6 (adds (family g f) (patternAt ps lc f) s) (family g f)) (λ f. fold _+_ 0 6 all (family g f)) (λ f. sum-some (adds (family g f) (patternAt ps lc f) s) (family g f) 6))
@@ -93,7 +91,7 @@ family-total g f n h =
 -- ---- weights: at most the counts
 module _ (g : ℕ → ℕ) (w : ℕ → Float) (n : ℕ) (small : (k : ℕ) → k < n * 6 → Weight (w k) (g k)) (few : total g n ≤ 2 ^ 24) where
   term-upto : (f : ℕ) → f < n → (p s : ℕ) → Upto (familyW g w f p s) (familyC g f p s)
-  unfolding termC termW
+  unfolding termSum
   term-upto f h p s =
       let a : fold _+_ 0 6 (adds (family g f) p s) (family g f) ≤ fold _+_ 0 6 all (family g f) = sum-some (adds (family g f) p s) (family g f) 6 in
       sum-upto (adds (family g f) p s) (family w f) (family g f) 6 (λ j l. small (f * 6 + j) (omega arith)) (omega (arith, family-total g f n h))
@@ -110,17 +108,32 @@ pub cell-fits : (g : ℕ → ℕ) (w : ℕ → Float) (n : ℕ) (ps : List ℕ) 
 unfolding cellSum
 cell-fits g w n ps lc s = sum-fits all (λ f. familyW g w f (patternAt ps lc f) s) n
 
--- ---- the counts are those of the edges
-keep-zero : (b : Bool) (a x : ℕ) → put _+_ (not (eqb x 0) && b) a x ≡ put _+_ b a x
-keep-zero true a zero = sym (add-zero a)
-keep-zero false a zero = refl
-keep-zero b a (suc x) = rw eqb·suc-zero
+-- ---- a cell is the edges, counted or added up
+-- what holds nothing where it has no edge, and is not empty otherwise
+module _ {A : Type 0} (op : A → A → A) (z : A) (unit : (a : A) → op a z ≡ a) where
+  -- no edge chosen: nothing added
+  none-step : (b : Bool) (k : ℕ) (a y : A) → put _+_ b k 1 ≡ 0 → (k ≡ 0 → a ≡ z) → put op b a y ≡ z
+  none-step true k a y e h = absurd (past k e)
+    where
+      past : (k : ℕ) → k + 1 ≡ 0 → ⊥
+      past k h = omega arith
+  none-step false k a y e h = h e
 
--- an empty group adds nothing to a count
-skip-zeros : (n : ℕ) (c : ℕ → ℕ) (p s : ℕ) → fold _+_ 0 n (adds c p s) c ≡ fold _+_ 0 n (agrees p s) c
-unfolding fold
-skip-zeros zero c p s = refl
-skip-zeros (suc n) c p s = keep-zero (agrees p s n) (fold _+_ 0 n (adds c p s) c) (c n) ∙ ap (λ a. put _+_ (agrees p s n) a (c n)) (skip-zeros n c p s)
+  none-chosen : (n : ℕ) (p : ℕ → Bool) (x : ℕ → A) → count n p ≡ 0 → fold op z n p x ≡ z
+  unfolding fold
+  none-chosen zero p x e = refl
+  none-chosen (suc n) p x e = none-step (p n) (count n p) (fold op z n p x) (x n) e (none-chosen n p x)
+
+  keep-empty : (b : Bool) (a y : A) (k : ℕ) → (k ≡ 0 → y ≡ z) → put op (not (eqb k 0) && b) a y ≡ put op b a y
+  keep-empty true a y zero h = sym (ap (op a) (h refl) ∙ unit a)
+  keep-empty false a y zero h = refl
+  keep-empty b a y (suc k) h = rw eqb·suc-zero
+
+  -- an empty group adds nothing
+  skip-empty : (n : ℕ) (c : ℕ → ℕ) (y : ℕ → A) (p s : ℕ) → ((j : ℕ) → c j ≡ 0 → y j ≡ z) → fold op z n (adds c p s) y ≡ fold op z n (agrees p s) y
+  unfolding fold
+  skip-empty zero c y p s h = refl
+  skip-empty (suc n) c y p s h = keep-empty (agrees p s n) (fold op z n (adds c p s) y) (y n) (c n) (h n) ∙ ap (λ a. put op (agrees p s n) a (y n)) (skip-empty n c y p s h)
 
 -- a group's number, taken apart
 group-parts : (l s b : ℕ) → s < 3 → b < 2 → let k = l * 6 + s * 2 + b in (k / 6 ≡ l) × (k % 6 / 2 ≡ s) × (k % 6 % 2 ≡ b)
@@ -149,18 +162,26 @@ module _ (B : Board) (E : EdgeList) (t : ℕ) (some : (s : Bool) → 0 < periodO
   hit-group s r c i l e =
       group-agrees (tableOf B s) (some s) (longOf E t s i) (shortOf E t s i) (seen E i) (bits i l) (cond s r c) (cond s c r) ∙ sym (hit-side B E t s r c i e)
 
-  -- what the families add up to is the hits of the side at the class
-  pub cell-side : (s : Bool) (r c : ℕ) → cellSum _+_ 0 (familyC (groupCount B E t s)) (tableOf B s) (periodOf B s) (cond s r c) (cond s c r) ≡ sideHits B E t s r c
-  unfolding cellSum termC sideHits
-  cell-side s r c =
+  -- WHERE THE ADDITION HAS NEITHER ORDER NOR BRACKETS (whole numbers): what the families add up to is the sum over the side's hits at the class, edge by edge. Weights in f32
+  -- differ from it in the order of rounding alone
+  pub class-by-edges : {A : Type 0} (op : A → A → A) (z : A) → ((a : A) → op a z ≡ a) → ((a b c : A) → op (op a b) c ≡ op a (op b c)) → ((a b : A) → op a b ≡ op b a)
+      → (x : ℕ → A) (s : Bool) (r c : ℕ) → classSum op z x B E t s (cond s r c) (cond s c r) ≡ fold op z (size E) (λ i. onSide E t s i && hit B E t r c i) x
+  unfolding cellSum termSum
+  class-by-edges op z unit assoc comm x s r c =
       let g = groupCount B E t s in
+      let y = groupSum op z x B E t s in
       let P : ℕ → ℕ → Bool = λ f j. agrees (patternAt (tableOf B s) (cond s r c) f) (cond s c r) j in
-      fold-ext _+_ 0 (periodOf B s) all all
-      (λ f. fold _+_ 0 6 (adds (family g f) (patternAt (tableOf B s) (cond s r c) f) (cond s c r)) (family g f))
-      (λ f. fold _+_ 0 6 (P f) (family g f))
-      (λ f l. refl) (λ f l. skip-zeros 6 (family g f) (patternAt (tableOf B s) (cond s r c) f) (cond s c r))
-      ∙ edge-by-edge _+_ 0 add-zero add-assoc add-comm 6 (periodOf B s) (size E) (onSide E t s) (groupAt B E t s) P one
-      ∙ fold-ext _+_ 0 (size E) _ _ one one (λ i l. and-ext (onSide E t s i) (λ e. ap₂ _&&_ (in-table s i l) (hit-group s r c i l e))) (λ i l. refl)
+      fold-ext op z (periodOf B s) all all
+      (λ f. fold op z 6 (adds (family g f) (patternAt (tableOf B s) (cond s r c) f) (cond s c r)) (family y f))
+      (λ f. fold op z 6 (P f) (family y f))
+      (λ f l. refl) (λ f l. skip-empty op z unit 6 (family g f) (family y f) (patternAt (tableOf B s) (cond s r c) f) (cond s c r) (λ j e. none-chosen op z unit (size E) (member B E t s (f * 6 + j)) x e))
+      ∙ edge-by-edge op z unit assoc comm 6 (periodOf B s) (size E) (onSide E t s) (groupAt B E t s) P x
+      ∙ fold-ext op z (size E) _ _ x x (λ i l. and-ext (onSide E t s i) (λ e. ap₂ _&&_ (in-table s i l) (hit-group s r c i l e))) (λ i l. refl)
+
+  -- counts: each hit adds one
+  pub cell-side : (s : Bool) (r c : ℕ) → cellSum _+_ 0 (familyC (groupCount B E t s)) (tableOf B s) (periodOf B s) (cond s r c) (cond s c r) ≡ sideHits B E t s r c
+  unfolding sideHits
+  cell-side s r c = class-by-edges _+_ 0 add-zero add-assoc add-comm one s r c
 
   -- the same by cell
   pub cell-count : (s : Bool) (k : ℕ) → cellSum _+_ 0 (familyC (groupCount B E t s)) (tableOf B s) (periodOf B s) (longClass B s k) (shortClass B s k) ≡ cellCount B E t s k

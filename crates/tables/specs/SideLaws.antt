@@ -15,7 +15,7 @@ use Rattle.laws.specs.Zone.{Zone, zone-none, zone-ext}
 use Rattle.board.specs.Hits.{Board}
 use Rattle.board.specs.Sides.{tableOf, periodOf}
 use Rattle.groups.specs.Terms.{placesN, placesF}
-use Rattle.groups.specs.TermsLaws.{same-termC, same-termW}
+use Rattle.groups.specs.TermsLaws.{same-term}
 use Rattle.cells.specs.Cells.{longClass, shortClass, cellSum, family, familyC, familyW}
 use Rattle.tables.specs.CellsLaws.{cell-none, cell-more, zone-family, cell-total, family-total, total-mono, cell-upto, cell-fits}
 use Rattle.cells.specs.Credit.{cellPattern, gainC, gainW, FamilyReady, FamilyCredited}
@@ -41,10 +41,10 @@ module _ (B : Board) (s : Bool) (long short cells groups : ℕ) (c : List ℕ) (
     groupsW j l = same-groups nan _ cells (3 * periodOf B s) groups w w' (R .apart) (b .weights) f j
 
     gain-count : (k : ℕ) → gainC B s f (groups + f * 6) c' k ≡ familyC (placesN groups c) f (cellPattern B s f k) (shortClass B s k)
-    gain-count k = same-termC 6 _ _ (cellPattern B s f k) (shortClass B s k) groupsC
+    gain-count k = same-term 6 _ _ (cellPattern B s f k) (shortClass B s k) groupsC _+_ 0 _ _ groupsC
 
     gain-weight : (k : ℕ) → gainW B s f (groups + f * 6) c' w' k ≡ familyW (placesN groups c) (placesF groups w) f (cellPattern B s f k) (shortClass B s k)
-    gain-weight k = same-termW 6 _ _ (cellPattern B s f k) (shortClass B s k) groupsC _ _ groupsW
+    gain-weight k = same-term 6 _ _ (cellPattern B s f k) (shortClass B s k) groupsC (add binary32) zeroF _ _ groupsW
 
     -- the count with the family in
     next : (k : ℕ) → k < 3 * periodOf B s

@@ -4,7 +4,7 @@ use Prim.Native.Nat.{ℕ, _+_, _-_, _≤_}
 use native.Mathlib.Omega.{arith}
 use lib.Ieee.{add, binary32}
 use Rattle.laws.specs.Fold.{fold}
-use Rattle.groups.specs.Terms.{termC, termW, term, placesN, placesF}
+use Rattle.groups.specs.Terms.{termSum, termC, termW, term, placesN, placesF}
 use Rattle.groups.specs.TermsLaws.{few-so-far, term-empty, term-no, term-yes}
 use Rattle.groups.proofs.terms.fold_term.Statement.{statement}
 use Rattle.groups.proofs.terms.fold_term.Tie as tie
@@ -16,7 +16,7 @@ abbrev μ-loop : tie.MeasureT-loop
 μ-loop counts weights from pattern s count₀ weight₀ j₀ count weight j = 6 - j
 
 loop-holds : tie.Need-loop-holds Inv-loop μ-loop
-unfolding termC termW fold lib.Ieee.ofBits
+unfolding termSum fold lib.Ieee.ofBits
 loop-holds c = (omega arith, refl, refl)
 
 cast-at : tie.Need-cast-at Inv-loop μ-loop

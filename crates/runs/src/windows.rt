@@ -57,8 +57,8 @@ fn show<'a>(
     print(b"\n");
 }
 
-// A clean window of some squares, cut at a placing of a random board: its first n edges decoded over the listed transforms.
-fn show_window(
+// A clean window of some squares, cut at a placing of a random board: its first n edges decoded over the listed transforms, with these confidences.
+fn show_cut(
     name: &[u8],
     squares: u8,
     n: usize,
@@ -67,6 +67,7 @@ fn show_window(
     c: u32,
     transforms: &[u8; 8],
     listed: usize,
+    confidences: &[f32; 8193],
 ) {
     let mut h = [0u8; 167];
     let mut v = [0u8; 167];
@@ -88,7 +89,6 @@ fn show_window(
         r,
         c,
     );
-    let confidences = [1.0f32; 8193];
     let some = if n < count { n } else { count };
     show(
         name,
@@ -96,9 +96,9 @@ fn show_window(
         &cols,
         &orientations,
         &bits,
-        &confidences,
+        confidences,
         &bits,
-        &confidences,
+        confidences,
         some,
         transforms,
         listed,
@@ -106,6 +106,21 @@ fn show_window(
         &v,
         1.0,
     );
+}
+
+// The same with every confidence 1.
+fn show_window(
+    name: &[u8],
+    squares: u8,
+    n: usize,
+    transform: u8,
+    r: u32,
+    c: u32,
+    transforms: &[u8; 8],
+    listed: usize,
+) {
+    let ones = [1.0f32; 8193];
+    show_cut(name, squares, n, transform, r, c, transforms, listed, &ones);
 }
 
 // A 12 by 12 window with some logical edges missed, whose physical list is cut at a row of its own.
@@ -371,45 +386,10 @@ fn faulty() {
 
 // A clean 12 by 12 window whose confidences are eight values, one after the other and again.
 fn show_weighted(name: &[u8], eight: &[f32; 8]) {
-    let mut h = [0u8; 167];
-    let mut v = [0u8; 167];
-    fill_patterns(&mut h, 1);
-    fill_patterns(&mut v, 2);
-    let mut rows = [0i32; 8193];
-    let mut cols = [0i32; 8193];
-    let mut orientations = [0u8; 8193];
-    let mut bits = [0u8; 8193];
-    let n = put_window(
-        &mut rows,
-        &mut cols,
-        &mut orientations,
-        &mut bits,
-        12,
-        &h,
-        &v,
-        0,
-        17,
-        400,
-    );
     let mut confidences = [0.0f32; 8193];
     repeat(&mut confidences, eight);
     let all = [0u8, 1, 2, 3, 4, 5, 6, 7];
-    show(
-        name,
-        &rows,
-        &cols,
-        &orientations,
-        &bits,
-        &confidences,
-        &bits,
-        &confidences,
-        n,
-        &all,
-        8,
-        &h,
-        &v,
-        1.0,
-    );
+    show_cut(name, 12, 8193, 0, 17, 400, &all, 8, &confidences);
 }
 
 // Confidences of 0 and of -0, which count as 0: hits are counted all the same, and a list with no other confidence is refused.

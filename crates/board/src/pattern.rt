@@ -30,26 +30,28 @@ pub fn patterns_from<'a>(h: &'a [u8], v: &'a [u8], orientation: u8, family: usiz
 }
 
 // The bit that the board predicts of an edge that was looked up, at the origin (r, c).
-fn predicted_bit(h: &[u8], v: &[u8], l: EdgeLookup, r: u32, c: u32) -> u8
+fn predicted_bit<'a>(h: &'a [u8], v: &'a [u8], l: EdgeLookup, r: u32, c: u32) -> u8
     requires { ⌜ BoardOk (tables (now h) (now v)) ⌝ }
     requires { ⌜ (r ≤ 1500) × (c ≤ 1500) ⌝ }
     ensures { λ p. ⌜ p ≡ predicted (tables (now (h .entry)) (now (v .entry))) l r c ⌝ }
 {
     let row = l.row;
     let col = l.col;
+    let patterns = patterns_from(h, v, l.orientation, 0);
+    let period = patterns.len() as u32;
     if l.orientation == 0 {
-        let at = laws::class_at(row, r, h.len() as u32) as usize;
-        pattern_bit(h[at], laws::class_at(col, c, 3))
+        let at = laws::class_at(row, r, period) as usize;
+        pattern_bit(patterns[at], laws::class_at(col, c, 3))
     } else {
-        let at = laws::class_at(col, c, v.len() as u32) as usize;
-        pattern_bit(v[at], laws::class_at(row, r, 3))
+        let at = laws::class_at(col, c, period) as usize;
+        pattern_bit(patterns[at], laws::class_at(row, r, 3))
     }
 }
 
 // Whether an edge is a hit under the transform t, whose matrix is given, at the origin (r, c): its bit is the predicted one.
-pub fn is_hit(
-    h: &[u8],
-    v: &[u8],
+pub fn is_hit<'a>(
+    h: &'a [u8],
+    v: &'a [u8],
     row: i32,
     col: i32,
     orientation: u8,

@@ -17,7 +17,7 @@ fn narrowed(transform: u32) -> u8
 
 // Match statistics: how a list fits one known transform and origin, or a refusal.
 #[no_mangle]
-pub extern "C" fn samburext_match_stats(
+pub extern "C" fn samburext_match_stats<'a>(
     rows: &[i32],
     cols: &[i32],
     orientations: &[u8],
@@ -26,8 +26,8 @@ pub extern "C" fn samburext_match_stats(
     transform: u32,
     row: u32,
     col: u32,
-    h: &[u8],
-    v: &[u8],
+    h: &'a [u8],
+    v: &'a [u8],
 ) -> FlatStats
     ensures { λ r. ⌜ r ≡ flatStats (statsAnswer
         (edges (now (rows .entry)) (now (cols .entry)) (now (orientations .entry)) (now (bits .entry)) (now (confidences .entry)))

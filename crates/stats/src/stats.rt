@@ -28,7 +28,7 @@ fn add_edge(sum: HitsWeight, hit: bool, confidence: f32) -> HitsWeight
 }
 
 // The hits of a list at one placing, and their confidences added in list order.
-fn count_hits(
+fn count_hits<'a>(
     rows: &[i32],
     cols: &[i32],
     orientations: &[u8],
@@ -37,8 +37,8 @@ fn count_hits(
     transform: u8,
     row: u32,
     col: u32,
-    h: &[u8],
-    v: &[u8],
+    h: &'a [u8],
+    v: &'a [u8],
 ) -> HitsWeight
     requires { ⌜ StatsAccepted
         (edges (now rows) (now cols) (now orientations) (now bits) (now confidences))
@@ -82,7 +82,7 @@ fn rate(edges: u32, hits: u32) -> f32
 }
 
 // Edges, hits, rate and mean of one list at one known transform and origin, for all inputs.
-pub fn match_stats(
+pub fn match_stats<'a>(
     rows: &[i32],
     cols: &[i32],
     orientations: &[u8],
@@ -91,8 +91,8 @@ pub fn match_stats(
     transform: u8,
     row: u32,
     col: u32,
-    h: &[u8],
-    v: &[u8],
+    h: &'a [u8],
+    v: &'a [u8],
 ) -> StatsAnswer
     ensures { λ r. ⌜ r ≡ statsAnswer
         (edges (now (rows .entry)) (now (cols .entry)) (now (orientations .entry)) (now (bits .entry)) (now (confidences .entry)))

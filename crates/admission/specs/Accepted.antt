@@ -18,8 +18,10 @@ use Rattle.board.specs.Hits.{EdgeList, Board, size}
 use Rattle.board.specs.Domain.{ListOk, Patterns, BoardOk}
 use Rattle.likelihood.specs.Likelihood.{acceptable}
 use Rattle.refusals.specs.declared.Refusal.{Refusal}
+use Rattle.refusals.specs.Numbers.{numbered}
+use Rattle.refusals.specs.Numbers as why
 use Rattle.checks.specs.Checks.{far, farAt, badCoordinate, badByte, inRange, marginTop, badConfidence, badLikelihood, firstBadCoordinate, firstBadByte, firstBadConfidence, firstBadLikelihood, lengthsDiffer, sizeBad, fieldBad, confidenceBad, likelihoodsDiffer, likelihoodBad, transformsBad, tableBad, originBad}
-use Rattle.admission.specs.Refusals.{numbered, fieldsBad, tablesBad, roomShort, softRoomShort, hardRefusal, softRefusal, statsRefusal}
+use Rattle.admission.specs.Refusals.{fieldsBad, tablesBad, roomShort, softRoomShort, hardRefusal, softRefusal, statsRefusal}
 
 -- ---- lists without a bad place
 none-bad : (p : ℕ → Bool) (n k : ℕ) → ltb k n ≡ false → k ≡ Rattle.laws.specs.First.first p n → (i : ℕ) → i < n → p i ≡ false
@@ -127,13 +129,13 @@ pub record StatsAccepted (E : EdgeList) (t row col : ℕ) (B : Board) : Type 0 w
 pub stats-accepted : (E : EdgeList) (t row col : ℕ) (B : Board) → statsRefusal E t row col B .number ≡ 0 → StatsAccepted E t row col B
 unfolding statsRefusal originBad
 stats-accepted E t row col B h =
-    let a2 = rest _ 2 _ (omega arith) h in
-    let a3 = rest _ 3 _ (omega arith) (a2 .1) in
-    let a4 = rest _ 4 _ (omega arith) (a3 .1) in
-    let a5 = rest _ 5 _ (omega arith) (a4 .1) in
-    let a7 = rest _ 7 _ (omega arith) (a5 .1) in
-    let a8 = rest _ 8 _ (omega arith) (a7 .1) in
-    let a9 = rest _ 9 _ (omega arith) (a8 .1) in
+    let a2 = rest _ why.lengthsDiffer _ (omega arith) h in
+    let a3 = rest _ why.listSize _ (omega arith) (a2 .1) in
+    let a4 = rest _ why.edgeOutOfRange _ (omega arith) (a3 .1) in
+    let a5 = rest _ why.badConfidence _ (omega arith) (a4 .1) in
+    let a7 = rest _ why.badTransform _ (omega arith) (a5 .1) in
+    let a8 = rest _ why.badTable _ (omega arith) (a7 .1) in
+    let a9 = rest _ why.badSetting _ (omega arith) (a8 .1) in
     let o = or-false (ltb 500 row) (ltb 500 col) (a9 .0) in
     record {
       list = list-ok 0 E (a2 .0) (a3 .0) (a4 .0) (a5 .0);
@@ -157,14 +159,14 @@ pub record HardAccepted (L P : EdgeList) (ts : List ℕ) (B : Board) (limit : Fl
 pub hard-accepted : (L P : EdgeList) (ts : List ℕ) (B : Board) (limit : Float) (m n : ℕ) → hardRefusal L P ts B limit m n .number ≡ 0 → HardAccepted L P ts B limit m n
 unfolding hardRefusal roomShort
 hard-accepted L P ts B limit m n h =
-    let a1 = rest _ 1 _ (omega arith) h in
-    let a2 = rest _ 2 _ (omega arith) (a1 .1) in
-    let a3 = rest _ 3 _ (omega arith) (a2 .1) in
-    let a4 = rest _ 4 _ (omega arith) (a3 .1) in
-    let a5 = rest _ 5 _ (omega arith) (a4 .1) in
-    let a7 = rest _ 7 _ (omega arith) (a5 .1) in
-    let a8 = rest _ 8 _ (omega arith) (a7 .1) in
-    let a9 = rest _ 9 _ (omega arith) (a8 .1) in
+    let a1 = rest _ why.roomTooShort _ (omega arith) h in
+    let a2 = rest _ why.lengthsDiffer _ (omega arith) (a1 .1) in
+    let a3 = rest _ why.listSize _ (omega arith) (a2 .1) in
+    let a4 = rest _ why.edgeOutOfRange _ (omega arith) (a3 .1) in
+    let a5 = rest _ why.badConfidence _ (omega arith) (a4 .1) in
+    let a7 = rest _ why.badTransform _ (omega arith) (a5 .1) in
+    let a8 = rest _ why.badTable _ (omega arith) (a7 .1) in
+    let a9 = rest _ why.badSetting _ (omega arith) (a8 .1) in
     let r = or-false (ltb m 3006) (ltb n 3006) (a1 .0) in
     let d = or-false (lengthsDiffer L) (lengthsDiffer P) (a2 .0) in
     let z = or-false (sizeBad 1 (size L)) (sizeBad 1 (size P)) (a3 .0) in
@@ -203,15 +205,15 @@ pub soft-accepted : (P : EdgeList) (ms us : List Float) (L : EdgeList) (ts : Lis
     → softRefusal P ms us L ts B limit margin m n k .number ≡ 0 → SoftAccepted P ms us L ts B limit margin m n k
 unfolding softRefusal softRoomShort roomShort likelihoodsDiffer likelihoodBad firstBadLikelihood
 soft-accepted P ms us L ts B limit margin m n k h =
-    let a1 = rest _ 1 _ (omega arith) h in
-    let a2 = rest _ 2 _ (omega arith) (a1 .1) in
-    let a3 = rest _ 3 _ (omega arith) (a2 .1) in
-    let a4 = rest _ 4 _ (omega arith) (a3 .1) in
-    let a5 = rest _ 5 _ (omega arith) (a4 .1) in
-    let a6 = rest _ 6 _ (omega arith) (a5 .1) in
-    let a7 = rest _ 7 _ (omega arith) (a6 .1) in
-    let a8 = rest _ 8 _ (omega arith) (a7 .1) in
-    let a9 = rest _ 9 _ (omega arith) (a8 .1) in
+    let a1 = rest _ why.roomTooShort _ (omega arith) h in
+    let a2 = rest _ why.lengthsDiffer _ (omega arith) (a1 .1) in
+    let a3 = rest _ why.listSize _ (omega arith) (a2 .1) in
+    let a4 = rest _ why.edgeOutOfRange _ (omega arith) (a3 .1) in
+    let a5 = rest _ why.badConfidence _ (omega arith) (a4 .1) in
+    let a6 = rest _ why.badLikelihood _ (omega arith) (a5 .1) in
+    let a7 = rest _ why.badTransform _ (omega arith) (a6 .1) in
+    let a8 = rest _ why.badTable _ (omega arith) (a7 .1) in
+    let a9 = rest _ why.badSetting _ (omega arith) (a8 .1) in
     let s = or-false (ltb m 3006 || ltb n 3006) (ltb k 5010) (a1 .0) in
     let r = or-false (ltb m 3006) (ltb n 3006) (s .0) in
     let e = or-false (lengthsDiffer P || lengthsDiffer L) _ (a2 .0) in

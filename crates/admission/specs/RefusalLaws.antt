@@ -11,8 +11,10 @@ use borrow.Author.Tests.{eq-eqb, ne-eqb, lt-ltb, le-ltb}
 use Rattle.laws.specs.Weights.{oneF}
 use Rattle.board.specs.Hits.{EdgeList, Board, size}
 use Rattle.refusals.specs.declared.Refusal.{Refusal}
+use Rattle.refusals.specs.Numbers.{numbered}
+use Rattle.refusals.specs.Numbers as why
 use Rattle.checks.specs.Checks.{inRange, marginTop, lengthsDiffer, sizeBad, confidenceBad, likelihoodsDiffer, likelihoodBad, transformsBad, originBad}
-use Rattle.admission.specs.Refusals.{numbered, fieldsBad, tablesBad, roomShort, softRoomShort, hardRefusal, softRefusal, statsRefusal, earlier, refusedIf, listRefusal, likelihoodRefusal, settingsRefusal}
+use Rattle.admission.specs.Refusals.{fieldsBad, tablesBad, roomShort, softRoomShort, hardRefusal, softRefusal, statsRefusal, earlier, refusedIf, listRefusal, likelihoodRefusal, settingsRefusal}
 
 -- accepted, or a number above n
 abbrev Above : ℕ → Refusal → Type 0
@@ -61,17 +63,17 @@ above-none n = inl refl
 -- ---- chains of numbers
 -- 2 to 5, and then x
 abbrev chain : Bool → Bool → Bool → Bool → Refusal → Refusal
-chain a b c d x = cond a (numbered 2) (cond b (numbered 3) (cond c (numbered 4) (cond d (numbered 5) x)))
+chain a b c d x = cond a (numbered why.lengthsDiffer) (cond b (numbered why.listSize) (cond c (numbered why.edgeOutOfRange) (cond d (numbered why.badConfidence) x)))
 
 -- what may come after n
 module _ (n : ℕ) (x : Refusal) (h : Above n x) where
-  after-5 : n < 5 → (d : Bool) → Above n (cond d (numbered 5) x)
+  after-5 : n < 5 → (d : Bool) → Above n (cond d (numbered why.badConfidence) x)
   after-5 l d = above-if n 5 d x l h
 
-  after-4 : n < 4 → (c d : Bool) → Above n (cond c (numbered 4) (cond d (numbered 5) x))
+  after-4 : n < 4 → (c d : Bool) → Above n (cond c (numbered why.edgeOutOfRange) (cond d (numbered why.badConfidence) x))
   after-4 l c d = above-if n 4 c _ l (after-5 (omega arith) d)
 
-  after-3 : n < 3 → (b c d : Bool) → Above n (cond b (numbered 3) (cond c (numbered 4) (cond d (numbered 5) x)))
+  after-3 : n < 3 → (b c d : Bool) → Above n (cond b (numbered why.listSize) (cond c (numbered why.edgeOutOfRange) (cond d (numbered why.badConfidence) x)))
   after-3 l b c d = above-if n 3 b _ l (after-4 (omega arith) c d)
 
 -- two lists: each number applies where it applies to one of them
@@ -79,38 +81,38 @@ two-lists : (a b c d a' b' c' d' : Bool) → earlier (chain a b c d (numbered 0)
 unfolding earlier
 two-lists a b c d a' b' c' d' =
     let o = numbered 0 in
-    let x5 = cond d (numbered 5) o in
-    let y5 = cond d' (numbered 5) o in
-    let x4 = cond c (numbered 4) x5 in
-    let y4 = cond c' (numbered 4) y5 in
-    pull-both 2 (omega arith) a a' (cond b (numbered 3) x4) (cond b' (numbered 3) y4) (after-3 2 o (above-none 2) (omega arith) b c d) (after-3 2 o (above-none 2) (omega arith) b' c' d')
-    ∙ ap (cond (a || a') (numbered 2)) (pull-both 3 (omega arith) b b' x4 y4 (after-4 3 o (above-none 3) (omega arith) c d) (after-4 3 o (above-none 3) (omega arith) c' d')
-    ∙ ap (cond (b || b') (numbered 3)) (pull-both 4 (omega arith) c c' x5 y5 (after-5 4 o (above-none 4) (omega arith) d) (after-5 4 o (above-none 4) (omega arith) d')
-    ∙ ap (cond (c || c') (numbered 4)) (pull-both 5 (omega arith) d d' o o (above-none 5) (above-none 5))))
+    let x5 = cond d (numbered why.badConfidence) o in
+    let y5 = cond d' (numbered why.badConfidence) o in
+    let x4 = cond c (numbered why.edgeOutOfRange) x5 in
+    let y4 = cond c' (numbered why.edgeOutOfRange) y5 in
+    pull-both why.lengthsDiffer (omega arith) a a' (cond b (numbered why.listSize) x4) (cond b' (numbered why.listSize) y4) (after-3 2 o (above-none 2) (omega arith) b c d) (after-3 2 o (above-none 2) (omega arith) b' c' d')
+    ∙ ap (cond (a || a') (numbered why.lengthsDiffer)) (pull-both why.listSize (omega arith) b b' x4 y4 (after-4 3 o (above-none 3) (omega arith) c d) (after-4 3 o (above-none 3) (omega arith) c' d')
+    ∙ ap (cond (b || b') (numbered why.listSize)) (pull-both why.edgeOutOfRange (omega arith) c c' x5 y5 (after-5 4 o (above-none 4) (omega arith) d) (after-5 4 o (above-none 4) (omega arith) d')
+    ∙ ap (cond (c || c') (numbered why.edgeOutOfRange)) (pull-both why.badConfidence (omega arith) d d' o o (above-none 5) (above-none 5))))
 
 -- what comes after all of 2 to 5
 chain-then : (a b c d : Bool) (x y : Refusal) → Above 2 y → Above 3 y → Above 4 y → Above 5 y → earlier (chain a b c d x) y ≡ chain a b c d (earlier x y)
 chain-then a b c d x y h2 h3 h4 h5 =
-    let x5 = cond d (numbered 5) x in
-    let x4 = cond c (numbered 4) x5 in
-    pull 2 (omega arith) a (cond b (numbered 3) x4) y h2
-    ∙ ap (cond a (numbered 2)) (pull 3 (omega arith) b x4 y h3
-    ∙ ap (cond b (numbered 3)) (pull 4 (omega arith) c x5 y h4
-    ∙ ap (cond c (numbered 4)) (pull 5 (omega arith) d x y h5)))
+    let x5 = cond d (numbered why.badConfidence) x in
+    let x4 = cond c (numbered why.edgeOutOfRange) x5 in
+    pull why.lengthsDiffer (omega arith) a (cond b (numbered why.listSize) x4) y h2
+    ∙ ap (cond a (numbered why.lengthsDiffer)) (pull why.listSize (omega arith) b x4 y h3
+    ∙ ap (cond b (numbered why.listSize)) (pull why.edgeOutOfRange (omega arith) c x5 y h4
+    ∙ ap (cond c (numbered why.edgeOutOfRange)) (pull why.badConfidence (omega arith) d x y h5)))
 
 -- the likelihoods of a list: 2 and 6
-with-likelihoods : (a b c d e f : Bool) → earlier (chain a b c d (numbered 0)) (cond e (numbered 2) (cond f (numbered 6) (numbered 0))) ≡ chain (a || e) b c d (cond f (numbered 6) (numbered 0))
+with-likelihoods : (a b c d e f : Bool) → earlier (chain a b c d (numbered 0)) (cond e (numbered why.lengthsDiffer) (cond f (numbered why.badLikelihood) (numbered 0))) ≡ chain (a || e) b c d (cond f (numbered why.badLikelihood) (numbered 0))
 unfolding earlier
 with-likelihoods a b c d e f =
     let o = numbered 0 in
-    let y = cond f (numbered 6) o in
+    let y = cond f (numbered why.badLikelihood) o in
     let up : (n : ℕ) → n < 6 → Above n y = λ n l. above-if n 6 f o l (above-none n) in
-    let x5 = cond d (numbered 5) o in
-    let x4 = cond c (numbered 4) x5 in
-    pull-both 2 (omega arith) a e (cond b (numbered 3) x4) y (after-3 2 o (above-none 2) (omega arith) b c d) (up 2 (omega arith))
-    ∙ ap (cond (a || e) (numbered 2)) (pull 3 (omega arith) b x4 y (up 3 (omega arith))
-    ∙ ap (cond b (numbered 3)) (pull 4 (omega arith) c x5 y (up 4 (omega arith))
-    ∙ ap (cond c (numbered 4)) (pull 5 (omega arith) d o y (up 5 (omega arith)))))
+    let x5 = cond d (numbered why.badConfidence) o in
+    let x4 = cond c (numbered why.edgeOutOfRange) x5 in
+    pull-both why.lengthsDiffer (omega arith) a e (cond b (numbered why.listSize) x4) y (after-3 2 o (above-none 2) (omega arith) b c d) (up 2 (omega arith))
+    ∙ ap (cond (a || e) (numbered why.lengthsDiffer)) (pull why.listSize (omega arith) b x4 y (up 3 (omega arith))
+    ∙ ap (cond b (numbered why.listSize)) (pull why.edgeOutOfRange (omega arith) c x5 y (up 4 (omega arith))
+    ∙ ap (cond c (numbered why.edgeOutOfRange)) (pull why.badConfidence (omega arith) d o y (up 5 (omega arith)))))
 
 -- 7 to 9 come after every number below 7
 settings-above : (n : ℕ) (a b c : Bool) → n < 7 → Above n (settingsRefusal a b c)
@@ -121,7 +123,7 @@ settings-above n a b c l =
 -- ---- the three entry points
 module _ (L P : EdgeList) (ts : List ℕ) (B : Board) (limit : Float) where
   pub hard-parts : (m n : ℕ)
-      → earlier (refusedIf (roomShort m n) 1) (earlier (earlier (listRefusal 1 L) (listRefusal 1 P)) (settingsRefusal (transformsBad ts) (tablesBad B) (not (inRange oneF limit))))
+      → earlier (refusedIf (roomShort m n) why.roomTooShort) (earlier (earlier (listRefusal 1 L) (listRefusal 1 P)) (settingsRefusal (transformsBad ts) (tablesBad B) (not (inRange oneF limit))))
       ≡ hardRefusal L P ts B limit m n
   unfolding earlier listRefusal hardRefusal settingsRefusal
   hard-parts m n =
@@ -129,11 +131,11 @@ module _ (L P : EdgeList) (ts : List ℕ) (B : Board) (limit : Float) where
       let up : (k : ℕ) → k < 7 → Above k s = λ k l. settings-above k (transformsBad ts) (tablesBad B) (not (inRange oneF limit)) l in
       let lists = two-lists (lengthsDiffer L) (sizeBad 1 (size L)) (fieldsBad L) (confidenceBad (L .confidences)) (lengthsDiffer P) (sizeBad 1 (size P)) (fieldsBad P) (confidenceBad (P .confidences)) in
       let rest = ap (λ x. earlier x s) lists ∙ chain-then (lengthsDiffer L || lengthsDiffer P) (sizeBad 1 (size L) || sizeBad 1 (size P)) (fieldsBad L || fieldsBad P) (confidenceBad (L .confidences) || confidenceBad (P .confidences)) (numbered 0) s (up 2 (omega arith)) (up 3 (omega arith)) (up 4 (omega arith)) (up 5 (omega arith)) in
-      ap (earlier (refusedIf (roomShort m n) 1)) rest
-      ∙ pull 1 (omega arith) (roomShort m n) (numbered 0) _ (above-if 1 2 (lengthsDiffer L || lengthsDiffer P) _ (omega arith) (after-3 1 s (up 1 (omega arith)) (omega arith) (sizeBad 1 (size L) || sizeBad 1 (size P)) (fieldsBad L || fieldsBad P) (confidenceBad (L .confidences) || confidenceBad (P .confidences))))
+      ap (earlier (refusedIf (roomShort m n) why.roomTooShort)) rest
+      ∙ pull why.roomTooShort (omega arith) (roomShort m n) (numbered 0) _ (above-if 1 2 (lengthsDiffer L || lengthsDiffer P) _ (omega arith) (after-3 1 s (up 1 (omega arith)) (omega arith) (sizeBad 1 (size L) || sizeBad 1 (size P)) (fieldsBad L || fieldsBad P) (confidenceBad (L .confidences) || confidenceBad (P .confidences))))
 
   pub soft-parts : (ms us : List Float) (margin : Float) (m n k : ℕ)
-      → earlier (refusedIf (softRoomShort m n k) 1) (earlier (earlier (earlier (listRefusal 1 P) (listRefusal 1 L)) (likelihoodRefusal (size P) ms us)) (settingsRefusal (transformsBad ts) (tablesBad B) (not (inRange oneF limit) || not (inRange marginTop margin))))
+      → earlier (refusedIf (softRoomShort m n k) why.roomTooShort) (earlier (earlier (earlier (listRefusal 1 P) (listRefusal 1 L)) (likelihoodRefusal (size P) ms us)) (settingsRefusal (transformsBad ts) (tablesBad B) (not (inRange oneF limit) || not (inRange marginTop margin))))
       ≡ softRefusal P ms us L ts B limit margin m n k
   unfolding earlier listRefusal likelihoodRefusal softRefusal settingsRefusal
   soft-parts ms us margin m n k =
@@ -149,10 +151,10 @@ module _ (L P : EdgeList) (ts : List ℕ) (B : Board) (limit : Float) where
       let lists = two-lists (lengthsDiffer P) (sizeBad 1 (size P)) (fieldsBad P) (confidenceBad (P .confidences)) (lengthsDiffer L) (sizeBad 1 (size L)) (fieldsBad L) (confidenceBad (L .confidences)) in
       let both = ap (λ x. earlier x (likelihoodRefusal (size P) ms us)) lists ∙ with-likelihoods d z f c e g in
       let all = ap (λ x. earlier x s) both
-      ∙ chain-then (d || e) z f c (cond g (numbered 6) (numbered 0)) s (up 2 (omega arith)) (up 3 (omega arith)) (up 4 (omega arith)) (up 5 (omega arith))
-      ∙ ap (chain (d || e) z f c) (pull 6 (omega arith) g (numbered 0) s (up 6 (omega arith))) in
-      ap (earlier (refusedIf (softRoomShort m n k) 1)) all
-      ∙ pull 1 (omega arith) (softRoomShort m n k) (numbered 0) _ (above-if 1 2 (d || e) _ (omega arith) (after-3 1 (cond g (numbered 6) s) (above-if 1 6 g s (omega arith) (up 1 (omega arith))) (omega arith) z f c))
+      ∙ chain-then (d || e) z f c (cond g (numbered why.badLikelihood) (numbered 0)) s (up 2 (omega arith)) (up 3 (omega arith)) (up 4 (omega arith)) (up 5 (omega arith))
+      ∙ ap (chain (d || e) z f c) (pull why.badLikelihood (omega arith) g (numbered 0) s (up 6 (omega arith))) in
+      ap (earlier (refusedIf (softRoomShort m n k) why.roomTooShort)) all
+      ∙ pull why.roomTooShort (omega arith) (softRoomShort m n k) (numbered 0) _ (above-if 1 2 (d || e) _ (omega arith) (after-3 1 (cond g (numbered why.badLikelihood) s) (above-if 1 6 g s (omega arith) (up 1 (omega arith))) (omega arith) z f c))
 
 pub stats-parts : (E : EdgeList) (t row col : ℕ) (B : Board) → earlier (listRefusal 0 E) (settingsRefusal (ltb 7 t) (tablesBad B) (originBad row col)) ≡ statsRefusal E t row col B
 unfolding earlier listRefusal statsRefusal settingsRefusal

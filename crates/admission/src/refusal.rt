@@ -66,15 +66,24 @@ fn list_refusal(
     ensures { λ r. ⌜ r ≡ listRefusal least (edges (now (rows .entry)) (now (cols .entry)) (now (orientations .entry)) (now (bits .entry)) (now (confidences .entry))) ⌝ }
 {
     if checks::check::lengths_differ(rows, cols, orientations, bits, confidences) {
-        return Refusal { number: 2 };
+        return Refusal {
+            number: refusals::LENGTHS_DIFFER,
+        };
     }
     if checks::check::size_bad(least, rows.len()) {
-        return Refusal { number: 3 };
+        return Refusal {
+            number: refusals::LIST_SIZE,
+        };
     }
     if checks::check::field_bad(rows, cols, orientations, bits) {
-        return Refusal { number: 4 };
+        return Refusal {
+            number: refusals::EDGE_OUT_OF_RANGE,
+        };
     }
-    refused_if(checks::check::confidence_bad(confidences), 5)
+    refused_if(
+        checks::check::confidence_bad(confidences),
+        refusals::BAD_CONFIDENCE,
+    )
 }
 
 // Whether the likelihood slices of a list of n edges differ from it in length.
@@ -92,11 +101,13 @@ fn likelihood_refusal(n: usize, matches: &[f32], mismatches: &[f32]) -> Refusal
     ensures { λ r. ⌜ r ≡ likelihoodRefusal n (now (matches .entry)) (now (mismatches .entry)) ⌝ }
 {
     if likelihoods_differ(n, matches, mismatches) {
-        return Refusal { number: 2 };
+        return Refusal {
+            number: refusals::LENGTHS_DIFFER,
+        };
     }
     refused_if(
         checks::check::first_bad_likelihood(matches, mismatches) < matches.len(),
-        6,
+        refusals::BAD_LIKELIHOOD,
     )
 }
 
@@ -105,12 +116,16 @@ fn settings_refusal(transforms: bool, tables: bool, rest: bool) -> Refusal
     ensures { λ r. ⌜ r ≡ settingsRefusal transforms tables rest ⌝ }
 {
     if transforms {
-        return Refusal { number: 7 };
+        return Refusal {
+            number: refusals::BAD_TRANSFORM,
+        };
     }
     if tables {
-        return Refusal { number: 8 };
+        return Refusal {
+            number: refusals::BAD_TABLE,
+        };
     }
-    refused_if(rest, 9)
+    refused_if(rest, refusals::BAD_SETTING)
 }
 
 // Whether an origin given to match statistics is off the board.
@@ -144,7 +159,7 @@ pub fn hard_refusal(
         (edges (now (prows .entry)) (now (pcols .entry)) (now (porientations .entry)) (now (pbits .entry)) (now (pconfidences .entry)))
         (now (transforms .entry)) (tables (now (h .entry)) (now (v .entry))) limit counts weights ⌝ }
 {
-    let room = refused_if(room_short(counts, weights), 1);
+    let room = refused_if(room_short(counts, weights), refusals::ROOM_TOO_SHORT);
     let logical = list_refusal(1, lrows, lcols, lorientations, lbits, lconfidences);
     let physical = list_refusal(1, prows, pcols, porientations, pbits, pconfidences);
     let settings = settings_refusal(
@@ -194,7 +209,10 @@ pub fn soft_refusal(
         (edges (now (lrows .entry)) (now (lcols .entry)) (now (lorientations .entry)) (now (lbits .entry)) (now (lconfidences .entry)))
         (now (transforms .entry)) (tables (now (h .entry)) (now (v .entry))) limit margin counts weights sums ⌝ }
 {
-    let room = refused_if(soft_room_short(counts, weights, sums), 1);
+    let room = refused_if(
+        soft_room_short(counts, weights, sums),
+        refusals::ROOM_TOO_SHORT,
+    );
     let physical = list_refusal(1, prows, pcols, porientations, pbits, pconfidences);
     let logical = list_refusal(1, lrows, lcols, lorientations, lbits, lconfidences);
     let likelihoods = likelihood_refusal(prows.len(), matches, mismatches);

@@ -14,7 +14,8 @@ use Rattle.laws.specs.Weights.{oneF}
 use Rattle.board.specs.Hits.{EdgeList, Board, size}
 use Rattle.sums.specs.Sums.{Likelihoods}
 use Rattle.refusals.specs.declared.Refusal.{Refusal}
-use Rattle.admission.specs.Refusals.{numbered, hardRefusal, softRefusal, statsRefusal}
+use Rattle.refusals.specs.Numbers.{numbered}
+use Rattle.admission.specs.Refusals.{hardRefusal, softRefusal, statsRefusal}
 use Rattle.scan.specs.declared.scan.Choice.{Choice}
 use Rattle.scan.specs.declared.scan.Choice.the-variants as choice
 use Rattle.scan.specs.declared.scan.Candidate.{Candidate}

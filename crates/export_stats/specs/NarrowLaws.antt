@@ -5,14 +5,16 @@ use Prim.Native.Nat.{ℕ}
 use lib.Dec.{ltb, eqb}
 use Rattle.board.specs.Hits.{EdgeList, Board, size}
 use Rattle.checks.specs.Checks.{lengthsDiffer, sizeBad, confidenceBad}
-use Rattle.admission.specs.Refusals.{numbered, fieldsBad, statsRefusal}
+use Rattle.refusals.specs.Numbers.{numbered}
+use Rattle.refusals.specs.Numbers as why
+use Rattle.admission.specs.Refusals.{fieldsBad, statsRefusal}
 use Rattle.answer.specs.declared.MatchStats.{MatchStats}
 use Rattle.answer.specs.declared.StatsAnswer.{StatsAnswer}
 use Rattle.stats.specs.Stats.{statsAnswer, statsOf, orCounted}
 use Rattle.flat.specs.Flat.{narrow}
 
 -- a transform number above 7 is refused whatever it is, so statistics of the narrowed number are those of the number
-same-refusal : (a b c d : Bool) (s u : MatchStats) → let r = cond a (numbered 2) (cond b (numbered 3) (cond c (numbered 4) (cond d (numbered 5) (numbered 7)))) in
+same-refusal : (a b c d : Bool) (s u : MatchStats) → let r = cond a (numbered why.lengthsDiffer) (cond b (numbered why.listSize) (cond c (numbered why.edgeOutOfRange) (cond d (numbered why.badConfidence) (numbered why.badTransform)))) in
     orCounted r (eqb (r .number) 0) s ≡ orCounted r (eqb (r .number) 0) u
 same-refusal true b c d s u = refl
 same-refusal false true c d s u = refl

@@ -11,7 +11,7 @@ use Rattle.laws.specs.Weights.{zeroF, oneF}
 use Rattle.laws.specs.Cleared.{cleared, SameBeyond}
 use Rattle.board.specs.Hits.{EdgeList, Board, size}
 use Rattle.refusals.specs.declared.Refusal.{Refusal}
-use Rattle.admission.specs.Refusals.{numbered, hardRefusal}
+use Rattle.admission.specs.Refusals.{hardRefusal}
 use Rattle.scan.specs.declared.scan.Candidate.{Candidate}
 use Rattle.scan.specs.declared.scan.RunnerUp.{RunnerUp}
 use Rattle.hard.specs.declared.select.Selection.{Selection}
@@ -22,15 +22,15 @@ use Rattle.hard.specs.Select.{selection}
 use Rattle.answer.specs.declared.Decoded.{Decoded}
 use Rattle.answer.specs.declared.Answer.{Answer}
 use Rattle.answer.specs.declared.Answer.the-variants.{Found, Refused}
-use Rattle.verdict.specs.Verdict.{refusedBy, pick, judged}
+use Rattle.verdict.specs.Verdict.{pick, judged}
 
 -- "select on the logical list with the limit, then on the physical list with limit 1; origin and matrix must agree; then the gate on the logical list"
 abbrev pub afterPhysical : EdgeList → List ℕ → Candidate → RunnerUp → Selection → Answer
-afterPhysical L ts w next (sel.Refused n) = refusedBy n
+afterPhysical L ts w next (sel.Refused r) = Refused r
 afterPhysical L ts w next (sel.Selected p other) = judged (getD ts (w .place) 0) w next (getD ts (p .place) 0) p (size L)
 
 abbrev pub afterLogical : EdgeList → EdgeList → List ℕ → Board → Selection → Answer
-afterLogical L P ts B (sel.Refused n) = refusedBy n
+afterLogical L P ts B (sel.Refused r) = Refused r
 afterLogical L P ts B (sel.Selected w next) = afterPhysical L ts w next (selection B P ts oneF)
 
 -- what an accepted hard call answers

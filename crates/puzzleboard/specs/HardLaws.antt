@@ -28,7 +28,7 @@ use Rattle.hard.specs.SelectLaws.{select-beyond}
 use Rattle.hard.specs.SelectTheorems.{selected-in-range}
 use Rattle.answer.specs.declared.Answer.{Answer}
 use Rattle.answer.specs.declared.Answer.the-variants.{Found, Refused}
-use Rattle.verdict.specs.Verdict.{refusedBy, judged}
+use Rattle.verdict.specs.Verdict.{judged}
 use Rattle.puzzleboard.specs.Hard.{afterPhysical, afterLogical, hardCore, hardAnswer, left, HardDone, CoreDone}
 
 -- ---- the eight matrices differ
@@ -98,11 +98,11 @@ module _ (L P : EdgeList) (ts : List ℕ) (B : Board) (limit : Float) (c : List 
 
   -- ---- the three ways in which the core ends
   module _ (c' : List ℕ) (w' : List Float) (r : Selection) (D : SelectDone B L ts limit c c' w w' r) where
-    pub core-refused : (n : ℕ) (a : Answer) → r ≡ sel.Refused n → a ≡ refusedBy n → CoreDone L P ts B limit c c' w w' a
+    pub core-refused : (n : Refusal) → r ≡ sel.Refused n → CoreDone L P ts B limit c c' w w' (Refused n)
     unfolding hardCore
-    core-refused n a k e =
+    core-refused n k =
         let s = beyond L limit c c' w w' r ready-logical D in
-        record { answer = e ∙ ap (afterLogical L P ts B) (sym k ∙ D .answer); counts = s .0; weights = s .1 }
+        record { answer = ap (afterLogical L P ts B) (sym k ∙ D .answer); counts = s .0; weights = s .1 }
 
     module _ (x : Candidate) (next : RunnerUp) (k : r ≡ sel.Selected x next) (c'' : List ℕ) (w'' : List Float) (q : Selection) (F : SelectDone B P ts oneF c' c'' w' w'' q) where
       both : SameBeyond 0 3006 c c'' × SameBeyond nan 3006 w w''
@@ -115,8 +115,8 @@ module _ (L P : EdgeList) (ts : List ℕ) (B : Board) (limit : Float) (c : List 
       unfolding hardCore
       core-answer = ap (afterPhysical L ts x next) (F .answer) ∙ ap (afterLogical L P ts B) (sym k ∙ D .answer)
 
-      pub core-physical-refused : (n : ℕ) (a : Answer) → q ≡ sel.Refused n → a ≡ refusedBy n → CoreDone L P ts B limit c c'' w w'' a
-      core-physical-refused n a g e = record { answer = e ∙ ap (afterPhysical L ts x next) (sym g) ∙ core-answer; counts = both .0; weights = both .1 }
+      pub core-physical-refused : (n : Refusal) → q ≡ sel.Refused n → CoreDone L P ts B limit c c'' w w'' (Refused n)
+      core-physical-refused n g = record { answer = ap (afterPhysical L ts x next) (sym g) ∙ core-answer; counts = both .0; weights = both .1 }
 
       pub core-judged : (p : Candidate) (other : RunnerUp) (a : Answer) → q ≡ sel.Selected p other → a ≡ judged (getD ts (x .place) 0) x next (getD ts (p .place) 0) p (size L) → CoreDone L P ts B limit c c'' w w'' a
       core-judged p other a g e = record { answer = e ∙ ap (afterPhysical L ts x next) (sym g) ∙ core-answer; counts = both .0; weights = both .1 }

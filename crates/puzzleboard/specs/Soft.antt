@@ -13,6 +13,7 @@ use Rattle.board.specs.Hits.{EdgeList, Board, size}
 use Rattle.board.specs.Sides.{periodOf}
 use Rattle.tables.specs.Room.{TablesBuilt}
 use Rattle.sums.specs.Sums.{Likelihoods}
+use Rattle.refusals.specs.Numbers as why
 use Rattle.admission.specs.Refusals.{softRefusal}
 use Rattle.scan.specs.declared.scan.Candidate.{Candidate}
 use Rattle.scan.specs.declared.scan.RunnerUp.{RunnerUp}
@@ -59,19 +60,19 @@ module _ (P L : EdgeList) (ts : List ℕ) (B : Board) (limit : Float) where
       pick (eqb n 0) (Found (softDecodedOf t best (figuresOf B P t (best .first .row) (best .first .col)) (size P) next)) (refusedBy n)
 
   abbrev pub afterHard : SoftBest → Selection → Answer
-  afterHard best (sel.Refused n) = refusedBy n
+  afterHard best (sel.Refused r) = Refused r
   afterHard best (sel.Selected w next) = softJudged best w next
 
   -- "Margin = (first - second) / edges. Below the soft margin: refused."
   abbrev pub afterSoft : Float → SoftChoice → Answer
-  afterSoft least Nothing = refusedBy 14
+  afterSoft least Nothing = refusedBy why.softMargin
   afterSoft least (Chosen first second) =
-      pick (belowMargin (softMargin first second (size P)) least) (refusedBy 14) (afterHard (bestOf first second (size P)) (selection B L ts limit))
+      pick (belowMargin (softMargin first second (size P)) least) (refusedBy why.softMargin) (afterHard (bestOf first second (size P)) (selection B L ts limit))
 
 -- what an accepted soft call answers, with the soft margin `least`
 unfoldable pub softCore : EdgeList → Likelihoods → EdgeList → List ℕ → Board → Float → Float → Answer
 unfolding softJudged
-softCore P X L ts B limit least = pick (noConfidence P) (refusedBy 10) (afterSoft P L ts B limit least (softSelection B P X ts))
+softCore P X L ts B limit least = pick (noConfidence P) (refusedBy why.noConfidence) (afterSoft P L ts B limit least (softSelection B P X ts))
 
 -- the answer for all inputs: refusals 1 to 9 come first
 unfoldable pub softAnswer : EdgeList → Likelihoods → EdgeList → List ℕ → Board → Float → Float → ℕ → ℕ → ℕ → Answer

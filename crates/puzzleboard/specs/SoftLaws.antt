@@ -22,6 +22,7 @@ use Rattle.board.specs.Domain.{ListOk, BoardOk}
 use Rattle.tables.specs.Room.{used, TablesReady, TablesBuilt}
 use Rattle.sums.specs.Sums.{Likelihoods, LikelihoodsOk}
 use Rattle.refusals.specs.declared.Refusal.{Refusal}
+use Rattle.refusals.specs.Numbers as why
 use Rattle.admission.specs.Refusals.{softRefusal}
 use Rattle.admission.specs.Accepted.{HardAccepted, SoftAccepted}
 use Rattle.scan.specs.declared.scan.Candidate.{Candidate}
@@ -97,9 +98,9 @@ module _ (L P : EdgeList) (ts : List ℕ) (B : Board) (limit : Float) (c : List 
   pub logical-rooms : SameBeyond 0 3006 c c' × SameBeyond nan 3006 w w'
   logical-rooms = beyond L P ts B limit c w A L limit c c' w w' r (ready-logical L P ts B limit c w A) D
 
-  pub logical-refused : (n : ℕ) (a : Answer) → r ≡ sel.Refused n → a ≡ refusedBy n → LogicalDone P L ts B limit best c c' w w' a
+  pub logical-refused : (n : Refusal) → r ≡ sel.Refused n → LogicalDone P L ts B limit best c c' w w' (Refused n)
   unfolding softJudged
-  logical-refused n a k e = record { answer = e ∙ ap (afterHard P L ts B limit best) (sym k ∙ D .answer); counts = logical-rooms .0; weights = logical-rooms .1 }
+  logical-refused n k = record { answer = ap (afterHard P L ts B limit best) (sym k ∙ D .answer); counts = logical-rooms .0; weights = logical-rooms .1 }
 
   -- the tables of its transform can be built
   pub figures-ready : best .first .place < length ts → TablesReady B P (getD ts (best .first .place) 0) c' w'
@@ -179,7 +180,7 @@ module _ (P : EdgeList) (X : Likelihoods) (L : EdgeList) (ts : List ℕ) (B : Bo
   }
 
   -- no confidence
-  pub core-none : (r : Answer) → eq (totalConfidence P) zeroF ≡ true → r ≡ refusedBy 10 → SoftCoreDone P X L ts B limit least c c w w a a r
+  pub core-none : (r : Answer) → eq (totalConfidence P) zeroF ≡ true → r ≡ refusedBy why.noConfidence → SoftCoreDone P X L ts B limit least c c w w a a r
   unfolding softCore noConfidence
   core-none r h e = record { answer = e ∙ sym (rw h); counts = beyond-refl 0 3006 c; weights = beyond-refl nan 3006 w; sums = beyond-refl (pos 0) 5010 a }
 
@@ -198,12 +199,12 @@ module _ (P : EdgeList) (X : Likelihoods) (L : EdgeList) (ts : List ℕ) (B : Bo
     core-answer y e = ap (afterSoft P L ts B limit least) (sym e ∙ choice-told) ∙ sym (rw h)
 
     -- no two candidates
-    pub core-nothing : (r : Answer) → x ≡ Nothing → r ≡ refusedBy 14 → SoftCoreDone P X L ts B limit least c c w w a a' r
+    pub core-nothing : (r : Answer) → x ≡ Nothing → r ≡ refusedBy why.softMargin → SoftCoreDone P X L ts B limit least c c w w a a' r
     core-nothing r k e = record { answer = e ∙ core-answer Nothing k; counts = beyond-refl 0 3006 c; weights = beyond-refl nan 3006 w; sums = sums-beyond }
 
     module _ (first second : SoftCandidate) (k : x ≡ Chosen first second) (m : Float) (f : m ≡ softMargin first second (size P)) where
       -- the margin is too small
-      pub core-below : (b : Bool) (r : Answer) → b ≡ belowMargin m least → b ≡ true → r ≡ refusedBy 14 → SoftCoreDone P X L ts B limit least c c w w a a' r
+      pub core-below : (b : Bool) (r : Answer) → b ≡ belowMargin m least → b ≡ true → r ≡ refusedBy why.softMargin → SoftCoreDone P X L ts B limit least c c w w a a' r
       core-below b r d t e =
           let q : belowMargin (softMargin first second (size P)) least ≡ true = ap (λ (z : Float). belowMargin z least) (sym f) ∙ sym d ∙ t in
           record { answer = e ∙ sym (rw q) ∙ core-answer (Chosen first second) k; counts = beyond-refl 0 3006 c; weights = beyond-refl nan 3006 w; sums = sums-beyond }

@@ -38,6 +38,8 @@ use Rattle.soft.specs.BestPlacingUnique.{best-two-only}
 use Rattle.margin.specs.Margin.{softMargin, belowMargin}
 use Rattle.soft.specs.Select.{softSelection}
 use Rattle.soft.specs.SelectLaws.{scoreAtKey, soft-best-edges}
+use Rattle.refusals.specs.Numbers.{numbered}
+use Rattle.refusals.specs.Numbers as why
 use Rattle.answer.specs.declared.Decoded.{Decoded}
 use Rattle.answer.specs.declared.Answer.{Answer}
 use Rattle.answer.specs.declared.Answer.the-variants.{Found, Refused}
@@ -166,7 +168,7 @@ module _ (P : EdgeList) (X : Likelihoods) (L : EdgeList) (ts : List ℕ) (B : Bo
 
     by-verdict : (x : Candidate) (r : RunnerUp) (v : Bool) → selection B L ts limit ≡ sel.Selected x r → eqb (verdict x r) 0 ≡ v → pick v (Found (answer r)) (refusedBy (verdict x r)) ≡ Found d → SoftAnswered P X L ts B limit least d
     by-verdict x r true e h k = soft-answered x r e (verdict-passed t (candidate B P X ts Q) (getD ts (x .place) 0) x r (size L) (eqb-true (verdict x r) 0 h)) k
-    by-verdict x r false e h k = absurd (no-square d (verdict x r) k)
+    by-verdict x r false e h k = absurd (no-square d (numbered (verdict x r)) k)
 
     by-logical : (q : Selection) → selection B L ts limit ≡ q → afterHard P L ts B limit (bestOf (candidate B P X ts Q) (candidate B P X ts R) (size P)) q ≡ Found d → SoftAnswered P X L ts B limit least d
     unfolding softJudged
@@ -174,12 +176,12 @@ module _ (P : EdgeList) (X : Likelihoods) (L : EdgeList) (ts : List ℕ) (B : Bo
     by-logical (sel.Selected x r) e h = by-verdict x r (eqb (verdict x r) 0) e refl h
 
   by-margin : (d : Decoded) (Q R : Placing) → BestByLikelihood B P X ts Q R → (v : Bool) → belowMargin (marginOf B P X ts Q R) least ≡ v
-      → pick v (refusedBy 14) (afterHard P L ts B limit (bestOf (candidate B P X ts Q) (candidate B P X ts R) (size P)) (selection B L ts limit)) ≡ Found d → SoftAnswered P X L ts B limit least d
-  by-margin d Q R b true e h = absurd (no-square d 14 h)
+      → pick v (refusedBy why.softMargin) (afterHard P L ts B limit (bestOf (candidate B P X ts Q) (candidate B P X ts R) (size P)) (selection B L ts limit)) ≡ Found d → SoftAnswered P X L ts B limit least d
+  by-margin d Q R b true e h = absurd (no-square d (numbered why.softMargin) h)
   by-margin d Q R b false e h = by-logical d Q R b e (selection B L ts limit) refl h
 
-  by-confidence : (d : Decoded) (v : Bool) → pick v (refusedBy 10) (afterSoft P L ts B limit least (softSelection B P X ts)) ≡ Found d → SoftAnswered P X L ts B limit least d
-  by-confidence d true h = absurd (no-square d 10 h)
+  by-confidence : (d : Decoded) (v : Bool) → pick v (refusedBy why.noConfidence) (afterSoft P L ts B limit least (softSelection B P X ts)) ≡ Found d → SoftAnswered P X L ts B limit least d
+  by-confidence d true h = absurd (no-square d (numbered why.noConfidence) h)
   by-confidence d false h =
       let Q = first-placing in
       let R = second-placing in

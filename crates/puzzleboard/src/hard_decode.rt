@@ -8,7 +8,6 @@ ghost use Rattle.puzzleboard.specs.Hard.{CoreDone, HardDone};
 use answer::Answer;
 use hard::select::Selection;
 use verdict::verdict::judge;
-use verdict::verdict::refuse;
 
 // What an accepted hard call answers: the logical list with the limit, the physical list with limit 1, then both judged. The room is left as it was used.
 fn hard_core<'a>(
@@ -53,7 +52,7 @@ fn hard_core<'a>(
         weights,
     );
     match logical {
-        Selection::Refused(number) => refuse(number),
+        Selection::Refused(refusal) => Answer::Refused(refusal),
         Selection::Selected(w, next) => {
             let physical = hard::select::select(
                 prows,
@@ -69,7 +68,7 @@ fn hard_core<'a>(
                 weights,
             );
             match physical {
-                Selection::Refused(number) => refuse(number),
+                Selection::Refused(refusal) => Answer::Refused(refusal),
                 Selection::Selected(p, _) => {
                     let at = w.place;
                     let other = p.place;

@@ -85,7 +85,7 @@ fn figures<'a>(
     )
 }
 
-// The soft winner with its margin, against hard selection on the logical list: refused by that, 15, 13, or found. The room is left as it was used.
+// The soft winner with its margin, against hard selection on the logical list: refused by that, the winners differ, not far ahead, or found. The room is left as it was used.
 fn soft_logical<'a>(
     best: SoftBest,
     prows: &[i32],
@@ -130,7 +130,7 @@ fn soft_logical<'a>(
         weights,
     );
     match logical {
-        Selection::Refused(number) => refuse(number),
+        Selection::Refused(refusal) => Answer::Refused(refusal),
         Selection::Selected(w, next) => {
             let at = best.first.place;
             let other = w.place;
@@ -196,7 +196,7 @@ fn soft_core<'a>(
 {
     let conf = figures::total_confidence(pconfidences);
     if conf == 0.0 {
-        return refuse(10);
+        return refuse(refusals::NO_CONFIDENCE);
     }
     let scan = soft::select::scan_transforms(
         prows,
@@ -212,11 +212,11 @@ fn soft_core<'a>(
         sums,
     );
     match margin::scan::finish(scan) {
-        SoftChoice::Nothing => refuse(14),
+        SoftChoice::Nothing => refuse(refusals::SOFT_MARGIN),
         SoftChoice::Chosen { first, second } => {
             let lead = margin::margin::soft_margin(first, second, prows.len() as u32);
             if margin::margin::below(lead, margin) {
-                return refuse(14);
+                return refuse(refusals::SOFT_MARGIN);
             }
             let best = SoftBest {
                 first,

@@ -112,6 +112,6 @@ fn listed(transforms: &[u8], place: usize) -> u8 {
 pub(crate) fn words_of_selection(s: Selection, transforms: &[u8], edges: u32) -> [u32; 15] {
     match s {
         Selection::Selected(w, next) => { selected(listed(transforms, w.place), w, next, edges) }
-        Selection::Refused(number) => refused(number),
+        Selection::Refused(r) => refused(r.number),
     }
 }

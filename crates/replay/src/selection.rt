@@ -34,7 +34,7 @@ pub(crate) fn select<'a>(
         weights.len(),
     );
     if refusal.number != 0 {
-        return Selection::Refused(refusal.number);
+        return Selection::Refused(refusal);
     }
     hard::select::select(
         rows,

@@ -26,11 +26,11 @@ pub fn soft_verdict(t: u8, best: SoftBest, s: u8, w: Candidate, next: RunnerUp, 
                 if figures::passes(edges, w.hits, next.hits) {
                     return 0;
                 }
-                return 13;
+                return refusals::NOT_FAR_AHEAD;
             }
         }
     }
-    15
+    refusals::SOFT_HARD_DISAGREE
 }
 
 // What a found soft answer says: the soft winner with its total and margin, the physical list's figures, and the hard runner-up.

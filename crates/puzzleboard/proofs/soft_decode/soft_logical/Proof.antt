@@ -39,9 +39,6 @@ select-requires c κs = let s = c .before .before .before .before .before .befor
 enum-known-logical : tie.Need-enum-known-logical
 enum-known-logical c = search needs
 
-refuse-requires : tie.Need-refuse-requires
-refuse-requires c κs = search needs
-
 enum-known-logical-2 : tie.Need-enum-known-logical-2
 enum-known-logical-2 c = search needs
 
@@ -57,8 +54,8 @@ cast-soft-verdict c = let d = c .before .before .before .before .before .before 
 soft-verdict-requires : tie.Need-soft-verdict-requires
 soft-verdict-requires c κs = search needs
 
-refuse-requires-2 : tie.Need-refuse-requires-2
-refuse-requires-2 c κs = search needs
+refuse-requires : tie.Need-refuse-requires
+refuse-requires c κs = search needs
 
 same-length : tie.Need-same-length
 same-length c = search needs
@@ -67,7 +64,7 @@ same-length-2 : tie.Need-same-length-2
 same-length-2 c = search needs
 
 returns : tie.Need-returns
-returns c = let d = c .before .before .before .before .before .before .before .before .before .before .before .before in let s = st d in let l = c .before .before .before .before .before .before .logical2 .given in let v = c .before .before .soft-verdict in verdict-refused (L s) (P s) (ts s) (B s) (s .args .limit) (now (s .args .counts)) (now (s .args .weights)) (s .pre .0) (s .args .best) _ _ (d .select .result) (d .select .ensures) (l .0 .0) (l .0 .1 .0) (l .1) (v .result) (v .ensures) _ (c .before .if1 .taken) (c .refuse2 .ensures)
+returns c = let d = c .before .before .before .before .before .before .before .before .before .before .before .before in let s = st d in let l = c .before .before .before .before .before .before .logical2 .given in let v = c .before .before .soft-verdict in verdict-refused (L s) (P s) (ts s) (B s) (s .args .limit) (now (s .args .counts)) (now (s .args .weights)) (s .pre .0) (s .args .best) _ _ (d .select .result) (d .select .ensures) (l .0 .0) (l .0 .1 .0) (l .1) (v .result) (v .ensures) _ (c .before .if1 .taken) (c .refuse .ensures)
 
 figures-requires : tie.Need-figures-requires
 figures-requires c κs = let d = c .before .before .before .before .before .before .before .before .before .before .before .before .before in let s = st d in figures-ready (L s) (P s) (ts s) (B s) (s .args .limit) (now (s .args .counts)) (now (s .args .weights)) (s .pre .0) (s .args .best) _ _ (d .select .result) (d .select .ensures) (s .pre .1)
@@ -85,7 +82,7 @@ same-length-4 : tie.Need-same-length-4
 same-length-4 c = search needs
 
 returns-2 : tie.Need-returns-2
-returns-2 c = let d = c .before .before .before .before .before .before .before .before in let s = st d in let l = c .before .before .logical .given in logical-refused (L s) (P s) (ts s) (B s) (s .args .limit) (now (s .args .counts)) (now (s .args .weights)) (s .pre .0) (s .args .best) _ _ (d .select .result) (d .select .ensures) (l .0 .0) _ (l .1) (c .refuse .ensures)
+returns-2 c = let d = c .before .before .before .before .before .before .before in let s = st d in let l = c .before .logical .given in logical-refused (L s) (P s) (ts s) (B s) (s .args .limit) (now (s .args .counts)) (now (s .args .weights)) (s .pre .0) (s .args .best) _ _ (d .select .result) (d .select .ensures) (l .0 .0) (l .1)
 
 returns-3 : tie.Need-returns-3
 returns-3 c = let d = c .before .before .before .before .before .before .before .before .before .before .before .before .before .before .before .before .before .before .before in let s = st d in let l = c .before .before .before .before .before .before .before .before .before .before .before .before .before .logical2 .given in let v = c .before .before .before .before .before .before .before .before .before .soft-verdict in verdict-found (L s) (P s) (ts s) (B s) (s .args .limit) (now (s .args .counts)) (now (s .args .weights)) (s .pre .0) (s .args .best) _ _ (d .select .result) (d .select .ensures) (l .0 .0) (l .0 .1 .0) (l .1) (v .result) (v .ensures) _ _ _ (c .before .before .before .before .before .figures .ensures) _ (c .before .before .before .before .before .before .before .before .if1 .left) (c .soft-decoded .ensures)
@@ -97,4 +94,4 @@ same-length-6 : tie.Need-same-length-6
 same-length-6 c = returns-3 c .weights .len
 
 pub soft-logical-spec : {M : Type 1} → statement M
-soft-logical-spec = tie.close (tie.spec select-requires enum-known-logical refuse-requires enum-known-logical-2 shared-slice-read-t shared-slice-read-s cast-soft-verdict soft-verdict-requires refuse-requires-2 same-length same-length-2 returns figures-requires cast-soft-decoded soft-decoded-requires same-length-3 same-length-4 returns-2 same-length-5 same-length-6 returns-3)
+soft-logical-spec = tie.close (tie.spec select-requires enum-known-logical enum-known-logical-2 shared-slice-read-t shared-slice-read-s cast-soft-verdict soft-verdict-requires refuse-requires same-length same-length-2 returns figures-requires cast-soft-decoded soft-decoded-requires same-length-3 same-length-4 returns-2 same-length-5 same-length-6 returns-3)

@@ -13,6 +13,7 @@ use answer::Answer;
 use hard::select::Selection;
 use margin::scan::SoftCandidate;
 use margin::scan::SoftChoice;
+use refusals::Admission;
 use scan::scan::Candidate;
 use scan::scan::RunnerUp;
 use stats::stats::HitsWeight;
@@ -136,25 +137,27 @@ fn soft_logical<'a>(
             let other = w.place;
             let t = transforms[at];
             let s = transforms[other];
-            let number = soft_verdict(t, best, s, w, next, lrows.len() as u32);
-            if number != 0 {
-                return refuse(number);
+            let verdict = soft_verdict(t, best, s, w, next, lrows.len() as u32);
+            match verdict {
+                Admission::Refused(refusal) => Answer::Refused(refusal),
+                Admission::Accepted => {
+                    let own = figures(
+                        prows,
+                        pcols,
+                        porientations,
+                        pbits,
+                        pconfidences,
+                        t,
+                        best.first.row,
+                        best.first.col,
+                        h,
+                        v,
+                        counts,
+                        weights,
+                    );
+                    Answer::Found(soft_decoded(t, best, own, prows.len() as u32, next))
+                }
             }
-            let own = figures(
-                prows,
-                pcols,
-                porientations,
-                pbits,
-                pconfidences,
-                t,
-                best.first.row,
-                best.first.col,
-                h,
-                v,
-                counts,
-                weights,
-            );
-            Answer::Found(soft_decoded(t, best, own, prows.len() as u32, next))
         }
     }
 }
@@ -277,7 +280,7 @@ pub fn decode_soft<'a>(
         (now (transforms .entry)) (tables (now (h .entry)) (now (v .entry))) limit margin
         (now (counts .entry)) (now (counts .exit)) (now (weights .entry)) (now (weights .exit)) (now (sums .entry)) (now (sums .exit)) r ⌝ }
 {
-    let refusal = admission::refusal::soft_refusal(
+    let admitted = admission::refusal::soft_admission(
         prows,
         pcols,
         porientations,
@@ -299,33 +302,35 @@ pub fn decode_soft<'a>(
         weights.len(),
         sums.len(),
     );
-    if refusal.number != 0 {
-        return Answer::Refused(refusal);
+    match admitted {
+        Admission::Refused(refusal) => Answer::Refused(refusal),
+        Admission::Accepted => {
+            let answer = soft_core(
+                prows,
+                pcols,
+                porientations,
+                pbits,
+                pconfidences,
+                matches,
+                mismatches,
+                lrows,
+                lcols,
+                lorientations,
+                lbits,
+                lconfidences,
+                transforms,
+                h,
+                v,
+                limit,
+                margin,
+                counts,
+                weights,
+                sums,
+            );
+            laws::clear_u32(counts, 3006);
+            laws::clear_f32(weights, 3006);
+            laws::clear_i64(sums, 5010);
+            answer
+        }
     }
-    let answer = soft_core(
-        prows,
-        pcols,
-        porientations,
-        pbits,
-        pconfidences,
-        matches,
-        mismatches,
-        lrows,
-        lcols,
-        lorientations,
-        lbits,
-        lconfidences,
-        transforms,
-        h,
-        v,
-        limit,
-        margin,
-        counts,
-        weights,
-        sums,
-    );
-    laws::clear_u32(counts, 3006);
-    laws::clear_f32(weights, 3006);
-    laws::clear_i64(sums, 5010);
-    answer
 }

@@ -1,4 +1,4 @@
--- Refusal 0 means accepted: the named facts that the decoders may use of a call that passed all checks.
+-- What an accepted call is: the named facts that the decoders may use of a call that passed all checks.
 use mathlib.Core.Path.{_≡_, refl, sym, ap, _∙_}
 use mathlib.Core.Bool.{Bool, true, false, not, _&&_, _||_, cond, true≢false}
 use mathlib.Core.List.{List}
@@ -17,9 +17,12 @@ use Rattle.laws.specs.WeightLaws.{confidence}
 use Rattle.board.specs.Hits.{EdgeList, Board, size}
 use Rattle.board.specs.Domain.{ListOk, Patterns, BoardOk}
 use Rattle.likelihood.specs.Likelihood.{acceptable}
-use Rattle.refusals.specs.declared.Refusal.{Refusal}
+use Rattle.refusals.specs.declared.Admission.{Admission}
+use Rattle.refusals.specs.declared.Admission.the-variants.{Accepted, Refused}
+use Rattle.refusals.specs.Numbers.{numbered}
+use Rattle.refusals.specs.Numbers as why
 use Rattle.checks.specs.Checks.{far, farAt, badCoordinate, badByte, inRange, marginTop, badConfidence, badLikelihood, firstBadCoordinate, firstBadByte, firstBadConfidence, firstBadLikelihood, lengthsDiffer, sizeBad, fieldBad, confidenceBad, likelihoodsDiffer, likelihoodBad, transformsBad, tableBad, originBad}
-use Rattle.admission.specs.Refusals.{numbered, fieldsBad, tablesBad, roomShort, softRoomShort, hardRefusal, softRefusal, statsRefusal}
+use Rattle.admission.specs.Refusals.{fieldsBad, tablesBad, roomShort, softRoomShort, hardAdmission, softAdmission, statsAdmission}
 
 -- ---- lists without a bad place
 none-bad : (p : ℕ → Bool) (n k : ℕ) → ltb k n ≡ false → k ≡ Rattle.laws.specs.First.first p n → (i : ℕ) → i < n → p i ≡ false
@@ -112,10 +115,10 @@ period-167 ps h = eqb-true _ _ (not-false _ (or-false (not (eqb (length ps) 167)
 pub board-ok : (B : Board) → tablesBad B ≡ false → BoardOk B
 board-ok B h = let a = or-false (tableBad (B .h)) (tableBad (B .v)) h in record { h = patterns-ok (B .h) (a .0); v = patterns-ok (B .v) (a .1) }
 
--- ---- chains of tests: nothing refused means that no test holds
-rest : (t : Bool) (k : ℕ) (r : Refusal) → 0 < k → cond t (numbered k) r .number ≡ 0 → (t ≡ false) × (r .number ≡ 0)
-rest true k r p h = absurd (omega arith)
-rest false k r p h = (refl, h)
+-- ---- chains of tests: accepted means that no test holds
+rest : (t : Bool) (k : ℕ) (r : Admission) → cond t (Refused (numbered k)) r ≡ Accepted → (t ≡ false) × (r ≡ Accepted)
+rest true k r h = let z : _≡_ {A = ℕ} 0 1 = cc in absurd (omega arith)
+rest false k r h = (refl, h)
 
 -- match statistics
 pub record StatsAccepted (E : EdgeList) (t row col : ℕ) (B : Board) : Type 0 where
@@ -124,16 +127,16 @@ pub record StatsAccepted (E : EdgeList) (t row col : ℕ) (B : Board) : Type 0 w
   pub board : BoardOk B
   pub origin : (row ≤ 500) × (col ≤ 500)
 
-pub stats-accepted : (E : EdgeList) (t row col : ℕ) (B : Board) → statsRefusal E t row col B .number ≡ 0 → StatsAccepted E t row col B
-unfolding statsRefusal originBad
+pub stats-accepted : (E : EdgeList) (t row col : ℕ) (B : Board) → statsAdmission E t row col B ≡ Accepted → StatsAccepted E t row col B
+unfolding statsAdmission originBad
 stats-accepted E t row col B h =
-    let a2 = rest _ 2 _ (omega arith) h in
-    let a3 = rest _ 3 _ (omega arith) (a2 .1) in
-    let a4 = rest _ 4 _ (omega arith) (a3 .1) in
-    let a5 = rest _ 5 _ (omega arith) (a4 .1) in
-    let a7 = rest _ 7 _ (omega arith) (a5 .1) in
-    let a8 = rest _ 8 _ (omega arith) (a7 .1) in
-    let a9 = rest _ 9 _ (omega arith) (a8 .1) in
+    let a2 = rest _ why.lengthsDiffer _ h in
+    let a3 = rest _ why.listSize _ (a2 .1) in
+    let a4 = rest _ why.edgeOutOfRange _ (a3 .1) in
+    let a5 = rest _ why.badConfidence _ (a4 .1) in
+    let a7 = rest _ why.badTransform _ (a5 .1) in
+    let a8 = rest _ why.badTable _ (a7 .1) in
+    let a9 = rest _ why.badSetting _ (a8 .1) in
     let o = or-false (ltb 500 row) (ltb 500 col) (a9 .0) in
     record {
       list = list-ok 0 E (a2 .0) (a3 .0) (a4 .0) (a5 .0);
@@ -154,17 +157,17 @@ pub record HardAccepted (L P : EdgeList) (ts : List ℕ) (B : Board) (limit : Fl
   pub periods : (length (B .h) ≡ 167) × (length (B .v) ≡ 167)
   pub within-limit : inRange oneF limit ≡ true
 
-pub hard-accepted : (L P : EdgeList) (ts : List ℕ) (B : Board) (limit : Float) (m n : ℕ) → hardRefusal L P ts B limit m n .number ≡ 0 → HardAccepted L P ts B limit m n
-unfolding hardRefusal roomShort
+pub hard-accepted : (L P : EdgeList) (ts : List ℕ) (B : Board) (limit : Float) (m n : ℕ) → hardAdmission L P ts B limit m n ≡ Accepted → HardAccepted L P ts B limit m n
+unfolding hardAdmission roomShort
 hard-accepted L P ts B limit m n h =
-    let a1 = rest _ 1 _ (omega arith) h in
-    let a2 = rest _ 2 _ (omega arith) (a1 .1) in
-    let a3 = rest _ 3 _ (omega arith) (a2 .1) in
-    let a4 = rest _ 4 _ (omega arith) (a3 .1) in
-    let a5 = rest _ 5 _ (omega arith) (a4 .1) in
-    let a7 = rest _ 7 _ (omega arith) (a5 .1) in
-    let a8 = rest _ 8 _ (omega arith) (a7 .1) in
-    let a9 = rest _ 9 _ (omega arith) (a8 .1) in
+    let a1 = rest _ why.roomTooShort _ h in
+    let a2 = rest _ why.lengthsDiffer _ (a1 .1) in
+    let a3 = rest _ why.listSize _ (a2 .1) in
+    let a4 = rest _ why.edgeOutOfRange _ (a3 .1) in
+    let a5 = rest _ why.badConfidence _ (a4 .1) in
+    let a7 = rest _ why.badTransform _ (a5 .1) in
+    let a8 = rest _ why.badTable _ (a7 .1) in
+    let a9 = rest _ why.badSetting _ (a8 .1) in
     let r = or-false (ltb m 3006) (ltb n 3006) (a1 .0) in
     let d = or-false (lengthsDiffer L) (lengthsDiffer P) (a2 .0) in
     let z = or-false (sizeBad 1 (size L)) (sizeBad 1 (size P)) (a3 .0) in
@@ -200,18 +203,18 @@ pub record SoftAccepted (P : EdgeList) (ms us : List Float) (L : EdgeList) (ts :
   pub within-margin : inRange marginTop margin ≡ true
 
 pub soft-accepted : (P : EdgeList) (ms us : List Float) (L : EdgeList) (ts : List ℕ) (B : Board) (limit margin : Float) (m n k : ℕ)
-    → softRefusal P ms us L ts B limit margin m n k .number ≡ 0 → SoftAccepted P ms us L ts B limit margin m n k
-unfolding softRefusal softRoomShort roomShort likelihoodsDiffer likelihoodBad firstBadLikelihood
+    → softAdmission P ms us L ts B limit margin m n k ≡ Accepted → SoftAccepted P ms us L ts B limit margin m n k
+unfolding softAdmission softRoomShort roomShort likelihoodsDiffer likelihoodBad firstBadLikelihood
 soft-accepted P ms us L ts B limit margin m n k h =
-    let a1 = rest _ 1 _ (omega arith) h in
-    let a2 = rest _ 2 _ (omega arith) (a1 .1) in
-    let a3 = rest _ 3 _ (omega arith) (a2 .1) in
-    let a4 = rest _ 4 _ (omega arith) (a3 .1) in
-    let a5 = rest _ 5 _ (omega arith) (a4 .1) in
-    let a6 = rest _ 6 _ (omega arith) (a5 .1) in
-    let a7 = rest _ 7 _ (omega arith) (a6 .1) in
-    let a8 = rest _ 8 _ (omega arith) (a7 .1) in
-    let a9 = rest _ 9 _ (omega arith) (a8 .1) in
+    let a1 = rest _ why.roomTooShort _ h in
+    let a2 = rest _ why.lengthsDiffer _ (a1 .1) in
+    let a3 = rest _ why.listSize _ (a2 .1) in
+    let a4 = rest _ why.edgeOutOfRange _ (a3 .1) in
+    let a5 = rest _ why.badConfidence _ (a4 .1) in
+    let a6 = rest _ why.badLikelihood _ (a5 .1) in
+    let a7 = rest _ why.badTransform _ (a6 .1) in
+    let a8 = rest _ why.badTable _ (a7 .1) in
+    let a9 = rest _ why.badSetting _ (a8 .1) in
     let s = or-false (ltb m 3006 || ltb n 3006) (ltb k 5010) (a1 .0) in
     let r = or-false (ltb m 3006) (ltb n 3006) (s .0) in
     let e = or-false (lengthsDiffer P || lengthsDiffer L) _ (a2 .0) in

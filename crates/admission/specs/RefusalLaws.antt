@@ -1,145 +1,152 @@
--- The refusals put together from their parts are those of the table.
+-- The admission put together from its parts is that of the table.
 use mathlib.Core.Path.{_≡_, refl, sym, ap, ap₂, _∙_}
 use mathlib.Core.Bool.{Bool, true, false, not, cond, _||_}
 use mathlib.Core.List.{List}
-use mathlib.Core.Logic.{_⊎_, inl, inr, ⊎-elim}
 use Prim.Native.Nat.{ℕ, suc, _<_, _≤_}
 use native.Mathlib.Omega.{arith}
-use lib.Dec.{ltb, eqb}
+use lib.Dec.{ltb}
 use lib.Ieee.{Float}
-use borrow.Author.Tests.{eq-eqb, ne-eqb, lt-ltb, le-ltb}
+use borrow.Author.Tests.{lt-ltb, le-ltb}
 use Rattle.laws.specs.Weights.{oneF}
 use Rattle.board.specs.Hits.{EdgeList, Board, size}
-use Rattle.refusals.specs.declared.Refusal.{Refusal}
+use Rattle.refusals.specs.declared.Admission.{Admission}
+use Rattle.refusals.specs.declared.Admission.the-variants.{Accepted, Refused}
+use Rattle.refusals.specs.Numbers.{numbered}
+use Rattle.refusals.specs.Numbers as why
+use Rattle.refusals.specs.Order.{ranked, earlier}
 use Rattle.checks.specs.Checks.{inRange, marginTop, lengthsDiffer, sizeBad, confidenceBad, likelihoodsDiffer, likelihoodBad, transformsBad, originBad}
-use Rattle.admission.specs.Refusals.{numbered, fieldsBad, tablesBad, roomShort, softRoomShort, hardRefusal, softRefusal, statsRefusal, earlier, refusedIf, listRefusal, likelihoodRefusal, settingsRefusal}
+use Rattle.admission.specs.Refusals.{fieldsBad, tablesBad, roomShort, softRoomShort, hardAdmission, softAdmission, statsAdmission, refusedIf, listAdmission, likelihoodAdmission, settingsAdmission}
 
--- accepted, or a number above n
-abbrev Above : ℕ → Refusal → Type 0
-Above n x = (x .number ≡ 0) ⊎ (n < x .number)
+-- refused by a number
+abbrev by : ℕ → Admission
+by n = Refused (numbered n)
 
-module _ (n : ℕ) (some : 0 < n) where
-  not-zero : n ≡ 0 → ⊥
-  not-zero e = omega arith
+-- accepted, or refused later than by n
+abbrev Above : ℕ → Admission → Type 0
+Above n Accepted = Unit
+Above n (Refused r) = ranked n < ranked (r .number)
 
-  low-left : (y : Refusal) → Above n y → earlier (numbered n) y ≡ numbered n
+module _ (n : ℕ) where
+  low-left : (y : Admission) → Above n y → earlier (by n) y ≡ by n
   unfolding earlier
-  low-left y (inl e) = rw (ne-eqb n 0 not-zero, eq-eqb (y .number) 0 e)
-  low-left y (inr l) = let z : y .number ≡ 0 → ⊥ = λ e. omega arith in rw (ne-eqb n 0 not-zero, ne-eqb (y .number) 0 z, le-ltb (y .number) n (omega arith))
+  low-left Accepted h = refl
+  low-left (Refused r) h = rw (le-ltb (ranked (r .number)) (ranked n) (omega (arith, h)))
 
-  low-right : (x : Refusal) → Above n x → earlier x (numbered n) ≡ numbered n
+  low-right : (x : Admission) → Above n x → earlier x (by n) ≡ by n
   unfolding earlier
-  low-right x (inl e) = rw (eq-eqb (x .number) 0 e)
-  low-right x (inr l) = let z : x .number ≡ 0 → ⊥ = λ e. omega arith in rw (ne-eqb (x .number) 0 z, ne-eqb n 0 not-zero, lt-ltb n (x .number) l)
+  low-right Accepted h = refl
+  low-right (Refused r) h = rw (lt-ltb (ranked n) (ranked (r .number)) h)
 
-  low-both : earlier (numbered n) (numbered n) ≡ numbered n
+  low-both : earlier (by n) (by n) ≡ by n
   unfolding earlier
-  low-both = rw (ne-eqb n 0 not-zero, le-ltb n n (omega arith))
+  low-both = rw (le-ltb (ranked n) (ranked n) (omega arith))
 
-  -- a lowest number that may stand on the left, or on both sides
-  pub pull : (a : Bool) (x y : Refusal) → Above n y → earlier (cond a (numbered n) x) y ≡ cond a (numbered n) (earlier x y)
+  -- an earliest number that may stand on the left, or on both sides
+  pub pull : (a : Bool) (x y : Admission) → Above n y → earlier (cond a (by n) x) y ≡ cond a (by n) (earlier x y)
   pull true x y h = low-left y h
   pull false x y h = refl
 
-  pub pull-both : (a b : Bool) (x y : Refusal) → Above n x → Above n y → earlier (cond a (numbered n) x) (cond b (numbered n) y) ≡ cond (a || b) (numbered n) (earlier x y)
+  pub pull-both : (a b : Bool) (x y : Admission) → Above n x → Above n y → earlier (cond a (by n) x) (cond b (by n) y) ≡ cond (a || b) (by n) (earlier x y)
   pull-both true true x y g h = low-both
   pull-both true false x y g h = low-left y h
   pull-both false true x y g h = low-right x g
   pull-both false false x y g h = refl
 
-pub accepted-left : (y : Refusal) → earlier (numbered 0) y ≡ y
+pub accepted-left : (y : Admission) → earlier Accepted y ≡ y
 unfolding earlier
 accepted-left y = refl
 
-above-if : (n k : ℕ) (a : Bool) (x : Refusal) → n < k → Above n x → Above n (cond a (numbered k) x)
-above-if n k true x l h = inr l
+above-if : (n k : ℕ) (a : Bool) (x : Admission) → ranked n < ranked k → Above n x → Above n (cond a (by k) x)
+above-if n k true x l h = l
 above-if n k false x l h = h
 
-above-none : (n : ℕ) → Above n (numbered 0)
-above-none n = inl refl
+above-none : (n : ℕ) → Above n Accepted
+above-none n = tt
 
 -- ---- chains of numbers
 -- 2 to 5, and then x
-abbrev chain : Bool → Bool → Bool → Bool → Refusal → Refusal
-chain a b c d x = cond a (numbered 2) (cond b (numbered 3) (cond c (numbered 4) (cond d (numbered 5) x)))
+abbrev chain : Bool → Bool → Bool → Bool → Admission → Admission
+chain a b c d x = cond a (by why.lengthsDiffer) (cond b (by why.listSize) (cond c (by why.edgeOutOfRange) (cond d (by why.badConfidence) x)))
 
 -- what may come after n
-module _ (n : ℕ) (x : Refusal) (h : Above n x) where
-  after-5 : n < 5 → (d : Bool) → Above n (cond d (numbered 5) x)
-  after-5 l d = above-if n 5 d x l h
+module _ (n : ℕ) (x : Admission) (h : Above n x) where
+  before-confidence : ranked n < ranked why.badConfidence → (d : Bool) → Above n (cond d (by why.badConfidence) x)
+  before-confidence l d = above-if n why.badConfidence d x l h
 
-  after-4 : n < 4 → (c d : Bool) → Above n (cond c (numbered 4) (cond d (numbered 5) x))
-  after-4 l c d = above-if n 4 c _ l (after-5 (omega arith) d)
+  before-edges : ranked n < ranked why.edgeOutOfRange → (c d : Bool) → Above n (cond c (by why.edgeOutOfRange) (cond d (by why.badConfidence) x))
+  unfolding ranked
+  before-edges l c d = above-if n why.edgeOutOfRange c _ l (before-confidence (omega arith) d)
 
-  after-3 : n < 3 → (b c d : Bool) → Above n (cond b (numbered 3) (cond c (numbered 4) (cond d (numbered 5) x)))
-  after-3 l b c d = above-if n 3 b _ l (after-4 (omega arith) c d)
+  before-size : ranked n < ranked why.listSize → (b c d : Bool) → Above n (cond b (by why.listSize) (cond c (by why.edgeOutOfRange) (cond d (by why.badConfidence) x)))
+  unfolding ranked
+  before-size l b c d = above-if n why.listSize b _ l (before-edges (omega arith) c d)
 
 -- two lists: each number applies where it applies to one of them
-two-lists : (a b c d a' b' c' d' : Bool) → earlier (chain a b c d (numbered 0)) (chain a' b' c' d' (numbered 0)) ≡ chain (a || a') (b || b') (c || c') (d || d') (numbered 0)
-unfolding earlier
+two-lists : (a b c d a' b' c' d' : Bool) → earlier (chain a b c d Accepted) (chain a' b' c' d' Accepted) ≡ chain (a || a') (b || b') (c || c') (d || d') Accepted
+unfolding earlier ranked
 two-lists a b c d a' b' c' d' =
-    let o = numbered 0 in
-    let x5 = cond d (numbered 5) o in
-    let y5 = cond d' (numbered 5) o in
-    let x4 = cond c (numbered 4) x5 in
-    let y4 = cond c' (numbered 4) y5 in
-    pull-both 2 (omega arith) a a' (cond b (numbered 3) x4) (cond b' (numbered 3) y4) (after-3 2 o (above-none 2) (omega arith) b c d) (after-3 2 o (above-none 2) (omega arith) b' c' d')
-    ∙ ap (cond (a || a') (numbered 2)) (pull-both 3 (omega arith) b b' x4 y4 (after-4 3 o (above-none 3) (omega arith) c d) (after-4 3 o (above-none 3) (omega arith) c' d')
-    ∙ ap (cond (b || b') (numbered 3)) (pull-both 4 (omega arith) c c' x5 y5 (after-5 4 o (above-none 4) (omega arith) d) (after-5 4 o (above-none 4) (omega arith) d')
-    ∙ ap (cond (c || c') (numbered 4)) (pull-both 5 (omega arith) d d' o o (above-none 5) (above-none 5))))
+    let o = Accepted in
+    let x5 = cond d (by why.badConfidence) o in
+    let y5 = cond d' (by why.badConfidence) o in
+    let x4 = cond c (by why.edgeOutOfRange) x5 in
+    let y4 = cond c' (by why.edgeOutOfRange) y5 in
+    pull-both why.lengthsDiffer a a' (cond b (by why.listSize) x4) (cond b' (by why.listSize) y4) (before-size why.lengthsDiffer o (above-none why.lengthsDiffer) (omega arith) b c d) (before-size why.lengthsDiffer o (above-none why.lengthsDiffer) (omega arith) b' c' d')
+    ∙ ap (cond (a || a') (by why.lengthsDiffer)) (pull-both why.listSize b b' x4 y4 (before-edges why.listSize o (above-none why.listSize) (omega arith) c d) (before-edges why.listSize o (above-none why.listSize) (omega arith) c' d')
+    ∙ ap (cond (b || b') (by why.listSize)) (pull-both why.edgeOutOfRange c c' x5 y5 (before-confidence why.edgeOutOfRange o (above-none why.edgeOutOfRange) (omega arith) d) (before-confidence why.edgeOutOfRange o (above-none why.edgeOutOfRange) (omega arith) d')
+    ∙ ap (cond (c || c') (by why.edgeOutOfRange)) (pull-both why.badConfidence d d' o o (above-none why.badConfidence) (above-none why.badConfidence))))
 
 -- what comes after all of 2 to 5
-chain-then : (a b c d : Bool) (x y : Refusal) → Above 2 y → Above 3 y → Above 4 y → Above 5 y → earlier (chain a b c d x) y ≡ chain a b c d (earlier x y)
+chain-then : (a b c d : Bool) (x y : Admission) → Above why.lengthsDiffer y → Above why.listSize y → Above why.edgeOutOfRange y → Above why.badConfidence y → earlier (chain a b c d x) y ≡ chain a b c d (earlier x y)
 chain-then a b c d x y h2 h3 h4 h5 =
-    let x5 = cond d (numbered 5) x in
-    let x4 = cond c (numbered 4) x5 in
-    pull 2 (omega arith) a (cond b (numbered 3) x4) y h2
-    ∙ ap (cond a (numbered 2)) (pull 3 (omega arith) b x4 y h3
-    ∙ ap (cond b (numbered 3)) (pull 4 (omega arith) c x5 y h4
-    ∙ ap (cond c (numbered 4)) (pull 5 (omega arith) d x y h5)))
+    let x5 = cond d (by why.badConfidence) x in
+    let x4 = cond c (by why.edgeOutOfRange) x5 in
+    pull why.lengthsDiffer a (cond b (by why.listSize) x4) y h2
+    ∙ ap (cond a (by why.lengthsDiffer)) (pull why.listSize b x4 y h3
+    ∙ ap (cond b (by why.listSize)) (pull why.edgeOutOfRange c x5 y h4
+    ∙ ap (cond c (by why.edgeOutOfRange)) (pull why.badConfidence d x y h5)))
 
 -- the likelihoods of a list: 2 and 6
-with-likelihoods : (a b c d e f : Bool) → earlier (chain a b c d (numbered 0)) (cond e (numbered 2) (cond f (numbered 6) (numbered 0))) ≡ chain (a || e) b c d (cond f (numbered 6) (numbered 0))
-unfolding earlier
+with-likelihoods : (a b c d e f : Bool) → earlier (chain a b c d Accepted) (cond e (by why.lengthsDiffer) (cond f (by why.badLikelihood) Accepted)) ≡ chain (a || e) b c d (cond f (by why.badLikelihood) Accepted)
+unfolding earlier ranked
 with-likelihoods a b c d e f =
-    let o = numbered 0 in
-    let y = cond f (numbered 6) o in
-    let up : (n : ℕ) → n < 6 → Above n y = λ n l. above-if n 6 f o l (above-none n) in
-    let x5 = cond d (numbered 5) o in
-    let x4 = cond c (numbered 4) x5 in
-    pull-both 2 (omega arith) a e (cond b (numbered 3) x4) y (after-3 2 o (above-none 2) (omega arith) b c d) (up 2 (omega arith))
-    ∙ ap (cond (a || e) (numbered 2)) (pull 3 (omega arith) b x4 y (up 3 (omega arith))
-    ∙ ap (cond b (numbered 3)) (pull 4 (omega arith) c x5 y (up 4 (omega arith))
-    ∙ ap (cond c (numbered 4)) (pull 5 (omega arith) d o y (up 5 (omega arith)))))
+    let o = Accepted in
+    let y = cond f (by why.badLikelihood) o in
+    let up : (n : ℕ) → ranked n < ranked why.badLikelihood → Above n y = λ n l. above-if n why.badLikelihood f o l (above-none n) in
+    let x5 = cond d (by why.badConfidence) o in
+    let x4 = cond c (by why.edgeOutOfRange) x5 in
+    pull-both why.lengthsDiffer a e (cond b (by why.listSize) x4) y (before-size why.lengthsDiffer o (above-none why.lengthsDiffer) (omega arith) b c d) (up why.lengthsDiffer (omega arith))
+    ∙ ap (cond (a || e) (by why.lengthsDiffer)) (pull why.listSize b x4 y (up why.listSize (omega arith))
+    ∙ ap (cond b (by why.listSize)) (pull why.edgeOutOfRange c x5 y (up why.edgeOutOfRange (omega arith))
+    ∙ ap (cond c (by why.edgeOutOfRange)) (pull why.badConfidence d o y (up why.badConfidence (omega arith)))))
 
 -- 7 to 9 come after every number below 7
-settings-above : (n : ℕ) (a b c : Bool) → n < 7 → Above n (settingsRefusal a b c)
-unfolding settingsRefusal
+settings-above : (n : ℕ) (a b c : Bool) → ranked n < ranked why.badTransform → Above n (settingsAdmission a b c)
+unfolding settingsAdmission ranked
 settings-above n a b c l =
-    above-if n 7 a _ l (above-if n 8 b _ (omega arith) (above-if n 9 c (numbered 0) (omega arith) (above-none n)))
+    above-if n why.badTransform a _ l (above-if n why.badTable b _ (omega arith) (above-if n why.badSetting c Accepted (omega arith) (above-none n)))
 
 -- ---- the three entry points
 module _ (L P : EdgeList) (ts : List ℕ) (B : Board) (limit : Float) where
   pub hard-parts : (m n : ℕ)
-      → earlier (refusedIf (roomShort m n) 1) (earlier (earlier (listRefusal 1 L) (listRefusal 1 P)) (settingsRefusal (transformsBad ts) (tablesBad B) (not (inRange oneF limit))))
-      ≡ hardRefusal L P ts B limit m n
-  unfolding earlier listRefusal hardRefusal settingsRefusal
+      → earlier (refusedIf (roomShort m n) why.roomTooShort) (earlier (earlier (listAdmission 1 L) (listAdmission 1 P)) (settingsAdmission (transformsBad ts) (tablesBad B) (not (inRange oneF limit))))
+      ≡ hardAdmission L P ts B limit m n
+  unfolding earlier ranked listAdmission hardAdmission settingsAdmission
   hard-parts m n =
-      let s = settingsRefusal (transformsBad ts) (tablesBad B) (not (inRange oneF limit)) in
-      let up : (k : ℕ) → k < 7 → Above k s = λ k l. settings-above k (transformsBad ts) (tablesBad B) (not (inRange oneF limit)) l in
+      let s = settingsAdmission (transformsBad ts) (tablesBad B) (not (inRange oneF limit)) in
+      let up : (k : ℕ) → ranked k < ranked why.badTransform → Above k s = λ k l. settings-above k (transformsBad ts) (tablesBad B) (not (inRange oneF limit)) l in
       let lists = two-lists (lengthsDiffer L) (sizeBad 1 (size L)) (fieldsBad L) (confidenceBad (L .confidences)) (lengthsDiffer P) (sizeBad 1 (size P)) (fieldsBad P) (confidenceBad (P .confidences)) in
-      let rest = ap (λ x. earlier x s) lists ∙ chain-then (lengthsDiffer L || lengthsDiffer P) (sizeBad 1 (size L) || sizeBad 1 (size P)) (fieldsBad L || fieldsBad P) (confidenceBad (L .confidences) || confidenceBad (P .confidences)) (numbered 0) s (up 2 (omega arith)) (up 3 (omega arith)) (up 4 (omega arith)) (up 5 (omega arith)) in
-      ap (earlier (refusedIf (roomShort m n) 1)) rest
-      ∙ pull 1 (omega arith) (roomShort m n) (numbered 0) _ (above-if 1 2 (lengthsDiffer L || lengthsDiffer P) _ (omega arith) (after-3 1 s (up 1 (omega arith)) (omega arith) (sizeBad 1 (size L) || sizeBad 1 (size P)) (fieldsBad L || fieldsBad P) (confidenceBad (L .confidences) || confidenceBad (P .confidences))))
+      let rest = ap (λ x. earlier x s) lists ∙ chain-then (lengthsDiffer L || lengthsDiffer P) (sizeBad 1 (size L) || sizeBad 1 (size P)) (fieldsBad L || fieldsBad P) (confidenceBad (L .confidences) || confidenceBad (P .confidences)) Accepted s (up why.lengthsDiffer (omega arith)) (up why.listSize (omega arith)) (up why.edgeOutOfRange (omega arith)) (up why.badConfidence (omega arith)) in
+      ap (earlier (refusedIf (roomShort m n) why.roomTooShort)) rest
+      ∙ pull why.roomTooShort (roomShort m n) Accepted _ (above-if why.roomTooShort why.lengthsDiffer (lengthsDiffer L || lengthsDiffer P) _ (omega arith) (before-size why.roomTooShort s (up why.roomTooShort (omega arith)) (omega arith) (sizeBad 1 (size L) || sizeBad 1 (size P)) (fieldsBad L || fieldsBad P) (confidenceBad (L .confidences) || confidenceBad (P .confidences))))
 
   pub soft-parts : (ms us : List Float) (margin : Float) (m n k : ℕ)
-      → earlier (refusedIf (softRoomShort m n k) 1) (earlier (earlier (earlier (listRefusal 1 P) (listRefusal 1 L)) (likelihoodRefusal (size P) ms us)) (settingsRefusal (transformsBad ts) (tablesBad B) (not (inRange oneF limit) || not (inRange marginTop margin))))
-      ≡ softRefusal P ms us L ts B limit margin m n k
-  unfolding earlier listRefusal likelihoodRefusal softRefusal settingsRefusal
+      → earlier (refusedIf (softRoomShort m n k) why.roomTooShort) (earlier (earlier (earlier (listAdmission 1 P) (listAdmission 1 L)) (likelihoodAdmission (size P) ms us)) (settingsAdmission (transformsBad ts) (tablesBad B) (not (inRange oneF limit) || not (inRange marginTop margin))))
+      ≡ softAdmission P ms us L ts B limit margin m n k
+  unfolding earlier ranked listAdmission likelihoodAdmission softAdmission settingsAdmission
   soft-parts ms us margin m n k =
       let rest = not (inRange oneF limit) || not (inRange marginTop margin) in
-      let s = settingsRefusal (transformsBad ts) (tablesBad B) rest in
-      let up : (i : ℕ) → i < 7 → Above i s = λ i l. settings-above i (transformsBad ts) (tablesBad B) rest l in
+      let s = settingsAdmission (transformsBad ts) (tablesBad B) rest in
+      let up : (i : ℕ) → ranked i < ranked why.badTransform → Above i s = λ i l. settings-above i (transformsBad ts) (tablesBad B) rest l in
       let d = lengthsDiffer P || lengthsDiffer L in
       let z = sizeBad 1 (size P) || sizeBad 1 (size L) in
       let f = fieldsBad P || fieldsBad L in
@@ -147,16 +154,16 @@ module _ (L P : EdgeList) (ts : List ℕ) (B : Board) (limit : Float) where
       let e = likelihoodsDiffer (size P) ms us in
       let g = likelihoodBad ms us in
       let lists = two-lists (lengthsDiffer P) (sizeBad 1 (size P)) (fieldsBad P) (confidenceBad (P .confidences)) (lengthsDiffer L) (sizeBad 1 (size L)) (fieldsBad L) (confidenceBad (L .confidences)) in
-      let both = ap (λ x. earlier x (likelihoodRefusal (size P) ms us)) lists ∙ with-likelihoods d z f c e g in
+      let both = ap (λ x. earlier x (likelihoodAdmission (size P) ms us)) lists ∙ with-likelihoods d z f c e g in
       let all = ap (λ x. earlier x s) both
-      ∙ chain-then (d || e) z f c (cond g (numbered 6) (numbered 0)) s (up 2 (omega arith)) (up 3 (omega arith)) (up 4 (omega arith)) (up 5 (omega arith))
-      ∙ ap (chain (d || e) z f c) (pull 6 (omega arith) g (numbered 0) s (up 6 (omega arith))) in
-      ap (earlier (refusedIf (softRoomShort m n k) 1)) all
-      ∙ pull 1 (omega arith) (softRoomShort m n k) (numbered 0) _ (above-if 1 2 (d || e) _ (omega arith) (after-3 1 (cond g (numbered 6) s) (above-if 1 6 g s (omega arith) (up 1 (omega arith))) (omega arith) z f c))
+      ∙ chain-then (d || e) z f c (cond g (by why.badLikelihood) Accepted) s (up why.lengthsDiffer (omega arith)) (up why.listSize (omega arith)) (up why.edgeOutOfRange (omega arith)) (up why.badConfidence (omega arith))
+      ∙ ap (chain (d || e) z f c) (pull why.badLikelihood g Accepted s (up why.badLikelihood (omega arith))) in
+      ap (earlier (refusedIf (softRoomShort m n k) why.roomTooShort)) all
+      ∙ pull why.roomTooShort (softRoomShort m n k) Accepted _ (above-if why.roomTooShort why.lengthsDiffer (d || e) _ (omega arith) (before-size why.roomTooShort (cond g (by why.badLikelihood) s) (above-if why.roomTooShort why.badLikelihood g s (omega arith) (up why.roomTooShort (omega arith))) (omega arith) z f c))
 
-pub stats-parts : (E : EdgeList) (t row col : ℕ) (B : Board) → earlier (listRefusal 0 E) (settingsRefusal (ltb 7 t) (tablesBad B) (originBad row col)) ≡ statsRefusal E t row col B
-unfolding earlier listRefusal statsRefusal settingsRefusal
+pub stats-parts : (E : EdgeList) (t row col : ℕ) (B : Board) → earlier (listAdmission 0 E) (settingsAdmission (ltb 7 t) (tablesBad B) (originBad row col)) ≡ statsAdmission E t row col B
+unfolding earlier ranked listAdmission statsAdmission settingsAdmission
 stats-parts E t row col B =
-    let s = settingsRefusal (ltb 7 t) (tablesBad B) (originBad row col) in
-    let up : (k : ℕ) → k < 7 → Above k s = λ k l. settings-above k (ltb 7 t) (tablesBad B) (originBad row col) l in
-    chain-then (lengthsDiffer E) (sizeBad 0 (size E)) (fieldsBad E) (confidenceBad (E .confidences)) (numbered 0) s (up 2 (omega arith)) (up 3 (omega arith)) (up 4 (omega arith)) (up 5 (omega arith))
+    let s = settingsAdmission (ltb 7 t) (tablesBad B) (originBad row col) in
+    let up : (k : ℕ) → ranked k < ranked why.badTransform → Above k s = λ k l. settings-above k (ltb 7 t) (tablesBad B) (originBad row col) l in
+    chain-then (lengthsDiffer E) (sizeBad 0 (size E)) (fieldsBad E) (confidenceBad (E .confidences)) Accepted s (up why.lengthsDiffer (omega arith)) (up why.listSize (omega arith)) (up why.edgeOutOfRange (omega arith)) (up why.badConfidence (omega arith))

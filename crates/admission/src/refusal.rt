@@ -1,36 +1,22 @@
-// Refusal numbers 1 to 9: the lowest that applies over all lists, or 0 where the call is accepted.
+// Whether a call is taken on: refusals 1 to 9, the first that applies over all lists, or accepted.
 ghost use mathlib.Core.Path.{_≡_};
 ghost use mathlib.Core.Bool.{_||_, not};
 ghost use Rattle.laws.specs.Weights.{oneF};
 ghost use Rattle.board.specs.Hits.{edges, tables};
 ghost use Rattle.checks.specs.Checks.{inRange, marginTop, likelihoodsDiffer, originBad};
-ghost use Rattle.admission.specs.Refusals.{earlier, refusedIf, roomShort, softRoomShort, tablesBad, listRefusal, likelihoodRefusal, settingsRefusal, hardRefusal, softRefusal, statsRefusal};
+ghost use Rattle.admission.specs.Refusals.{refusedIf, roomShort, softRoomShort, tablesBad, listAdmission, likelihoodAdmission, settingsAdmission, hardAdmission, softAdmission, statsAdmission};
+use refusals::Admission;
 use refusals::Refusal;
+use refusals::first_of;
 
-// The refusal that comes first of two.
-fn first_of(a: Refusal, b: Refusal) -> Refusal
-    ensures { λ r. ⌜ r ≡ earlier a b ⌝ }
-{
-    if a.number == 0 {
-        return b;
-    }
-    if b.number == 0 {
-        return a;
-    }
-    if b.number < a.number {
-        return b;
-    }
-    a
-}
-
-// The given number where it applies, else 0.
-fn refused_if(bad: bool, number: u32) -> Refusal
+// Refused by the given number where it applies, else accepted.
+fn refused_if(bad: bool, number: u32) -> Admission
     ensures { λ r. ⌜ r ≡ refusedIf bad number ⌝ }
 {
     if bad {
-        return Refusal { number };
+        return Admission::Refused(Refusal { number });
     }
-    Refusal { number: 0 }
+    Admission::Accepted
 }
 
 // Whether the room of a hard call is too short: 3,006 u32 and 3,006 f32 are needed.
@@ -55,26 +41,35 @@ fn tables_bad(h: &[u8], v: &[u8]) -> bool
 }
 
 // Numbers 2 to 5 of one list that must have at least `least` edges.
-fn list_refusal(
+fn list_admission(
     least: usize,
     rows: &[i32],
     cols: &[i32],
     orientations: &[u8],
     bits: &[u8],
     confidences: &[f32],
-) -> Refusal
-    ensures { λ r. ⌜ r ≡ listRefusal least (edges (now (rows .entry)) (now (cols .entry)) (now (orientations .entry)) (now (bits .entry)) (now (confidences .entry))) ⌝ }
+) -> Admission
+    ensures { λ r. ⌜ r ≡ listAdmission least (edges (now (rows .entry)) (now (cols .entry)) (now (orientations .entry)) (now (bits .entry)) (now (confidences .entry))) ⌝ }
 {
     if checks::check::lengths_differ(rows, cols, orientations, bits, confidences) {
-        return Refusal { number: 2 };
+        return Admission::Refused(Refusal {
+            number: refusals::LENGTHS_DIFFER,
+        });
     }
     if checks::check::size_bad(least, rows.len()) {
-        return Refusal { number: 3 };
+        return Admission::Refused(Refusal {
+            number: refusals::LIST_SIZE,
+        });
     }
     if checks::check::field_bad(rows, cols, orientations, bits) {
-        return Refusal { number: 4 };
+        return Admission::Refused(Refusal {
+            number: refusals::EDGE_OUT_OF_RANGE,
+        });
     }
-    refused_if(checks::check::confidence_bad(confidences), 5)
+    refused_if(
+        checks::check::confidence_bad(confidences),
+        refusals::BAD_CONFIDENCE,
+    )
 }
 
 // Whether the likelihood slices of a list of n edges differ from it in length.
@@ -88,29 +83,35 @@ fn likelihoods_differ(n: usize, matches: &[f32], mismatches: &[f32]) -> bool
 }
 
 // Numbers 2 and 6 of the likelihoods of a list of n edges.
-fn likelihood_refusal(n: usize, matches: &[f32], mismatches: &[f32]) -> Refusal
-    ensures { λ r. ⌜ r ≡ likelihoodRefusal n (now (matches .entry)) (now (mismatches .entry)) ⌝ }
+fn likelihood_admission(n: usize, matches: &[f32], mismatches: &[f32]) -> Admission
+    ensures { λ r. ⌜ r ≡ likelihoodAdmission n (now (matches .entry)) (now (mismatches .entry)) ⌝ }
 {
     if likelihoods_differ(n, matches, mismatches) {
-        return Refusal { number: 2 };
+        return Admission::Refused(Refusal {
+            number: refusals::LENGTHS_DIFFER,
+        });
     }
     refused_if(
         checks::check::first_bad_likelihood(matches, mismatches) < matches.len(),
-        6,
+        refusals::BAD_LIKELIHOOD,
     )
 }
 
 // Numbers 7 to 9: transforms, tables, and what else the call was given.
-fn settings_refusal(transforms: bool, tables: bool, rest: bool) -> Refusal
-    ensures { λ r. ⌜ r ≡ settingsRefusal transforms tables rest ⌝ }
+fn settings_admission(transforms: bool, tables: bool, rest: bool) -> Admission
+    ensures { λ r. ⌜ r ≡ settingsAdmission transforms tables rest ⌝ }
 {
     if transforms {
-        return Refusal { number: 7 };
+        return Admission::Refused(Refusal {
+            number: refusals::BAD_TRANSFORM,
+        });
     }
     if tables {
-        return Refusal { number: 8 };
+        return Admission::Refused(Refusal {
+            number: refusals::BAD_TABLE,
+        });
     }
-    refused_if(rest, 9)
+    refused_if(rest, refusals::BAD_SETTING)
 }
 
 // Whether an origin given to match statistics is off the board.
@@ -120,8 +121,8 @@ fn origin_bad(row: u32, col: u32) -> bool
     500 < row || 500 < col
 }
 
-// Numbers 1 to 9 of a hard call: the lowest over both lists, 0 where it is accepted. The last two are the lengths of the lent room.
-pub fn hard_refusal(
+// Numbers 1 to 9 of a hard call: the first over both lists, or accepted. The last two are the lengths of the lent room.
+pub fn hard_admission(
     lrows: &[i32],
     lcols: &[i32],
     lorientations: &[u8],
@@ -138,16 +139,16 @@ pub fn hard_refusal(
     limit: f32,
     counts: usize,
     weights: usize,
-) -> Refusal
-    ensures { λ r. ⌜ r ≡ hardRefusal
+) -> Admission
+    ensures { λ r. ⌜ r ≡ hardAdmission
         (edges (now (lrows .entry)) (now (lcols .entry)) (now (lorientations .entry)) (now (lbits .entry)) (now (lconfidences .entry)))
         (edges (now (prows .entry)) (now (pcols .entry)) (now (porientations .entry)) (now (pbits .entry)) (now (pconfidences .entry)))
         (now (transforms .entry)) (tables (now (h .entry)) (now (v .entry))) limit counts weights ⌝ }
 {
-    let room = refused_if(room_short(counts, weights), 1);
-    let logical = list_refusal(1, lrows, lcols, lorientations, lbits, lconfidences);
-    let physical = list_refusal(1, prows, pcols, porientations, pbits, pconfidences);
-    let settings = settings_refusal(
+    let room = refused_if(room_short(counts, weights), refusals::ROOM_TOO_SHORT);
+    let logical = list_admission(1, lrows, lcols, lorientations, lbits, lconfidences);
+    let physical = list_admission(1, prows, pcols, porientations, pbits, pconfidences);
+    let settings = settings_admission(
         checks::check::transforms_bad(transforms),
         tables_bad(h, v),
         !checks::check::in_range(limit, 1.0f32),
@@ -166,7 +167,7 @@ fn limits_bad(limit: f32, margin: f32) -> bool
 }
 
 // Numbers 1 to 9 of a soft call: the physical list has two likelihood slices besides, and the soft margin is checked with the limit.
-pub fn soft_refusal(
+pub fn soft_admission(
     prows: &[i32],
     pcols: &[i32],
     porientations: &[u8],
@@ -187,18 +188,21 @@ pub fn soft_refusal(
     counts: usize,
     weights: usize,
     sums: usize,
-) -> Refusal
-    ensures { λ r. ⌜ r ≡ softRefusal
+) -> Admission
+    ensures { λ r. ⌜ r ≡ softAdmission
         (edges (now (prows .entry)) (now (pcols .entry)) (now (porientations .entry)) (now (pbits .entry)) (now (pconfidences .entry)))
         (now (matches .entry)) (now (mismatches .entry))
         (edges (now (lrows .entry)) (now (lcols .entry)) (now (lorientations .entry)) (now (lbits .entry)) (now (lconfidences .entry)))
         (now (transforms .entry)) (tables (now (h .entry)) (now (v .entry))) limit margin counts weights sums ⌝ }
 {
-    let room = refused_if(soft_room_short(counts, weights, sums), 1);
-    let physical = list_refusal(1, prows, pcols, porientations, pbits, pconfidences);
-    let logical = list_refusal(1, lrows, lcols, lorientations, lbits, lconfidences);
-    let likelihoods = likelihood_refusal(prows.len(), matches, mismatches);
-    let settings = settings_refusal(
+    let room = refused_if(
+        soft_room_short(counts, weights, sums),
+        refusals::ROOM_TOO_SHORT,
+    );
+    let physical = list_admission(1, prows, pcols, porientations, pbits, pconfidences);
+    let logical = list_admission(1, lrows, lcols, lorientations, lbits, lconfidences);
+    let likelihoods = likelihood_admission(prows.len(), matches, mismatches);
+    let settings = settings_admission(
         checks::check::transforms_bad(transforms),
         tables_bad(h, v),
         limits_bad(limit, margin),
@@ -210,7 +214,7 @@ pub fn soft_refusal(
 }
 
 // Numbers 2 to 5 and 7 to 9 of match statistics, which take an empty list and no room.
-pub fn stats_refusal(
+pub fn stats_admission(
     rows: &[i32],
     cols: &[i32],
     orientations: &[u8],
@@ -221,12 +225,12 @@ pub fn stats_refusal(
     col: u32,
     h: &[u8],
     v: &[u8],
-) -> Refusal
-    ensures { λ r. ⌜ r ≡ statsRefusal
+) -> Admission
+    ensures { λ r. ⌜ r ≡ statsAdmission
         (edges (now (rows .entry)) (now (cols .entry)) (now (orientations .entry)) (now (bits .entry)) (now (confidences .entry)))
         transform row col (tables (now (h .entry)) (now (v .entry))) ⌝ }
 {
-    let list = list_refusal(0, rows, cols, orientations, bits, confidences);
-    let settings = settings_refusal(7 < transform, tables_bad(h, v), origin_bad(row, col));
+    let list = list_admission(0, rows, cols, orientations, bits, confidences);
+    let settings = settings_admission(7 < transform, tables_bad(h, v), origin_bad(row, col));
     first_of(list, settings)
 }

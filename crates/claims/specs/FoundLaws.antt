@@ -1,20 +1,23 @@
 -- The number tells found from refused: where it is 0 the public library found or counted (and `flat` makes it 0 there). A refusal never has the number 0.
 use mathlib.Core.Path.{_≡_, refl, sym, ap, subst, _∙_}
-use mathlib.Core.Bool.{Bool, true, false}
+use mathlib.Core.Bool.{Bool, true, false, not, cond, _&&_, _||_}
 use mathlib.Core.List.{List}
 use Prim.Native.Nat.{ℕ}
 use native.Mathlib.Omega.{arith}
-use lib.Dec.{eqb}
+use lib.Dec.{eqb, ltb}
 use lib.ListN.{getD, length}
 use lib.IntN.{ℤ}
 use lib.Ieee.{Float}
-use borrow.Author.Tests.{eq-eqb}
-use Rattle.laws.specs.Tests.{clash}
 use Rattle.laws.specs.Weights.{oneF}
 use Rattle.board.specs.Hits.{EdgeList, Board, size}
 use Rattle.sums.specs.Sums.{Likelihoods}
 use Rattle.refusals.specs.declared.Refusal.{Refusal}
-use Rattle.admission.specs.Refusals.{numbered, hardRefusal, softRefusal, statsRefusal}
+use Rattle.refusals.specs.declared.Admission.{Admission}
+use Rattle.refusals.specs.declared.Admission.the-variants as admission
+use Rattle.refusals.specs.Numbers.{numbered}
+use Rattle.refusals.specs.Numbers as why
+use Rattle.checks.specs.Checks.{inRange, marginTop, lengthsDiffer, sizeBad, confidenceBad, likelihoodsDiffer, likelihoodBad, transformsBad, originBad}
+use Rattle.admission.specs.Refusals.{fieldsBad, tablesBad, roomShort, softRoomShort, hardAdmission, softAdmission, statsAdmission}
 use Rattle.scan.specs.declared.scan.Choice.{Choice}
 use Rattle.scan.specs.declared.scan.Choice.the-variants as choice
 use Rattle.scan.specs.declared.scan.Candidate.{Candidate}
@@ -23,6 +26,7 @@ use Rattle.scan.specs.Scan.{chosen}
 use Rattle.figures.specs.Gate.{passed}
 use Rattle.figures.specs.Figures.{noConfidence}
 use Rattle.hard.specs.Select.{orRefused, scanOf, selection}
+use Rattle.margin.specs.declared.scan.SoftCandidate.{SoftCandidate}
 use Rattle.margin.specs.declared.scan.SoftChoice.{SoftChoice}
 use Rattle.margin.specs.declared.scan.SoftChoice.the-variants as soft
 use Rattle.margin.specs.Margin.{softMargin, belowMargin}
@@ -33,37 +37,86 @@ use Rattle.answer.specs.declared.Answer.the-variants.{Found, Refused}
 use Rattle.answer.specs.declared.MatchStats.{MatchStats}
 use Rattle.answer.specs.declared.StatsAnswer.the-variants as stats
 use Rattle.stats.specs.Stats.{statsAnswer, statsOf, orCounted}
-use Rattle.verdict.specs.Verdict.{pick, agreed, judged}
+use Rattle.verdict.specs.Verdict.{pick, whenAccepted, agreed, judged}
 use Rattle.puzzleboard.specs.Hard.{afterPhysical, afterLogical, hardCore, hardAnswer}
 use Rattle.verdict.specs.declared.soft_verdict.SoftBest.{SoftBest}
 use Rattle.verdict.specs.Verdict.{softDecodedOf, softVerdict, bestOf}
 use Rattle.puzzleboard.specs.Soft.{figuresOf, softJudged, afterHard, afterSoft, softCore, softAnswer}
 use Rattle.flat.specs.declared.flat.FlatAnswer.{FlatAnswer}
-use Rattle.flat.specs.Flat.{flat, flatStats}
+use Rattle.flat.specs.Flat.{notRefused, flat, flatStats}
 use Rattle.export_hard.specs.Exports.{HardFlat}
 use Rattle.export_soft.specs.Exports.{SoftFlat}
 
 -- an answer whose number is 0 is found
 abbrev Tells : Answer → Type 0
-Tells a = flat a .refusal ≡ 0 → (d : Decoded) × (a ≡ Found d)
+Tells a = flat a .refusal ≡ notRefused → (d : Decoded) × (a ≡ Found d)
 
 tells-found : (d : Decoded) → Tells (Found d)
 tells-found d e = (d, refl)
 
-tells-refused : (r : Refusal) → (r .number ≡ 0 → ⊥) → Tells (Refused r)
+tells-refused : (r : Refusal) → (r .number ≡ notRefused → ⊥) → Tells (Refused r)
 tells-refused r h e = absurd (h e)
 
 tells-pick : (b : Bool) (x y : Answer) → Tells x → Tells y → Tells (pick b x y)
 tells-pick true x y p q = p
 tells-pick false x y p q = q
 
--- found where the number is 0, else refused by that number
-tells-or : (n : ℕ) (x : Answer) (r : Refusal) → r .number ≡ n → Tells x → Tells (pick (eqb n 0) x (Refused r))
-tells-or n x r e p = go (eqb n 0) refl
-  where
-    go : (b : Bool) → eqb n 0 ≡ b → Tells (pick b x (Refused r))
-    go true h = p
-    go false h = tells-refused r (λ z. clash (eq-eqb n 0 (sym e ∙ z)) h)
+-- where it is refused, the number is not 0
+abbrev Numbered : Admission → Type 0
+Numbered a = (r : Refusal) → a ≡ admission.Refused r → r .number ≡ notRefused → ⊥
+
+-- a test with such a number is not what refused by 0
+later : (b : Bool) (n : ℕ) (a : Admission) (r : Refusal) → (n ≡ notRefused → ⊥) → r .number ≡ notRefused → cond b (admission.Refused (numbered n)) a ≡ admission.Refused r → a ≡ admission.Refused r
+later true n a r p z h = let q : numbered n ≡ r = cc in absurd (p (ap (λ (x : Refusal). x .number) q ∙ z))
+later false n a r p z h = h
+
+not-accepted : (r : Refusal) → admission.Accepted ≡ admission.Refused r → ⊥
+not-accepted r h = let z : _≡_ {A = ℕ} 0 1 = cc in omega arith
+
+-- the checks refuse by such numbers alone
+hard-numbered : (L P : EdgeList) (ts : List ℕ) (B : Board) (limit : Float) (m n : ℕ) → Numbered (hardAdmission L P ts B limit m n)
+unfolding hardAdmission
+hard-numbered L P ts B limit m n r h z =
+    let n1 = later (roomShort m n) why.roomTooShort _ r (λ q. omega arith) z h in
+    let n2 = later (lengthsDiffer L || lengthsDiffer P) why.lengthsDiffer _ r (λ q. omega arith) z n1 in
+    let n3 = later (sizeBad 1 (size L) || sizeBad 1 (size P)) why.listSize _ r (λ q. omega arith) z n2 in
+    let n4 = later (fieldsBad L || fieldsBad P) why.edgeOutOfRange _ r (λ q. omega arith) z n3 in
+    let n5 = later (confidenceBad (L .confidences) || confidenceBad (P .confidences)) why.badConfidence _ r (λ q. omega arith) z n4 in
+    let n6 = later (transformsBad ts) why.badTransform _ r (λ q. omega arith) z n5 in
+    let n7 = later (tablesBad B) why.badTable _ r (λ q. omega arith) z n6 in
+    let n8 = later (not (inRange oneF limit)) why.badSetting _ r (λ q. omega arith) z n7 in
+    not-accepted r n8
+
+soft-numbered : (P : EdgeList) (ms us : List Float) (L : EdgeList) (ts : List ℕ) (B : Board) (limit least : Float) (m n k : ℕ) → Numbered (softAdmission P ms us L ts B limit least m n k)
+unfolding softAdmission
+soft-numbered P ms us L ts B limit least m n k r h z =
+    let n1 = later (softRoomShort m n k) why.roomTooShort _ r (λ q. omega arith) z h in
+    let n2 = later ((lengthsDiffer P || lengthsDiffer L) || likelihoodsDiffer (size P) ms us) why.lengthsDiffer _ r (λ q. omega arith) z n1 in
+    let n3 = later (sizeBad 1 (size P) || sizeBad 1 (size L)) why.listSize _ r (λ q. omega arith) z n2 in
+    let n4 = later (fieldsBad P || fieldsBad L) why.edgeOutOfRange _ r (λ q. omega arith) z n3 in
+    let n5 = later (confidenceBad (P .confidences) || confidenceBad (L .confidences)) why.badConfidence _ r (λ q. omega arith) z n4 in
+    let n6 = later (likelihoodBad ms us) why.badLikelihood _ r (λ q. omega arith) z n5 in
+    let n7 = later (transformsBad ts) why.badTransform _ r (λ q. omega arith) z n6 in
+    let n8 = later (tablesBad B) why.badTable _ r (λ q. omega arith) z n7 in
+    let n9 = later (not (inRange oneF limit) || not (inRange marginTop least)) why.badSetting _ r (λ q. omega arith) z n8 in
+    not-accepted r n9
+
+stats-numbered : (E : EdgeList) (t row col : ℕ) (B : Board) → Numbered (statsAdmission E t row col B)
+unfolding statsAdmission
+stats-numbered E t row col B r h z =
+    let n1 = later (lengthsDiffer E) why.lengthsDiffer _ r (λ q. omega arith) z h in
+    let n2 = later (sizeBad 0 (size E)) why.listSize _ r (λ q. omega arith) z n1 in
+    let n3 = later (fieldsBad E) why.edgeOutOfRange _ r (λ q. omega arith) z n2 in
+    let n4 = later (confidenceBad (E .confidences)) why.badConfidence _ r (λ q. omega arith) z n3 in
+    let n5 = later (ltb 7 t) why.badTransform _ r (λ q. omega arith) z n4 in
+    let n6 = later (tablesBad B) why.badTable _ r (λ q. omega arith) z n5 in
+    let n7 = later (originBad row col) why.badSetting _ r (λ q. omega arith) z n6 in
+    not-accepted r n7
+
+-- found where it is accepted, else refused by such a number
+tells-or : (a : Admission) (x : Answer) → Numbered a → Tells x → Tells (whenAccepted a x)
+tells-or admission.Accepted x h p = p
+tells-or (admission.Refused r) x h p = tells-refused r (h r refl)
 
 -- ---- hard decode
 tells-judged : (t : ℕ) (w : Candidate) (next : RunnerUp) (s : ℕ) (p : Candidate) (edges : ℕ) → Tells (judged t w next s p edges)
@@ -86,23 +139,31 @@ tells-logical L P ts B false (choice.Chosen w next) = tells-physical L ts w next
 tells-hard : (L P : EdgeList) (ts : List ℕ) (B : Board) (limit : Float) (m n : ℕ) → Tells (hardAnswer L P ts B limit m n)
 unfolding hardAnswer hardCore selection
 tells-hard L P ts B limit m n =
-    tells-or (hardRefusal L P ts B limit m n .number) _ (hardRefusal L P ts B limit m n) refl (tells-logical L P ts B (noConfidence L) (chosen (scanOf B L ts limit (length ts))))
+    tells-or (hardAdmission L P ts B limit m n) _ (hard-numbered L P ts B limit m n) (tells-logical L P ts B (noConfidence L) (chosen (scanOf B L ts limit (length ts))))
 
 -- HARD: the number is 0 only where the library found
-pub hard-zero-found : (L P : EdgeList) (ts : List ℕ) (B : Board) (limit : Float) (c c' : List ℕ) (w w' : List Float) (r : FlatAnswer) → (h : HardFlat L P ts B limit c c' w w' r) → r .refusal ≡ 0
+pub hard-zero-found : (L P : EdgeList) (ts : List ℕ) (B : Board) (limit : Float) (c c' : List ℕ) (w w' : List Float) (r : FlatAnswer) → (h : HardFlat L P ts B limit c c' w w' r) → r .refusal ≡ notRefused
     → (d : Decoded) × (h .told ≡ Found d)
 hard-zero-found L P ts B limit c c' w w' r h e =
     subst Tells (sym (h .done .answer)) (tells-hard L P ts B limit (length c) (length w)) (ap (λ (x : FlatAnswer). x .refusal) (sym (h .shown)) ∙ e)
 
 -- ---- soft decode
+verdict-numbered : (t : ℕ) (first : SoftCandidate) (s : ℕ) (w : Candidate) (next : RunnerUp) (edges : ℕ) → Numbered (softVerdict t first s w next edges)
+unfolding softVerdict
+verdict-numbered t first s w next edges r h z = go (eqb t s && (eqb (first .row) (w .row) && eqb (first .col) (w .col))) (passed edges (w .hits) (next .hits)) h
+  where
+    go : (a b : Bool) → cond a (cond b admission.Accepted (admission.Refused (numbered why.notFarAhead))) (admission.Refused (numbered why.softHardDisagree)) ≡ admission.Refused r → ⊥
+    go true true e = not-accepted r e
+    go true false e = not-accepted r (later true why.notFarAhead _ r (λ q. omega arith) z e)
+    go false b e = not-accepted r (later true why.softHardDisagree _ r (λ q. omega arith) z e)
+
 tells-hard-too : (P L : EdgeList) (ts : List ℕ) (B : Board) (limit : Float) (best : SoftBest) (b : Bool) (c : Choice) → Tells (afterHard P L ts B limit best (orRefused b c))
 unfolding softJudged
 tells-hard-too P L ts B limit best true c = tells-refused _ (λ z. omega arith)
 tells-hard-too P L ts B limit best false choice.Nothing = tells-refused _ (λ z. omega arith)
 tells-hard-too P L ts B limit best false (choice.Chosen w next) =
     let t = getD ts (best .first .place) 0 in
-    let n = softVerdict t (best .first) (getD ts (w .place) 0) w next (size L) in
-    tells-or n (Found (softDecodedOf t best (figuresOf B P t (best .first .row) (best .first .col)) (size P) next)) (numbered n) refl (tells-found _)
+    tells-or (softVerdict t (best .first) (getD ts (w .place) 0) w next (size L)) (Found (softDecodedOf t best (figuresOf B P t (best .first .row) (best .first .col)) (size P) next)) (verdict-numbered t (best .first) (getD ts (w .place) 0) w next (size L)) (tells-found _)
 
 tells-after-soft : (P L : EdgeList) (ts : List ℕ) (B : Board) (limit least : Float) (c : SoftChoice) → Tells (afterSoft P L ts B limit least c)
 unfolding selection
@@ -114,21 +175,20 @@ tells-after-soft P L ts B limit least (soft.Chosen first second) =
 tells-soft : (P : EdgeList) (X : Likelihoods) (L : EdgeList) (ts : List ℕ) (B : Board) (limit least : Float) (m n k : ℕ) → Tells (softAnswer P X L ts B limit least m n k)
 unfolding softAnswer softCore
 tells-soft P X L ts B limit least m n k =
-    tells-or (softRefusal P (X .matches) (X .mismatches) L ts B limit least m n k .number) _ (softRefusal P (X .matches) (X .mismatches) L ts B limit least m n k) refl
+    tells-or (softAdmission P (X .matches) (X .mismatches) L ts B limit least m n k) _ (soft-numbered P (X .matches) (X .mismatches) L ts B limit least m n k)
     (tells-pick (noConfidence P) _ _ (tells-refused _ (λ z. omega arith)) (tells-after-soft P L ts B limit least (softSelection B P X ts)))
 
 -- SOFT: the same
 pub soft-zero-found : (P : EdgeList) (X : Likelihoods) (L : EdgeList) (ts : List ℕ) (B : Board) (limit least : Float) (c c' : List ℕ) (w w' : List Float) (a a' : List ℤ) (r : FlatAnswer)
-    → (h : SoftFlat P X L ts B limit least c c' w w' a a' r) → r .refusal ≡ 0 → (d : Decoded) × (h .told ≡ Found d)
+    → (h : SoftFlat P X L ts B limit least c c' w w' a a' r) → r .refusal ≡ notRefused → (d : Decoded) × (h .told ≡ Found d)
 soft-zero-found P X L ts B limit least c c' w w' a a' r h e =
     subst Tells (sym (h .done .answer)) (tells-soft P X L ts B limit least (length c) (length w) (length a)) (ap (λ (x : FlatAnswer). x .refusal) (sym (h .shown)) ∙ e)
 
 -- ---- MATCH STATISTICS: the same
-pub stats-zero-counted : (E : EdgeList) (t row col : ℕ) (B : Board) → flatStats (statsAnswer E t row col B) .refusal ≡ 0 → (s : MatchStats) × (statsAnswer E t row col B ≡ stats.Counted s)
+pub stats-zero-counted : (E : EdgeList) (t row col : ℕ) (B : Board) → flatStats (statsAnswer E t row col B) .refusal ≡ notRefused → (s : MatchStats) × (statsAnswer E t row col B ≡ stats.Counted s)
 unfolding statsAnswer
-stats-zero-counted E t row col B = go (eqb (statsRefusal E t row col B .number) 0) refl
+stats-zero-counted E t row col B = go (statsAdmission E t row col B) (stats-numbered E t row col B)
   where
-    go : (b : Bool) → eqb (statsRefusal E t row col B .number) 0 ≡ b → flatStats (orCounted (statsRefusal E t row col B) b (statsOf E t row col B)) .refusal ≡ 0
-        → (s : MatchStats) × (orCounted (statsRefusal E t row col B) b (statsOf E t row col B) ≡ stats.Counted s)
-    go true h e = (statsOf E t row col B, refl)
-    go false h e = clash (eq-eqb _ 0 e) h
+    go : (a : Admission) → Numbered a → flatStats (orCounted a (statsOf E t row col B)) .refusal ≡ notRefused → (s : MatchStats) × (orCounted a (statsOf E t row col B) ≡ stats.Counted s)
+    go admission.Accepted h e = (statsOf E t row col B, refl)
+    go (admission.Refused r) h e = absurd (h r refl e)

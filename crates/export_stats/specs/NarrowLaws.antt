@@ -2,18 +2,21 @@
 use mathlib.Core.Path.{_≡_, refl, ap, _∙_}
 use mathlib.Core.Bool.{Bool, true, false, cond}
 use Prim.Native.Nat.{ℕ}
-use lib.Dec.{ltb, eqb}
+use lib.Dec.{ltb}
 use Rattle.board.specs.Hits.{EdgeList, Board, size}
 use Rattle.checks.specs.Checks.{lengthsDiffer, sizeBad, confidenceBad}
-use Rattle.admission.specs.Refusals.{numbered, fieldsBad, statsRefusal}
+use Rattle.refusals.specs.declared.Admission.the-variants.{Refused}
+use Rattle.refusals.specs.Numbers.{numbered}
+use Rattle.refusals.specs.Numbers as why
+use Rattle.admission.specs.Refusals.{fieldsBad, statsAdmission}
 use Rattle.answer.specs.declared.MatchStats.{MatchStats}
 use Rattle.answer.specs.declared.StatsAnswer.{StatsAnswer}
 use Rattle.stats.specs.Stats.{statsAnswer, statsOf, orCounted}
 use Rattle.flat.specs.Flat.{narrow}
 
 -- a transform number above 7 is refused whatever it is, so statistics of the narrowed number are those of the number
-same-refusal : (a b c d : Bool) (s u : MatchStats) → let r = cond a (numbered 2) (cond b (numbered 3) (cond c (numbered 4) (cond d (numbered 5) (numbered 7)))) in
-    orCounted r (eqb (r .number) 0) s ≡ orCounted r (eqb (r .number) 0) u
+same-refusal : (a b c d : Bool) (s u : MatchStats) → let r = cond a (Refused (numbered why.lengthsDiffer)) (cond b (Refused (numbered why.listSize)) (cond c (Refused (numbered why.edgeOutOfRange)) (cond d (Refused (numbered why.badConfidence)) (Refused (numbered why.badTransform))))) in
+    orCounted r s ≡ orCounted r u
 same-refusal true b c d s u = refl
 same-refusal false true c d s u = refl
 same-refusal false false true d s u = refl
@@ -21,7 +24,7 @@ same-refusal false false false true s u = refl
 same-refusal false false false false s u = refl
 
 narrow-above : (E : EdgeList) (t row col : ℕ) (B : Board) → ltb 7 t ≡ true → statsAnswer E (narrow t) row col B ≡ statsAnswer E t row col B
-unfolding narrow statsAnswer statsRefusal
+unfolding narrow statsAnswer statsAdmission
 narrow-above E t row col B e = rw e (same-refusal (lengthsDiffer E) (sizeBad 0 (size E)) (fieldsBad E) (confidenceBad (E .confidences)) (statsOf E 255 row col B) (statsOf E t row col B))
 
 narrow-below : (E : EdgeList) (t row col : ℕ) (B : Board) → ltb 7 t ≡ false → statsAnswer E (narrow t) row col B ≡ statsAnswer E t row col B

@@ -16,10 +16,14 @@ use Rattle.flat.specs.declared.flat_stats.FlatStats.{FlatStats}
 abbrev pub nothing : ℕ
 nothing = 4294967295
 
--- a found answer: refusal 0, and each field of the answer at its place
+-- the refusal of an answer that is none: SAMBUREXT_FOUND in the C header
+abbrev pub notRefused : ℕ
+notRefused = 0
+
+-- a found answer: not refused, and each field of the answer at its place
 abbrev pub flatFound : Decoded → FlatAnswer
 flatFound d = record {
-  refusal = 0;
+  refusal = notRefused;
   transform = d .square .transform;
   row = d .square .row;
   col = d .square .col;
@@ -67,7 +71,7 @@ flat (Refused r) = flatRefused (r .number)
 
 -- counted statistics, and refused ones
 abbrev pub flatCounted : MatchStats → FlatStats
-flatCounted s = record { refusal = 0; edges = s .edges; hits = s .hits; «error_rate» = s .rate; «mean_confidence» = s .mean }
+flatCounted s = record { refusal = notRefused; edges = s .edges; hits = s .hits; «error_rate» = s .rate; «mean_confidence» = s .mean }
 
 abbrev pub uncountedWith : ℕ → Float → FlatStats
 uncountedWith n x = record { refusal = n; edges = nothing; hits = nothing; «error_rate» = x; «mean_confidence» = x }

@@ -2,9 +2,9 @@
 use mathlib.Core.Path.{_≡_, refl}
 use Rattle.answer.specs.declared.Answer.{Answer}
 use Rattle.answer.specs.declared.Answer.the-variants.{Found, Refused}
-use Rattle.flat.specs.Flat.{flat, flatRefused}
+use Rattle.flat.specs.Flat.{notRefused, flat, flatRefused}
 
 -- A REFUSAL CARRIES NO SQUARE: where the number is not 0, every other field is 0xFFFFFFFF or NaN
-pub no-square : (a : Answer) → (flat a .refusal ≡ 0 → ⊥) → flat a ≡ flatRefused (flat a .refusal)
+pub no-square : (a : Answer) → (flat a .refusal ≡ notRefused → ⊥) → flat a ≡ flatRefused (flat a .refusal)
 no-square (Found d) h = absurd (h refl)
 no-square (Refused r) h = refl

@@ -8,7 +8,10 @@ use answer::Decoded;
 // The place of a whole number in a refusal: 0xFFFFFFFF, which is no transform, no row and no column, and more than any count.
 pub const NOTHING: u32 = 4294967295;
 
-// The answer of hard and soft decode: refusal is 0 when found.
+// The place of the refusal in an answer that is none: SAMBUREXT_FOUND in the C header, which is no refusal's number.
+pub const NOT_REFUSED: u32 = 0;
+
+// The answer of hard and soft decode: refusal is NOT_REFUSED when found.
 #[repr(C)]
 pub struct FlatAnswer {
     pub refusal: u32,
@@ -42,7 +45,7 @@ fn found(d: Decoded) -> FlatAnswer
     let square = d.square;
     let runner = d.runner;
     FlatAnswer {
-        refusal: 0,
+        refusal: NOT_REFUSED,
         transform: square.transform,
         row: square.row,
         col: square.col,

@@ -1,11 +1,12 @@
 // The answer of match statistics as a struct of plain numbers. A refusal fills every other field with what counted statistics never have.
 ghost use mathlib.Core.Path.{_≡_};
 ghost use Rattle.flat.specs.Flat.{flatStats, flatCounted, flatUncounted};
+use crate::flat::NOT_REFUSED;
 use crate::flat::NOTHING;
 use answer::MatchStats;
 use answer::StatsAnswer;
 
-// The answer of match statistics: refusal is 0 when counted.
+// The answer of match statistics: refusal is NOT_REFUSED when counted.
 #[repr(C)]
 pub struct FlatStats {
     pub refusal: u32,
@@ -20,7 +21,7 @@ fn counted(s: MatchStats) -> FlatStats
     ensures { λ r. ⌜ r ≡ flatCounted s ⌝ }
 {
     FlatStats {
-        refusal: 0,
+        refusal: NOT_REFUSED,
         edges: s.edges,
         hits: s.hits,
         error_rate: s.rate,

@@ -5,6 +5,8 @@ use mathlib.Core.List.{List}
 use Prim.Native.Nat.{ℕ, zero, suc, _≤_, _<_}
 use lib.ListN.{getD, length}
 use lib.Ieee.{Float, nan, binary32, add, eq}
+use Rattle.refusals.specs.Numbers.{numbered}
+use Rattle.refusals.specs.Numbers as why
 use Rattle.laws.specs.Fold.{fold, all}
 use Rattle.laws.specs.Weights.{zeroF}
 use Rattle.board.specs.Hits.{EdgeList, Board, size}
@@ -31,16 +33,16 @@ unfoldable pub scanOf : Board → EdgeList → List ℕ → Float → ℕ → Ha
 scanOf B E ts limit n =
     selected (periodOf B true) (periodOf B false) (size E) (totalConfidence E) limit (λ p. getD ts p 0) (λ p. tablesOf B E (getD ts p 0)) n
 
--- refusal 11 where no transform offered a candidate
+-- refused where no transform offered a candidate
 abbrev pub ofChoice : Choice → Selection
-ofChoice Nothing = Refused 11
+ofChoice Nothing = Refused (numbered why.noneWithinLimit)
 ofChoice (Chosen winner next) = Selected winner next
 
 abbrev pub orRefused : Bool → Choice → Selection
-orRefused true c = Refused 10
+orRefused true c = Refused (numbered why.noConfidence)
 orRefused false c = ofChoice c
 
--- the selection on one list: 10 without confidence, 11 without a candidate, else the winner with its runner-up
+-- the selection on one list: refused without confidence, then without a candidate, else the winner with its runner-up
 unfoldable pub selection : Board → EdgeList → List ℕ → Float → Selection
 selection B E ts limit = orRefused (noConfidence E) (chosen (scanOf B E ts limit (length ts)))
 

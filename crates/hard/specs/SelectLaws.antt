@@ -27,6 +27,8 @@ use Rattle.scan.specs.declared.scan.Choice.{Choice}
 use Rattle.hard.specs.KeptLaws.{selected-sound}
 use Rattle.hard.specs.declared.select.Selection.{Selection}
 use Rattle.hard.specs.declared.select.Selection.the-variants.{Refused, Selected}
+use Rattle.refusals.specs.Numbers.{numbered}
+use Rattle.refusals.specs.Numbers as why
 use Rattle.figures.specs.Figures.{totalConfidence, noConfidence}
 use Rattle.hard.specs.Select.{tablesOf, scanOf, ofChoice, orRefused, selection, SelectReady, Rooms, builtTo, SelectDone}
 
@@ -142,7 +144,7 @@ module _ (B : Board) (E : EdgeList) (ts : List ℕ) (conf limit : Float) (c : Li
 -- ---- the two ends of a selection
 module _ (B : Board) (E : EdgeList) (ts : List ℕ) (limit : Float) (c : List ℕ) (w : List Float) where
   -- no confidence: refused, and the room is as it was
-  pub select-refused : eq (totalConfidence E) zeroF ≡ true → SelectDone B E ts limit c c w w (Refused 10)
+  pub select-refused : eq (totalConfidence E) zeroF ≡ true → SelectDone B E ts limit c c w w (Refused (numbered why.noConfidence))
   unfolding selection noConfidence builtTo Rooms
   select-refused h = record { answer = rw h; rooms = rw h (refl, refl) }
 

@@ -25,6 +25,9 @@ use Rattle.scan.specs.declared.scan.Choice.{Choice}
 use Rattle.scan.specs.declared.scan.Choice.the-variants.{Nothing, Chosen}
 use Rattle.hard.specs.declared.select.Selection.{Selection}
 use Rattle.hard.specs.declared.select.Selection.the-variants.{Refused, Selected}
+use Rattle.refusals.specs.declared.Refusal.{Refusal}
+use Rattle.refusals.specs.Numbers.{numbered}
+use Rattle.refusals.specs.Numbers as why
 use Rattle.figures.specs.Figures.{totalConfidence, noConfidence}
 use Rattle.hard.specs.Select.{tablesOf, scanOf, ofChoice, orRefused, selection}
 use Rattle.hard.specs.SelectLaws.{period-h, period-v, tables-ok}
@@ -38,17 +41,17 @@ of-selected : (x : Choice) (w : Candidate) (r : RunnerUp) → ofChoice x ≡ Sel
 of-selected Nothing w r e = let z : _≡_ {A = ℕ} 0 1 = cc in absurd (omega arith)
 of-selected (Chosen c q) w r e = cc
 
-of-not-10 : (x : Choice) → ofChoice x ≡ Refused 10 → ⊥
-of-not-10 Nothing e = let z : _≡_ {A = ℕ} 11 10 = cc in omega arith
+of-not-10 : (x : Choice) → ofChoice x ≡ Refused (numbered why.noConfidence) → ⊥
+of-not-10 Nothing e = let z : numbered why.noneWithinLimit ≡ numbered why.noConfidence = cc in let n : why.noneWithinLimit ≡ why.noConfidence = ap (λ (r : Refusal). r .number) z in omega arith
 of-not-10 (Chosen c q) e = let z : _≡_ {A = ℕ} 0 1 = cc in omega arith
 
 module _ (B : Board) (E : EdgeList) (ts : List ℕ) (limit : Float) where
   -- 10 exactly when the total confidence is 0
-  pub refuses-10 : (selection B E ts limit ≡ Refused 10 → noConfidence E ≡ true) × (noConfidence E ≡ true → selection B E ts limit ≡ Refused 10)
+  pub refuses-10 : (selection B E ts limit ≡ Refused (numbered why.noConfidence) → noConfidence E ≡ true) × (noConfidence E ≡ true → selection B E ts limit ≡ Refused (numbered why.noConfidence))
   unfolding selection
   refuses-10 = (λ e. go (noConfidence E) refl e, λ h. rw h)
     where
-      go : (b : Bool) → noConfidence E ≡ b → orRefused b (chosen (scanOf B E ts limit (length ts))) ≡ Refused 10 → noConfidence E ≡ true
+      go : (b : Bool) → noConfidence E ≡ b → orRefused b (chosen (scanOf B E ts limit (length ts))) ≡ Refused (numbered why.noConfidence) → noConfidence E ≡ true
       go true q e = q
       go false q e = absurd (of-not-10 (chosen (scanOf B E ts limit (length ts))) e)
 

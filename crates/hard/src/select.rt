@@ -8,14 +8,15 @@ ghost use Rattle.best.specs.CellTables.{Period, TablesOk, cells};
 ghost use Rattle.hard.specs.Transform.{foldTransform};
 ghost use Rattle.hard.specs.Select.{SelectReady, SelectDone};
 ghost use Rattle.hard.specs.SelectLaws.{roomCells, RoomReady, ScanDone};
+use refusals::Refusal;
 use scan::scan::Candidate;
 use scan::scan::Choice;
 use scan::scan::HardScan;
 use scan::scan::RunnerUp;
 
-// What a selection comes to: refused (10 no confidence, 11 nothing within the limit), or the winner with its runner-up.
+// What a selection comes to: refused (no confidence, nothing within the limit), or the winner with its runner-up.
 pub enum Selection {
-    Refused(u32),
+    Refused(Refusal),
     Selected(Candidate, RunnerUp),
 }
 
@@ -120,7 +121,9 @@ pub fn select<'a>(
 {
     let conf = figures::total_confidence(confidences);
     if conf == 0.0 {
-        return Selection::Refused(10);
+        return Selection::Refused(Refusal {
+            number: refusals::NO_CONFIDENCE,
+        });
     }
     let scan = scan_transforms(
         rows,
@@ -137,7 +140,9 @@ pub fn select<'a>(
         weights,
     );
     match scan::record::finish(scan) {
-        Choice::Nothing => Selection::Refused(11),
+        Choice::Nothing => Selection::Refused(Refusal {
+            number: refusals::NONE_WITHIN_LIMIT,
+        }),
         Choice::Chosen { winner, next } => Selection::Selected(winner, next),
     }
 }

@@ -3,15 +3,15 @@ use mathlib.Core.Path.{_≡_}
 use mathlib.Core.Bool.{Bool, true, false, cond, _&&_}
 use mathlib.Core.List.{List}
 use Prim.Native.Nat.{ℕ, _-_}
-use lib.Dec.{eqb}
 use lib.ListN.{getD, length}
 use lib.IntN.{pos}
 use lib.Ieee.{Float, nan, binary32, ofInt}
 use Rattle.laws.specs.Weights.{zeroF, oneF}
 use Rattle.laws.specs.Cleared.{cleared, SameBeyond}
 use Rattle.board.specs.Hits.{EdgeList, Board, size}
-use Rattle.refusals.specs.declared.Refusal.{Refusal}
-use Rattle.admission.specs.Refusals.{numbered, hardRefusal}
+use Rattle.refusals.specs.declared.Admission.{Admission}
+use Rattle.refusals.specs.declared.Admission.the-variants as admission
+use Rattle.admission.specs.Refusals.{hardAdmission}
 use Rattle.scan.specs.declared.scan.Candidate.{Candidate}
 use Rattle.scan.specs.declared.scan.RunnerUp.{RunnerUp}
 use Rattle.hard.specs.declared.select.Selection.{Selection}
@@ -22,15 +22,15 @@ use Rattle.hard.specs.Select.{selection}
 use Rattle.answer.specs.declared.Decoded.{Decoded}
 use Rattle.answer.specs.declared.Answer.{Answer}
 use Rattle.answer.specs.declared.Answer.the-variants.{Found, Refused}
-use Rattle.verdict.specs.Verdict.{refusedBy, pick, judged}
+use Rattle.verdict.specs.Verdict.{whenAccepted, judged}
 
 -- "select on the logical list with the limit, then on the physical list with limit 1; origin and matrix must agree; then the gate on the logical list"
 abbrev pub afterPhysical : EdgeList → List ℕ → Candidate → RunnerUp → Selection → Answer
-afterPhysical L ts w next (sel.Refused n) = refusedBy n
+afterPhysical L ts w next (sel.Refused r) = Refused r
 afterPhysical L ts w next (sel.Selected p other) = judged (getD ts (w .place) 0) w next (getD ts (p .place) 0) p (size L)
 
 abbrev pub afterLogical : EdgeList → EdgeList → List ℕ → Board → Selection → Answer
-afterLogical L P ts B (sel.Refused n) = refusedBy n
+afterLogical L P ts B (sel.Refused r) = Refused r
 afterLogical L P ts B (sel.Selected w next) = afterPhysical L ts w next (selection B P ts oneF)
 
 -- what an accepted hard call answers
@@ -41,17 +41,18 @@ hardCore L P ts B limit = afterLogical L P ts B (selection B L ts limit)
 -- the answer for all inputs: refusals 1 to 9 come first
 unfoldable pub hardAnswer : EdgeList → EdgeList → List ℕ → Board → Float → ℕ → ℕ → Answer
 unfolding hardCore
-hardAnswer L P ts B limit m n = pick (eqb (hardRefusal L P ts B limit m n .number) 0) (hardCore L P ts B limit) (Refused (hardRefusal L P ts B limit m n))
+hardAnswer L P ts B limit m n = whenAccepted (hardAdmission L P ts B limit m n) (hardCore L P ts B limit)
 
 -- what a room slice holds at exit, of which n places are used (demand 1): "After refusals 1 to 9 the lent room is untouched; after every other call the used room is zero"
-unfoldable pub left : {A : Type 0} → A → ℕ → Refusal → List A → List A
-left zero n r room = cond (eqb (r .number) 0) (cleared zero n room) room
+unfoldable pub left : {A : Type 0} → A → ℕ → Admission → List A → List A
+left zero n admission.Accepted room = cleared zero n room
+left zero n (admission.Refused r) room = room
 
 -- what hard decode promises for all inputs: the answer, and both room slices at exit
 pub record HardDone (L P : EdgeList) (ts : List ℕ) (B : Board) (limit : Float) (c c' : List ℕ) (w w' : List Float) (r : Answer) : Type 0 where
   pub answer : r ≡ hardAnswer L P ts B limit (length c) (length w)
-  pub counts : c' ≡ left 0 3006 (hardRefusal L P ts B limit (length c) (length w)) c
-  pub weights : w' ≡ left zeroF 3006 (hardRefusal L P ts B limit (length c) (length w)) w
+  pub counts : c' ≡ left 0 3006 (hardAdmission L P ts B limit (length c) (length w)) c
+  pub weights : w' ≡ left zeroF 3006 (hardAdmission L P ts B limit (length c) (length w)) w
 
 -- what the core leaves to be cleared
 pub record CoreDone (L P : EdgeList) (ts : List ℕ) (B : Board) (limit : Float) (c c' : List ℕ) (w w' : List Float) (r : Answer) : Type 0 where

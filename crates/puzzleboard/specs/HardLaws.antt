@@ -4,11 +4,10 @@ use mathlib.Core.Bool.{Bool, true, false, not, _&&_, cond}
 use mathlib.Core.List.{List, [], _∷_}
 use Prim.Native.Nat.{ℕ, zero, suc, _+_, _*_, _≤_, _<_}
 use native.Mathlib.Omega.{arith}
-use lib.Dec.{T, eqb, lit<}
+use lib.Dec.{T, lit<}
 use lib.ListN.{getD, length}
 use lib.IntN.{ℤ, pos, negsuc}
 use lib.Ieee.{Float, nan}
-use borrow.Author.Tests.{eq-eqb, ne-eqb}
 use Rattle.laws.specs.Weights.{zeroF, oneF}
 use Rattle.laws.specs.Cleared.{cleared, SameBeyond, beyond-trans, cleared-forgets}
 use Rattle.board.specs.Hits.{EdgeList, Board, size}
@@ -17,7 +16,9 @@ use Rattle.board.specs.Sides.{periodOf}
 use Rattle.board.specs.Domain.{ListOk, BoardOk}
 use Rattle.tables.specs.Room.{used}
 use Rattle.refusals.specs.declared.Refusal.{Refusal}
-use Rattle.admission.specs.Refusals.{hardRefusal}
+use Rattle.refusals.specs.declared.Admission.{Admission}
+use Rattle.refusals.specs.declared.Admission.the-variants as admission
+use Rattle.admission.specs.Refusals.{hardAdmission}
 use Rattle.admission.specs.Accepted.{TransformsOk, HardAccepted}
 use Rattle.scan.specs.declared.scan.Candidate.{Candidate}
 use Rattle.scan.specs.declared.scan.RunnerUp.{RunnerUp}
@@ -28,7 +29,7 @@ use Rattle.hard.specs.SelectLaws.{select-beyond}
 use Rattle.hard.specs.SelectTheorems.{selected-in-range}
 use Rattle.answer.specs.declared.Answer.{Answer}
 use Rattle.answer.specs.declared.Answer.the-variants.{Found, Refused}
-use Rattle.verdict.specs.Verdict.{refusedBy, judged}
+use Rattle.verdict.specs.Verdict.{whenAccepted, judged}
 use Rattle.puzzleboard.specs.Hard.{afterPhysical, afterLogical, hardCore, hardAnswer, left, HardDone, CoreDone}
 
 -- ---- the eight matrices differ
@@ -98,11 +99,11 @@ module _ (L P : EdgeList) (ts : List ℕ) (B : Board) (limit : Float) (c : List 
 
   -- ---- the three ways in which the core ends
   module _ (c' : List ℕ) (w' : List Float) (r : Selection) (D : SelectDone B L ts limit c c' w w' r) where
-    pub core-refused : (n : ℕ) (a : Answer) → r ≡ sel.Refused n → a ≡ refusedBy n → CoreDone L P ts B limit c c' w w' a
+    pub core-refused : (n : Refusal) → r ≡ sel.Refused n → CoreDone L P ts B limit c c' w w' (Refused n)
     unfolding hardCore
-    core-refused n a k e =
+    core-refused n k =
         let s = beyond L limit c c' w w' r ready-logical D in
-        record { answer = e ∙ ap (afterLogical L P ts B) (sym k ∙ D .answer); counts = s .0; weights = s .1 }
+        record { answer = ap (afterLogical L P ts B) (sym k ∙ D .answer); counts = s .0; weights = s .1 }
 
     module _ (x : Candidate) (next : RunnerUp) (k : r ≡ sel.Selected x next) (c'' : List ℕ) (w'' : List Float) (q : Selection) (F : SelectDone B P ts oneF c' c'' w' w'' q) where
       both : SameBeyond 0 3006 c c'' × SameBeyond nan 3006 w w''
@@ -115,33 +116,35 @@ module _ (L P : EdgeList) (ts : List ℕ) (B : Board) (limit : Float) (c : List 
       unfolding hardCore
       core-answer = ap (afterPhysical L ts x next) (F .answer) ∙ ap (afterLogical L P ts B) (sym k ∙ D .answer)
 
-      pub core-physical-refused : (n : ℕ) (a : Answer) → q ≡ sel.Refused n → a ≡ refusedBy n → CoreDone L P ts B limit c c'' w w'' a
-      core-physical-refused n a g e = record { answer = e ∙ ap (afterPhysical L ts x next) (sym g) ∙ core-answer; counts = both .0; weights = both .1 }
+      pub core-physical-refused : (n : Refusal) → q ≡ sel.Refused n → CoreDone L P ts B limit c c'' w w'' (Refused n)
+      core-physical-refused n g = record { answer = ap (afterPhysical L ts x next) (sym g) ∙ core-answer; counts = both .0; weights = both .1 }
 
       pub core-judged : (p : Candidate) (other : RunnerUp) (a : Answer) → q ≡ sel.Selected p other → a ≡ judged (getD ts (x .place) 0) x next (getD ts (p .place) 0) p (size L) → CoreDone L P ts B limit c c'' w w'' a
       core-judged p other a g e = record { answer = e ∙ ap (afterPhysical L ts x next) (sym g) ∙ core-answer; counts = both .0; weights = both .1 }
 
 -- ---- the two ways in which hard decode ends
 module _ (L P : EdgeList) (ts : List ℕ) (B : Board) (limit : Float) (c : List ℕ) (w : List Float) where
-  abbrev refusal : Refusal
-  refusal = hardRefusal L P ts B limit (length c) (length w)
+  module _ (a : Admission) (e : a ≡ hardAdmission L P ts B limit (length c) (length w)) where
+    pub hard-refused : (x : Refusal) → a ≡ admission.Refused x → HardDone L P ts B limit c c w w (Refused x)
+    unfolding hardAnswer left
+    hard-refused x n =
+        let f = sym n ∙ e in
+        record {
+          answer = ap (λ (y : Admission). whenAccepted y (hardCore L P ts B limit)) f;
+          counts = ap (λ (y : Admission). left 0 3006 y c) f;
+          weights = ap (λ (y : Admission). left zeroF 3006 y w) f;
+        }
 
-  pub hard-refused : (r : Refusal) → r ≡ hardRefusal L P ts B limit (length c) (length w) → (r .number ≡ 0 → ⊥) → HardDone L P ts B limit c c w w (Refused r)
-  unfolding hardAnswer left
-  hard-refused r e n =
-      let f : eqb (refusal .number) 0 ≡ false = ap (λ (x : Refusal). eqb (x .number) 0) (sym e) ∙ ne-eqb (r .number) 0 n in
-      record { answer = rw f (ap Refused e); counts = rw f; weights = rw f }
-
-  pub hard-done : (r : Refusal) (c' c'' : List ℕ) (w' w'' : List Float) (a : Answer) → r ≡ hardRefusal L P ts B limit (length c) (length w) → r .number ≡ 0 → HardAccepted L P ts B limit (length c) (length w) → CoreDone L P ts B limit c c' w w' a
-      → c'' ≡ cleared 0 3006 c' → w'' ≡ cleared zeroF 3006 w' → HardDone L P ts B limit c c'' w w'' a
-  unfolding hardAnswer left
-  hard-done r c' c'' w' w'' a e z A D u v =
-      let f : eqb (refusal .number) 0 ≡ true = ap (λ (x : Refusal). eqb (x .number) 0) (sym e) ∙ eq-eqb (r .number) 0 z in
-      record {
-        answer = rw f (D .answer);
-        counts = rw f (u ∙ cleared-forgets 0 3006 0 c c' (A .room .0) (D .counts));
-        weights = rw f (v ∙ cleared-forgets nan 3006 zeroF w w' (A .room .1) (D .weights));
-      }
+    pub hard-done : (c' c'' : List ℕ) (w' w'' : List Float) (r : Answer) → a ≡ admission.Accepted → HardAccepted L P ts B limit (length c) (length w) → CoreDone L P ts B limit c c' w w' r
+        → c'' ≡ cleared 0 3006 c' → w'' ≡ cleared zeroF 3006 w' → HardDone L P ts B limit c c'' w w'' r
+    unfolding hardAnswer left
+    hard-done c' c'' w' w'' r z A D u v =
+        let f = sym z ∙ e in
+        record {
+          answer = D .answer ∙ ap (λ (y : Admission). whenAccepted y (hardCore L P ts B limit)) f;
+          counts = u ∙ cleared-forgets 0 3006 0 c c' (A .room .0) (D .counts) ∙ ap (λ (y : Admission). left 0 3006 y c) f;
+          weights = v ∙ cleared-forgets nan 3006 zeroF w w' (A .room .1) (D .weights) ∙ ap (λ (y : Admission). left zeroF 3006 y w) f;
+        }
 
   -- any two results that the promise allows are equal
   pub hard-unique : (c' d' : List ℕ) (w' x' : List Float) (r s : Answer) → HardDone L P ts B limit c c' w w' r → HardDone L P ts B limit c d' w x' s → (r ≡ s) × (c' ≡ d') × (w' ≡ x')

@@ -23,6 +23,9 @@ use Rattle.scan.specs.declared.scan.Candidate.{Candidate}
 use Rattle.scan.specs.declared.scan.RunnerUp.{RunnerUp}
 use Rattle.hard.specs.declared.select.Selection.{Selection}
 use Rattle.hard.specs.declared.select.Selection.the-variants as sel
+use Rattle.refusals.specs.declared.Refusal.{Refusal}
+use Rattle.refusals.specs.Numbers.{numbered}
+use Rattle.refusals.specs.Numbers as why
 use Rattle.answer.specs.declared.Decoded.{Decoded}
 use Rattle.answer.specs.declared.Answer.{Answer}
 use Rattle.answer.specs.declared.Answer.the-variants.{Found, Refused}
@@ -33,8 +36,8 @@ use Rattle.puzzleboard.specs.DemandLaws.{keyOf, key-same, leads-sole}
 use Rattle.puzzleboard.specs.Winners.{placed, nextAt, winner-on, winner-leads, winner-hits, named, runner-hits, runs-up}
 
 -- ---- found or refused: no answer is both
-pub no-square : (d : Decoded) (n : ℕ) → refusedBy n ≡ Found d → ⊥
-no-square d n e = let z : _≡_ {A = ℕ} 0 1 = cc in omega arith
+pub no-square : (d : Decoded) (r : Refusal) → Refused r ≡ Found d → ⊥
+no-square d r e = let z : _≡_ {A = ℕ} 0 1 = cc in omega arith
 
 module _ (L P : EdgeList) (ts : List ℕ) (B : Board) (limit : Float) (m n : ℕ) (A : HardAccepted L P ts B limit m n) where
   -- what a found hard answer says
@@ -77,13 +80,13 @@ module _ (L P : EdgeList) (ts : List ℕ) (B : Board) (limit : Float) (m n : ℕ
             });
           }
 
-      by-gate : (b : Bool) → passed (size L) (x .hits) (r .hits) ≡ b → agreed t x s y ≡ true → pick b (Found (decodedOf t x r (size L))) (refusedBy 13) ≡ Found d → Answered d
+      by-gate : (b : Bool) → passed (size L) (x .hits) (r .hits) ≡ b → agreed t x s y ≡ true → pick b (Found (decodedOf t x r (size L))) (refusedBy why.notFarAhead) ≡ Found d → Answered d
       by-gate true g a k = answered a g k
-      by-gate false g a k = absurd (no-square d 13 k)
+      by-gate false g a k = absurd (no-square d (numbered why.notFarAhead) k)
 
-      by-agreed : (b : Bool) → agreed t x s y ≡ b → pick b (pick (passed (size L) (x .hits) (r .hits)) (Found (decodedOf t x r (size L))) (refusedBy 13)) (refusedBy 12) ≡ Found d → Answered d
+      by-agreed : (b : Bool) → agreed t x s y ≡ b → pick b (pick (passed (size L) (x .hits) (r .hits)) (Found (decodedOf t x r (size L))) (refusedBy why.notFarAhead)) (refusedBy why.listsDisagree) ≡ Found d → Answered d
       by-agreed true a k = by-gate (passed (size L) (x .hits) (r .hits)) refl a k
-      by-agreed false a k = absurd (no-square d 12 k)
+      by-agreed false a k = absurd (no-square d (numbered why.listsDisagree) k)
 
       from-judged : judged t x r s y (size L) ≡ Found d → Answered d
       unfolding judged

@@ -3,7 +3,6 @@ use mathlib.Core.Path.{_≡_}
 use mathlib.Core.Bool.{Bool, true, false, cond, _&&_}
 use mathlib.Core.List.{List}
 use Prim.Native.Nat.{ℕ, _+_, _*_, _%_}
-use lib.Dec.{eqb}
 use lib.ListN.{getD, length}
 use lib.IntN.{ℤ, pos}
 use lib.Ieee.{Float, nan, binary32, add, div, ofInt}
@@ -13,7 +12,8 @@ use Rattle.board.specs.Hits.{EdgeList, Board, size}
 use Rattle.board.specs.Sides.{periodOf}
 use Rattle.tables.specs.Room.{TablesBuilt}
 use Rattle.sums.specs.Sums.{Likelihoods}
-use Rattle.admission.specs.Refusals.{softRefusal}
+use Rattle.refusals.specs.Numbers as why
+use Rattle.admission.specs.Refusals.{softAdmission}
 use Rattle.scan.specs.declared.scan.Candidate.{Candidate}
 use Rattle.scan.specs.declared.scan.RunnerUp.{RunnerUp}
 use Rattle.hard.specs.declared.select.Selection.{Selection}
@@ -33,7 +33,7 @@ use Rattle.verdict.specs.declared.soft_verdict.SoftBest.{SoftBest}
 use Rattle.answer.specs.declared.Decoded.{Decoded}
 use Rattle.answer.specs.declared.Answer.{Answer}
 use Rattle.answer.specs.declared.Answer.the-variants.{Found, Refused}
-use Rattle.verdict.specs.Verdict.{refusedBy, pick, softVerdict, softDecodedOf, bestOf}
+use Rattle.verdict.specs.Verdict.{refusedBy, pick, whenAccepted, softVerdict, softDecodedOf, bestOf}
 use Rattle.puzzleboard.specs.Hard.{left}
 
 -- ---- the physical list's figures
@@ -55,37 +55,35 @@ module _ (P L : EdgeList) (ts : List ℕ) (B : Board) (limit : Float) where
   unfolding softDecodedOf
   softJudged best w next =
       let t = getD ts (best .first .place) 0 in
-      let n = softVerdict t (best .first) (getD ts (w .place) 0) w next (size L) in
-      pick (eqb n 0) (Found (softDecodedOf t best (figuresOf B P t (best .first .row) (best .first .col)) (size P) next)) (refusedBy n)
+      whenAccepted (softVerdict t (best .first) (getD ts (w .place) 0) w next (size L)) (Found (softDecodedOf t best (figuresOf B P t (best .first .row) (best .first .col)) (size P) next))
 
   abbrev pub afterHard : SoftBest → Selection → Answer
-  afterHard best (sel.Refused n) = refusedBy n
+  afterHard best (sel.Refused r) = Refused r
   afterHard best (sel.Selected w next) = softJudged best w next
 
   -- "Margin = (first - second) / edges. Below the soft margin: refused."
   abbrev pub afterSoft : Float → SoftChoice → Answer
-  afterSoft least Nothing = refusedBy 14
+  afterSoft least Nothing = refusedBy why.softMargin
   afterSoft least (Chosen first second) =
-      pick (belowMargin (softMargin first second (size P)) least) (refusedBy 14) (afterHard (bestOf first second (size P)) (selection B L ts limit))
+      pick (belowMargin (softMargin first second (size P)) least) (refusedBy why.softMargin) (afterHard (bestOf first second (size P)) (selection B L ts limit))
 
 -- what an accepted soft call answers, with the soft margin `least`
 unfoldable pub softCore : EdgeList → Likelihoods → EdgeList → List ℕ → Board → Float → Float → Answer
 unfolding softJudged
-softCore P X L ts B limit least = pick (noConfidence P) (refusedBy 10) (afterSoft P L ts B limit least (softSelection B P X ts))
+softCore P X L ts B limit least = pick (noConfidence P) (refusedBy why.noConfidence) (afterSoft P L ts B limit least (softSelection B P X ts))
 
 -- the answer for all inputs: refusals 1 to 9 come first
 unfoldable pub softAnswer : EdgeList → Likelihoods → EdgeList → List ℕ → Board → Float → Float → ℕ → ℕ → ℕ → Answer
 unfolding softCore
 softAnswer P X L ts B limit least m n k =
-    let r = softRefusal P (X .matches) (X .mismatches) L ts B limit least m n k in
-    pick (eqb (r .number) 0) (softCore P X L ts B limit least) (Refused r)
+    whenAccepted (softAdmission P (X .matches) (X .mismatches) L ts B limit least m n k) (softCore P X L ts B limit least)
 
 -- what soft decode promises for all inputs: the answer, and the three room slices at exit
 pub record SoftDone (P : EdgeList) (X : Likelihoods) (L : EdgeList) (ts : List ℕ) (B : Board) (limit least : Float) (c c' : List ℕ) (w w' : List Float) (a a' : List ℤ) (r : Answer) : Type 0 where
   pub answer : r ≡ softAnswer P X L ts B limit least (length c) (length w) (length a)
-  pub counts : c' ≡ left 0 3006 (softRefusal P (X .matches) (X .mismatches) L ts B limit least (length c) (length w) (length a)) c
-  pub weights : w' ≡ left zeroF 3006 (softRefusal P (X .matches) (X .mismatches) L ts B limit least (length c) (length w) (length a)) w
-  pub sums : a' ≡ left (pos 0) 5010 (softRefusal P (X .matches) (X .mismatches) L ts B limit least (length c) (length w) (length a)) a
+  pub counts : c' ≡ left 0 3006 (softAdmission P (X .matches) (X .mismatches) L ts B limit least (length c) (length w) (length a)) c
+  pub weights : w' ≡ left zeroF 3006 (softAdmission P (X .matches) (X .mismatches) L ts B limit least (length c) (length w) (length a)) w
+  pub sums : a' ≡ left (pos 0) 5010 (softAdmission P (X .matches) (X .mismatches) L ts B limit least (length c) (length w) (length a)) a
 
 -- ---- what the steps between leave
 pub record FiguresDone (B : Board) (E : EdgeList) (t row col : ℕ) (c c' : List ℕ) (w w' : List Float) (r : HitsWeight) : Type 0 where

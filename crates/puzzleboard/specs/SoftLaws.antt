@@ -6,12 +6,11 @@ use Prim.Native.Nat.{ℕ, zero, suc, _+_, _*_, _%_, _≤_, _<_}
 use native.Mathlib.Nat.{mod-lt}
 use native.Mathlib.Omega.{arith}
 use lib.Arith.{digits-lt}
-use lib.Dec.{T, eqb, lit<}
+use lib.Dec.{T, lit<}
 use lib.ListN.{getD, length, take, drop}
 use lib.Seq.{getD-take, getD-drop}
 use lib.IntN.{ℤ, pos}
 use lib.Ieee.{Float, nan, binary32, add, eq}
-use borrow.Author.Tests.{eq-eqb, ne-eqb}
 use Rattle.laws.specs.Weights.{zeroF}
 use Rattle.laws.specs.Part.{view}
 use Rattle.laws.specs.GridLaws.{h-below, v-below}
@@ -22,7 +21,10 @@ use Rattle.board.specs.Domain.{ListOk, BoardOk}
 use Rattle.tables.specs.Room.{used, TablesReady, TablesBuilt}
 use Rattle.sums.specs.Sums.{Likelihoods, LikelihoodsOk}
 use Rattle.refusals.specs.declared.Refusal.{Refusal}
-use Rattle.admission.specs.Refusals.{softRefusal}
+use Rattle.refusals.specs.declared.Admission.{Admission}
+use Rattle.refusals.specs.declared.Admission.the-variants as admission
+use Rattle.refusals.specs.Numbers as why
+use Rattle.admission.specs.Refusals.{softAdmission}
 use Rattle.admission.specs.Accepted.{HardAccepted, SoftAccepted}
 use Rattle.scan.specs.declared.scan.Candidate.{Candidate}
 use Rattle.scan.specs.declared.scan.RunnerUp.{RunnerUp}
@@ -45,7 +47,7 @@ use Rattle.verdict.specs.declared.soft_verdict.SoftBest.{SoftBest}
 use Rattle.answer.specs.declared.Decoded.{Decoded}
 use Rattle.answer.specs.declared.Answer.{Answer}
 use Rattle.answer.specs.declared.Answer.the-variants.{Found, Refused}
-use Rattle.verdict.specs.Verdict.{refusedBy}
+use Rattle.verdict.specs.Verdict.{refusedBy, whenAccepted}
 use Rattle.puzzleboard.specs.Hard.{left}
 use Rattle.puzzleboard.specs.HardLaws.{used-flat, ready-logical, beyond}
 use Rattle.verdict.specs.Verdict.{softVerdict, softDecodedOf}
@@ -97,9 +99,9 @@ module _ (L P : EdgeList) (ts : List ℕ) (B : Board) (limit : Float) (c : List 
   pub logical-rooms : SameBeyond 0 3006 c c' × SameBeyond nan 3006 w w'
   logical-rooms = beyond L P ts B limit c w A L limit c c' w w' r (ready-logical L P ts B limit c w A) D
 
-  pub logical-refused : (n : ℕ) (a : Answer) → r ≡ sel.Refused n → a ≡ refusedBy n → LogicalDone P L ts B limit best c c' w w' a
+  pub logical-refused : (n : Refusal) → r ≡ sel.Refused n → LogicalDone P L ts B limit best c c' w w' (Refused n)
   unfolding softJudged
-  logical-refused n a k e = record { answer = e ∙ ap (afterHard P L ts B limit best) (sym k ∙ D .answer); counts = logical-rooms .0; weights = logical-rooms .1 }
+  logical-refused n k = record { answer = ap (afterHard P L ts B limit best) (sym k ∙ D .answer); counts = logical-rooms .0; weights = logical-rooms .1 }
 
   -- the tables of its transform can be built
   pub figures-ready : best .first .place < length ts → TablesReady B P (getD ts (best .first .place) 0) c' w'
@@ -112,27 +114,27 @@ module _ (L P : EdgeList) (ts : List ℕ) (B : Board) (limit : Float) (c : List 
         room = (omega (arith, A .room .0, logical-rooms .0 .len), omega (arith, A .room .1, logical-rooms .1 .len));
       }
 
-  module _ (x : Candidate) (next : RunnerUp) (k : r ≡ sel.Selected x next) (n : ℕ) (v : n ≡ softVerdict (getD ts (best .first .place) 0) (best .first) (getD ts (x .place) 0) x next (size L)) where
-    logical-answer : softJudged P L ts B limit best x next ≡ afterHard P L ts B limit best (selection B L ts limit)
-    logical-answer = ap (afterHard P L ts B limit best) (sym k ∙ D .answer)
+  module _ (x : Candidate) (next : RunnerUp) (k : r ≡ sel.Selected x next) (n : Admission) (v : n ≡ softVerdict (getD ts (best .first .place) 0) (best .first) (getD ts (x .place) 0) x next (size L)) where
+    -- the answer under a verdict
+    abbrev under : Admission → Answer
+    under y = let t = getD ts (best .first .place) 0 in whenAccepted y (Found (softDecodedOf t best (figuresOf B P t (best .first .row) (best .first .col)) (size P) next))
 
-    pub verdict-refused : (a : Answer) → (n ≡ 0 → ⊥) → a ≡ refusedBy n → LogicalDone P L ts B limit best c c' w w' a
+    logical-answer : under n ≡ afterHard P L ts B limit best (selection B L ts limit)
     unfolding softJudged
-    verdict-refused a o e =
-        let f : eqb (softVerdict (getD ts (best .first .place) 0) (best .first) (getD ts (x .place) 0) x next (size L)) 0 ≡ false = ap (λ (m : ℕ). eqb m 0) (sym v) ∙ ne-eqb n 0 o in
-        record { answer = e ∙ ap refusedBy v ∙ sym (rw f) ∙ logical-answer; counts = logical-rooms .0; weights = logical-rooms .1 }
+    logical-answer = ap under v ∙ ap (afterHard P L ts B limit best) (sym k ∙ D .answer)
+
+    pub verdict-refused : (z : Refusal) → n ≡ admission.Refused z → LogicalDone P L ts B limit best c c' w w' (Refused z)
+    verdict-refused z o = record { answer = ap under (sym o) ∙ logical-answer; counts = logical-rooms .0; weights = logical-rooms .1 }
 
     module _ (c'' : List ℕ) (w'' : List Float) (own : HitsWeight) (F : FiguresDone B P (getD ts (best .first .place) 0) (best .first .row) (best .first .col) c' c'' w' w'' own) where
       pub own-few : own .hits ≤ size P
       own-few = subst (λ (z : HitsWeight). z .hits ≤ size P) (sym (F .answer)) (figures-few B P (getD ts (best .first .place) 0) (best .first .row) (best .first .col) (A .board) (A .physical))
 
-      pub verdict-found : (a : Decoded) → n ≡ 0 → a ≡ softDecodedOf (getD ts (best .first .place) 0) best own (size P) next → LogicalDone P L ts B limit best c c'' w w'' (Found a)
-      unfolding softJudged
+      pub verdict-found : (a : Decoded) → n ≡ admission.Accepted → a ≡ softDecodedOf (getD ts (best .first .place) 0) best own (size P) next → LogicalDone P L ts B limit best c c'' w w'' (Found a)
       verdict-found a o e =
-          let f : eqb (softVerdict (getD ts (best .first .place) 0) (best .first) (getD ts (x .place) 0) x next (size L)) 0 ≡ true = ap (λ (m : ℕ). eqb m 0) (sym v) ∙ eq-eqb n 0 o in
           let u = used-flat B 1 (A .periods) in
           record {
-            answer = ap Found (e ∙ ap (λ (z : HitsWeight). softDecodedOf (getD ts (best .first .place) 0) best z (size P) next) (F .answer)) ∙ sym (rw f) ∙ logical-answer;
+            answer = ap Found (e ∙ ap (λ (z : HitsWeight). softDecodedOf (getD ts (best .first .place) 0) best z (size P) next) (F .answer)) ∙ ap under (sym o) ∙ logical-answer;
             counts = beyond-trans 0 3006 c c' c'' (logical-rooms .0) (record { len = F .rooms .counts .len; same = λ i h. F .rooms .counts .surplus i (omega arith) });
             weights = beyond-trans nan 3006 w w' w'' (logical-rooms .1) (record { len = F .rooms .weights .len; same = λ i h. F .rooms .weights .surplus i (omega arith) });
           }
@@ -179,7 +181,7 @@ module _ (P : EdgeList) (X : Likelihoods) (L : EdgeList) (ts : List ℕ) (B : Bo
   }
 
   -- no confidence
-  pub core-none : (r : Answer) → eq (totalConfidence P) zeroF ≡ true → r ≡ refusedBy 10 → SoftCoreDone P X L ts B limit least c c w w a a r
+  pub core-none : (r : Answer) → eq (totalConfidence P) zeroF ≡ true → r ≡ refusedBy why.noConfidence → SoftCoreDone P X L ts B limit least c c w w a a r
   unfolding softCore noConfidence
   core-none r h e = record { answer = e ∙ sym (rw h); counts = beyond-refl 0 3006 c; weights = beyond-refl nan 3006 w; sums = beyond-refl (pos 0) 5010 a }
 
@@ -198,12 +200,12 @@ module _ (P : EdgeList) (X : Likelihoods) (L : EdgeList) (ts : List ℕ) (B : Bo
     core-answer y e = ap (afterSoft P L ts B limit least) (sym e ∙ choice-told) ∙ sym (rw h)
 
     -- no two candidates
-    pub core-nothing : (r : Answer) → x ≡ Nothing → r ≡ refusedBy 14 → SoftCoreDone P X L ts B limit least c c w w a a' r
+    pub core-nothing : (r : Answer) → x ≡ Nothing → r ≡ refusedBy why.softMargin → SoftCoreDone P X L ts B limit least c c w w a a' r
     core-nothing r k e = record { answer = e ∙ core-answer Nothing k; counts = beyond-refl 0 3006 c; weights = beyond-refl nan 3006 w; sums = sums-beyond }
 
     module _ (first second : SoftCandidate) (k : x ≡ Chosen first second) (m : Float) (f : m ≡ softMargin first second (size P)) where
       -- the margin is too small
-      pub core-below : (b : Bool) (r : Answer) → b ≡ belowMargin m least → b ≡ true → r ≡ refusedBy 14 → SoftCoreDone P X L ts B limit least c c w w a a' r
+      pub core-below : (b : Bool) (r : Answer) → b ≡ belowMargin m least → b ≡ true → r ≡ refusedBy why.softMargin → SoftCoreDone P X L ts B limit least c c w w a a' r
       core-below b r d t e =
           let q : belowMargin (softMargin first second (size P)) least ≡ true = ap (λ (z : Float). belowMargin z least) (sym f) ∙ sym d ∙ t in
           record { answer = e ∙ sym (rw q) ∙ core-answer (Chosen first second) k; counts = beyond-refl 0 3006 c; weights = beyond-refl nan 3006 w; sums = sums-beyond }
@@ -221,27 +223,30 @@ module _ (P : EdgeList) (X : Likelihoods) (L : EdgeList) (ts : List ℕ) (B : Bo
 
 -- ---- the two ways in which soft decode ends
 module _ (P : EdgeList) (X : Likelihoods) (L : EdgeList) (ts : List ℕ) (B : Board) (limit least : Float) (c : List ℕ) (w : List Float) (a : List ℤ) where
-  abbrev refusal : Refusal
-  refusal = softRefusal P (X .matches) (X .mismatches) L ts B limit least (length c) (length w) (length a)
+  module _ (b : Admission) (e : b ≡ softAdmission P (X .matches) (X .mismatches) L ts B limit least (length c) (length w) (length a)) where
+    pub soft-refused : (x : Refusal) → b ≡ admission.Refused x → SoftDone P X L ts B limit least c c w w a a (Refused x)
+    unfolding softAnswer left
+    soft-refused x n =
+        let f = sym n ∙ e in
+        record {
+          answer = ap (λ (y : Admission). whenAccepted y (softCore P X L ts B limit least)) f;
+          counts = ap (λ (y : Admission). left 0 3006 y c) f;
+          weights = ap (λ (y : Admission). left zeroF 3006 y w) f;
+          sums = ap (λ (y : Admission). left (pos 0) 5010 y a) f;
+        }
 
-  pub soft-refused : (r : Refusal) → r ≡ softRefusal P (X .matches) (X .mismatches) L ts B limit least (length c) (length w) (length a) → (r .number ≡ 0 → ⊥) → SoftDone P X L ts B limit least c c w w a a (Refused r)
-  unfolding softAnswer left
-  soft-refused r e n =
-      let f : eqb (refusal .number) 0 ≡ false = ap (λ (x : Refusal). eqb (x .number) 0) (sym e) ∙ ne-eqb (r .number) 0 n in
-      record { answer = rw f (ap Refused e); counts = rw f; weights = rw f; sums = rw f }
-
-  pub soft-done : (r : Refusal) (c' c'' : List ℕ) (w' w'' : List Float) (a' a'' : List ℤ) (o : Answer) → r ≡ softRefusal P (X .matches) (X .mismatches) L ts B limit least (length c) (length w) (length a) → r .number ≡ 0
-      → SoftAccepted P (X .matches) (X .mismatches) L ts B limit least (length c) (length w) (length a) → SoftCoreDone P X L ts B limit least c c' w w' a a' o
-      → c'' ≡ cleared 0 3006 c' → w'' ≡ cleared zeroF 3006 w' → a'' ≡ cleared (pos 0) 5010 a' → SoftDone P X L ts B limit least c c'' w w'' a a'' o
-  unfolding softAnswer left
-  soft-done r c' c'' w' w'' a' a'' o e z A D u v t =
-      let f : eqb (refusal .number) 0 ≡ true = ap (λ (x : Refusal). eqb (x .number) 0) (sym e) ∙ eq-eqb (r .number) 0 z in
-      record {
-        answer = rw f (D .answer);
-        counts = rw f (u ∙ cleared-forgets 0 3006 0 c c' (A .room .0) (D .counts));
-        weights = rw f (v ∙ cleared-forgets nan 3006 zeroF w w' (A .room .1) (D .weights));
-        sums = rw f (t ∙ cleared-forgets (pos 0) 5010 (pos 0) a a' (A .room .2) (D .sums));
-      }
+    pub soft-done : (c' c'' : List ℕ) (w' w'' : List Float) (a' a'' : List ℤ) (o : Answer) → b ≡ admission.Accepted
+        → SoftAccepted P (X .matches) (X .mismatches) L ts B limit least (length c) (length w) (length a) → SoftCoreDone P X L ts B limit least c c' w w' a a' o
+        → c'' ≡ cleared 0 3006 c' → w'' ≡ cleared zeroF 3006 w' → a'' ≡ cleared (pos 0) 5010 a' → SoftDone P X L ts B limit least c c'' w w'' a a'' o
+    unfolding softAnswer left
+    soft-done c' c'' w' w'' a' a'' o z A D u v t =
+        let f = sym z ∙ e in
+        record {
+          answer = D .answer ∙ ap (λ (y : Admission). whenAccepted y (softCore P X L ts B limit least)) f;
+          counts = u ∙ cleared-forgets 0 3006 0 c c' (A .room .0) (D .counts) ∙ ap (λ (y : Admission). left 0 3006 y c) f;
+          weights = v ∙ cleared-forgets nan 3006 zeroF w w' (A .room .1) (D .weights) ∙ ap (λ (y : Admission). left zeroF 3006 y w) f;
+          sums = t ∙ cleared-forgets (pos 0) 5010 (pos 0) a a' (A .room .2) (D .sums) ∙ ap (λ (y : Admission). left (pos 0) 5010 y a) f;
+        }
 
   -- any two results that the promise allows are equal
   pub soft-unique : (c' d' : List ℕ) (w' x' : List Float) (a' b' : List ℤ) (r s : Answer) → SoftDone P X L ts B limit least c c' w w' a a' r → SoftDone P X L ts B limit least c d' w x' a b' s → (r ≡ s) × (c' ≡ d') × (w' ≡ x') × (a' ≡ b')

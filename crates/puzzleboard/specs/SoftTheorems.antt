@@ -38,10 +38,14 @@ use Rattle.soft.specs.BestPlacingUnique.{best-two-only}
 use Rattle.margin.specs.Margin.{softMargin, belowMargin}
 use Rattle.soft.specs.Select.{softSelection}
 use Rattle.soft.specs.SelectLaws.{scoreAtKey, soft-best-edges}
+use Rattle.refusals.specs.declared.Admission.{Admission}
+use Rattle.refusals.specs.declared.Admission.the-variants as admission
+use Rattle.refusals.specs.Numbers.{numbered}
+use Rattle.refusals.specs.Numbers as why
 use Rattle.answer.specs.declared.Decoded.{Decoded}
 use Rattle.answer.specs.declared.Answer.{Answer}
 use Rattle.answer.specs.declared.Answer.the-variants.{Found, Refused}
-use Rattle.verdict.specs.Verdict.{refusedBy, pick}
+use Rattle.verdict.specs.Verdict.{refusedBy, pick, whenAccepted}
 use Rattle.verdict.specs.Verdict.{softVerdict, softDecodedOf, bestOf}
 use Rattle.puzzleboard.specs.Soft.{cellFigures, figuresOf, softJudged, afterHard, afterSoft, softCore}
 use Rattle.puzzleboard.specs.SoftLaws.{likelihoods-ok}
@@ -53,20 +57,20 @@ use Rattle.puzzleboard.specs.Winners.{placed, nextAt, winner-on, winner-
 
 -- ---- the verdict
 -- 0: both winners agree, and the gate is passed
-pub verdict-passed : (t : ℕ) (first : SoftCandidate) (s : ℕ) (w : Candidate) (next : RunnerUp) (edges : ℕ) → softVerdict t first s w next edges ≡ 0
+pub verdict-passed : (t : ℕ) (first : SoftCandidate) (s : ℕ) (w : Candidate) (next : RunnerUp) (edges : ℕ) → softVerdict t first s w next edges ≡ admission.Accepted
     → (t ≡ s) × (first .row ≡ w .row) × (first .col ≡ w .col) × (passed edges (w .hits) (next .hits) ≡ true)
 unfolding softVerdict
 verdict-passed t first s w next edges h =
     go (eqb t s && (eqb (first .row) (w .row) && eqb (first .col) (w .col))) (passed edges (w .hits) (next .hits)) refl refl h
   where
-    go : (a b : Bool) → (eqb t s && (eqb (first .row) (w .row) && eqb (first .col) (w .col))) ≡ a → passed edges (w .hits) (next .hits) ≡ b → _≡_ {A = ℕ} (cond a (cond b 0 13) 15) 0
+    go : (a b : Bool) → (eqb t s && (eqb (first .row) (w .row) && eqb (first .col) (w .col))) ≡ a → passed edges (w .hits) (next .hits) ≡ b → cond a (cond b admission.Accepted (admission.Refused (numbered why.notFarAhead))) (admission.Refused (numbered why.softHardDisagree)) ≡ admission.Accepted
         → (t ≡ s) × (first .row ≡ w .row) × (first .col ≡ w .col) × (passed edges (w .hits) (next .hits) ≡ true)
     go true true e g k =
         let u = and-true (eqb t s) _ e in
         let v = and-true (eqb (first .row) (w .row)) (eqb (first .col) (w .col)) (u .1) in
         (eqb-true t s (u .0), eqb-true (first .row) (w .row) (v .0), eqb-true (first .col) (w .col) (v .1), g)
-    go true false e g k = absurd (omega arith)
-    go false b e g k = absurd (omega arith)
+    go true false e g k = let z : _≡_ {A = ℕ} 0 1 = cc in absurd (omega arith)
+    go false b e g k = let z : _≡_ {A = ℕ} 0 1 = cc in absurd (omega arith)
 
 -- the figures' hits are board's
 pub figures-hits : (B : Board) (E : EdgeList) (t row col : ℕ) → BoardOk B → figuresOf B E t row col .hits ≡ hits B E t row col
@@ -161,25 +165,25 @@ module _ (P : EdgeList) (X : Likelihoods) (L : EdgeList) (ts : List ℕ) (B : Bo
             next = ap (λ (z : ℕ). ofInt binary32 (pos z)) (sym (runner-hits B L ts limit (A .board) (A .logical) (A .transforms .few) x r e (p .3)));
           })
 
-    abbrev verdict : Candidate → RunnerUp → ℕ
+    abbrev verdict : Candidate → RunnerUp → Admission
     verdict x r = softVerdict t (candidate B P X ts Q) (getD ts (x .place) 0) x r (size L)
 
-    by-verdict : (x : Candidate) (r : RunnerUp) (v : Bool) → selection B L ts limit ≡ sel.Selected x r → eqb (verdict x r) 0 ≡ v → pick v (Found (answer r)) (refusedBy (verdict x r)) ≡ Found d → SoftAnswered P X L ts B limit least d
-    by-verdict x r true e h k = soft-answered x r e (verdict-passed t (candidate B P X ts Q) (getD ts (x .place) 0) x r (size L) (eqb-true (verdict x r) 0 h)) k
-    by-verdict x r false e h k = absurd (no-square d (verdict x r) k)
+    by-verdict : (x : Candidate) (r : RunnerUp) (v : Admission) → selection B L ts limit ≡ sel.Selected x r → verdict x r ≡ v → whenAccepted v (Found (answer r)) ≡ Found d → SoftAnswered P X L ts B limit least d
+    by-verdict x r admission.Accepted e h k = soft-answered x r e (verdict-passed t (candidate B P X ts Q) (getD ts (x .place) 0) x r (size L) h) k
+    by-verdict x r (admission.Refused j) e h k = absurd (no-square d j k)
 
     by-logical : (q : Selection) → selection B L ts limit ≡ q → afterHard P L ts B limit (bestOf (candidate B P X ts Q) (candidate B P X ts R) (size P)) q ≡ Found d → SoftAnswered P X L ts B limit least d
     unfolding softJudged
     by-logical (sel.Refused j) e h = absurd (no-square d j h)
-    by-logical (sel.Selected x r) e h = by-verdict x r (eqb (verdict x r) 0) e refl h
+    by-logical (sel.Selected x r) e h = by-verdict x r (verdict x r) e refl h
 
   by-margin : (d : Decoded) (Q R : Placing) → BestByLikelihood B P X ts Q R → (v : Bool) → belowMargin (marginOf B P X ts Q R) least ≡ v
-      → pick v (refusedBy 14) (afterHard P L ts B limit (bestOf (candidate B P X ts Q) (candidate B P X ts R) (size P)) (selection B L ts limit)) ≡ Found d → SoftAnswered P X L ts B limit least d
-  by-margin d Q R b true e h = absurd (no-square d 14 h)
+      → pick v (refusedBy why.softMargin) (afterHard P L ts B limit (bestOf (candidate B P X ts Q) (candidate B P X ts R) (size P)) (selection B L ts limit)) ≡ Found d → SoftAnswered P X L ts B limit least d
+  by-margin d Q R b true e h = absurd (no-square d (numbered why.softMargin) h)
   by-margin d Q R b false e h = by-logical d Q R b e (selection B L ts limit) refl h
 
-  by-confidence : (d : Decoded) (v : Bool) → pick v (refusedBy 10) (afterSoft P L ts B limit least (softSelection B P X ts)) ≡ Found d → SoftAnswered P X L ts B limit least d
-  by-confidence d true h = absurd (no-square d 10 h)
+  by-confidence : (d : Decoded) (v : Bool) → pick v (refusedBy why.noConfidence) (afterSoft P L ts B limit least (softSelection B P X ts)) ≡ Found d → SoftAnswered P X L ts B limit least d
+  by-confidence d true h = absurd (no-square d (numbered why.noConfidence) h)
   by-confidence d false h =
       let Q = first-placing in
       let R = second-placing in

@@ -7,8 +7,8 @@ ghost use Rattle.admission.specs.Accepted.{HardAccepted};
 ghost use Rattle.puzzleboard.specs.Hard.{CoreDone, HardDone};
 use answer::Answer;
 use hard::select::Selection;
+use refusals::Admission;
 use verdict::verdict::judge;
-use verdict::verdict::refuse;
 
 // What an accepted hard call answers: the logical list with the limit, the physical list with limit 1, then both judged. The room is left as it was used.
 fn hard_core<'a>(
@@ -53,7 +53,7 @@ fn hard_core<'a>(
         weights,
     );
     match logical {
-        Selection::Refused(number) => refuse(number),
+        Selection::Refused(refusal) => Answer::Refused(refusal),
         Selection::Selected(w, next) => {
             let physical = hard::select::select(
                 prows,
@@ -69,7 +69,7 @@ fn hard_core<'a>(
                 weights,
             );
             match physical {
-                Selection::Refused(number) => refuse(number),
+                Selection::Refused(refusal) => Answer::Refused(refusal),
                 Selection::Selected(p, _) => {
                     let at = w.place;
                     let other = p.place;
@@ -113,7 +113,7 @@ pub fn decode_hard<'a>(
         (now (transforms .entry)) (tables (now (h .entry)) (now (v .entry))) limit
         (now (counts .entry)) (now (counts .exit)) (now (weights .entry)) (now (weights .exit)) r ⌝ }
 {
-    let refusal = admission::refusal::hard_refusal(
+    let admitted = admission::refusal::hard_admission(
         lrows,
         lcols,
         lorientations,
@@ -131,28 +131,30 @@ pub fn decode_hard<'a>(
         counts.len(),
         weights.len(),
     );
-    if refusal.number != 0 {
-        return Answer::Refused(refusal);
+    match admitted {
+        Admission::Refused(refusal) => Answer::Refused(refusal),
+        Admission::Accepted => {
+            let answer = hard_core(
+                lrows,
+                lcols,
+                lorientations,
+                lbits,
+                lconfidences,
+                prows,
+                pcols,
+                porientations,
+                pbits,
+                pconfidences,
+                transforms,
+                h,
+                v,
+                limit,
+                counts,
+                weights,
+            );
+            laws::clear_u32(counts, 3006);
+            laws::clear_f32(weights, 3006);
+            answer
+        }
     }
-    let answer = hard_core(
-        lrows,
-        lcols,
-        lorientations,
-        lbits,
-        lconfidences,
-        prows,
-        pcols,
-        porientations,
-        pbits,
-        pconfidences,
-        transforms,
-        h,
-        v,
-        limit,
-        counts,
-        weights,
-    );
-    laws::clear_u32(counts, 3006);
-    laws::clear_f32(weights, 3006);
-    answer
 }

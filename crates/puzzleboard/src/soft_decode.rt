@@ -13,6 +13,7 @@ use answer::Answer;
 use hard::select::Selection;
 use margin::scan::SoftCandidate;
 use margin::scan::SoftChoice;
+use refusals::Admission;
 use scan::scan::Candidate;
 use scan::scan::RunnerUp;
 use stats::stats::HitsWeight;
@@ -85,7 +86,7 @@ fn figures<'a>(
     )
 }
 
-// The soft winner with its margin, against hard selection on the logical list: refused by that, 15, 13, or found. The room is left as it was used.
+// The soft winner with its margin, against hard selection on the logical list: refused by that, the winners differ, not far ahead, or found. The room is left as it was used.
 fn soft_logical<'a>(
     best: SoftBest,
     prows: &[i32],
@@ -130,31 +131,33 @@ fn soft_logical<'a>(
         weights,
     );
     match logical {
-        Selection::Refused(number) => refuse(number),
+        Selection::Refused(refusal) => Answer::Refused(refusal),
         Selection::Selected(w, next) => {
             let at = best.first.place;
             let other = w.place;
             let t = transforms[at];
             let s = transforms[other];
-            let number = soft_verdict(t, best, s, w, next, lrows.len() as u32);
-            if number != 0 {
-                return refuse(number);
+            let verdict = soft_verdict(t, best, s, w, next, lrows.len() as u32);
+            match verdict {
+                Admission::Refused(refusal) => Answer::Refused(refusal),
+                Admission::Accepted => {
+                    let own = figures(
+                        prows,
+                        pcols,
+                        porientations,
+                        pbits,
+                        pconfidences,
+                        t,
+                        best.first.row,
+                        best.first.col,
+                        h,
+                        v,
+                        counts,
+                        weights,
+                    );
+                    Answer::Found(soft_decoded(t, best, own, prows.len() as u32, next))
+                }
             }
-            let own = figures(
-                prows,
-                pcols,
-                porientations,
-                pbits,
-                pconfidences,
-                t,
-                best.first.row,
-                best.first.col,
-                h,
-                v,
-                counts,
-                weights,
-            );
-            Answer::Found(soft_decoded(t, best, own, prows.len() as u32, next))
         }
     }
 }
@@ -196,7 +199,7 @@ fn soft_core<'a>(
 {
     let conf = figures::total_confidence(pconfidences);
     if conf == 0.0 {
-        return refuse(10);
+        return refuse(refusals::NO_CONFIDENCE);
     }
     let scan = soft::select::scan_transforms(
         prows,
@@ -212,11 +215,11 @@ fn soft_core<'a>(
         sums,
     );
     match margin::scan::finish(scan) {
-        SoftChoice::Nothing => refuse(14),
+        SoftChoice::Nothing => refuse(refusals::SOFT_MARGIN),
         SoftChoice::Chosen { first, second } => {
             let lead = margin::margin::soft_margin(first, second, prows.len() as u32);
             if margin::margin::below(lead, margin) {
-                return refuse(14);
+                return refuse(refusals::SOFT_MARGIN);
             }
             let best = SoftBest {
                 first,
@@ -277,7 +280,7 @@ pub fn decode_soft<'a>(
         (now (transforms .entry)) (tables (now (h .entry)) (now (v .entry))) limit margin
         (now (counts .entry)) (now (counts .exit)) (now (weights .entry)) (now (weights .exit)) (now (sums .entry)) (now (sums .exit)) r ⌝ }
 {
-    let refusal = admission::refusal::soft_refusal(
+    let admitted = admission::refusal::soft_admission(
         prows,
         pcols,
         porientations,
@@ -299,33 +302,35 @@ pub fn decode_soft<'a>(
         weights.len(),
         sums.len(),
     );
-    if refusal.number != 0 {
-        return Answer::Refused(refusal);
+    match admitted {
+        Admission::Refused(refusal) => Answer::Refused(refusal),
+        Admission::Accepted => {
+            let answer = soft_core(
+                prows,
+                pcols,
+                porientations,
+                pbits,
+                pconfidences,
+                matches,
+                mismatches,
+                lrows,
+                lcols,
+                lorientations,
+                lbits,
+                lconfidences,
+                transforms,
+                h,
+                v,
+                limit,
+                margin,
+                counts,
+                weights,
+                sums,
+            );
+            laws::clear_u32(counts, 3006);
+            laws::clear_f32(weights, 3006);
+            laws::clear_i64(sums, 5010);
+            answer
+        }
     }
-    let answer = soft_core(
-        prows,
-        pcols,
-        porientations,
-        pbits,
-        pconfidences,
-        matches,
-        mismatches,
-        lrows,
-        lcols,
-        lorientations,
-        lbits,
-        lconfidences,
-        transforms,
-        h,
-        v,
-        limit,
-        margin,
-        counts,
-        weights,
-        sums,
-    );
-    laws::clear_u32(counts, 3006);
-    laws::clear_f32(weights, 3006);
-    laws::clear_i64(sums, 5010);
-    answer
 }

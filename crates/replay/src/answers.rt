@@ -8,6 +8,9 @@ use hard::select::Selection;
 use scan::scan::Candidate;
 use scan::scan::RunnerUp;
 
+// The place of the number in an answer that is no refusal.
+const NOT_REFUSED: u32 = 0;
+
 // A refusal: its number, and nothing else.
 fn refused(number: u32) -> [u32; 15] {
     let mut words = [4294967295u32; 15];
@@ -18,7 +21,7 @@ fn refused(number: u32) -> [u32; 15] {
 // What a found answer holds.
 fn found(d: Decoded) -> [u32; 15] {
     [
-        0,
+        NOT_REFUSED,
         d.square.transform,
         d.square.row,
         d.square.col,
@@ -48,7 +51,7 @@ pub(crate) fn words_of(a: Answer) -> [u32; 15] {
 pub(crate) fn words_of_stats(a: StatsAnswer) -> [u32; 15] {
     match a {
         StatsAnswer::Counted(m) => {
-            let mut words = refused(0);
+            let mut words = refused(NOT_REFUSED);
             words[4] = m.hits;
             words[5] = m.edges;
             words[7] = bits_of(m.rate);
@@ -81,7 +84,7 @@ fn mean(hits: u32, weight: f32) -> f32 {
 // A winner under its transform, with its runner-up, of a list of so many edges. A tie inside the winner's transform is a runner-up whose place never shows, for the gate
 // refuses: its row and column are left empty.
 fn selected(transform: u8, w: Candidate, next: RunnerUp, edges: u32) -> [u32; 15] {
-    let mut words = refused(0);
+    let mut words = refused(NOT_REFUSED);
     words[1] = transform as u32;
     words[2] = w.row;
     words[3] = w.col;
@@ -112,6 +115,6 @@ fn listed(transforms: &[u8], place: usize) -> u8 {
 pub(crate) fn words_of_selection(s: Selection, transforms: &[u8], edges: u32) -> [u32; 15] {
     match s {
         Selection::Selected(w, next) => { selected(listed(transforms, w.place), w, next, edges) }
-        Selection::Refused(number) => refused(number),
+        Selection::Refused(r) => refused(r.number),
     }
 }

@@ -1,5 +1,6 @@
 // Hard selection on one list before the gate, for all inputs.
 use hard::select::Selection;
+use refusals::Admission;
 
 // What the checks refuse, else what the selection comes to.
 pub(crate) fn select<'a>(
@@ -15,7 +16,7 @@ pub(crate) fn select<'a>(
     counts: &mut [u32],
     weights: &mut [f32],
 ) -> Selection {
-    let refusal = admission::refusal::hard_refusal(
+    let admitted = admission::refusal::hard_admission(
         rows,
         cols,
         orientations,
@@ -33,20 +34,20 @@ pub(crate) fn select<'a>(
         counts.len(),
         weights.len(),
     );
-    if refusal.number != 0 {
-        return Selection::Refused(refusal.number);
+    match admitted {
+        Admission::Refused(refusal) => Selection::Refused(refusal),
+        Admission::Accepted => hard::select::select(
+            rows,
+            cols,
+            orientations,
+            bits,
+            confidences,
+            transforms,
+            h,
+            v,
+            limit,
+            counts,
+            weights,
+        ),
     }
-    hard::select::select(
-        rows,
-        cols,
-        orientations,
-        bits,
-        confidences,
-        transforms,
-        h,
-        v,
-        limit,
-        counts,
-        weights,
-    )
 }

@@ -3,6 +3,7 @@ use answer::Answer;
 use answer::Square;
 use answer::StatsAnswer;
 use libc::STDOUT_FILENO;
+use refusals::Admission;
 ghost use Prim.Native.Nat.{_≤_, _^_};
 ghost use lib.IntN.{natAbs};
 
@@ -93,6 +94,14 @@ pub(crate) fn print_answer(a: Answer) {
             print(b"refused ");
             print_number(r.number);
         }
+    }
+}
+
+// What the checks say of a call: the number of its refusal, or 0 where it is accepted.
+pub(crate) fn print_admission(a: Admission) {
+    match a {
+        Admission::Accepted => print_number(0),
+        Admission::Refused(r) => print_number(r.number),
     }
 }
 

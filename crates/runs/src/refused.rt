@@ -4,7 +4,7 @@ use crate::part::front_f32;
 use crate::part::front_i32;
 use crate::part::front_u8;
 use crate::print::print;
-use crate::print::print_number;
+use crate::print::print_admission;
 use crate::print::print_stats;
 
 // Whether fault k is one of the two of a case.
@@ -140,7 +140,7 @@ fn show(name: &[u8], a: u32, b: u32) {
     let counts = pick(on(a, b, 10), 3005, 3006);
     let weights = pick(on(a, b, 11), 3005, 3006);
     let sums = pick(on(a, b, 12), 5009, 5010);
-    let hard = admission::refusal::hard_refusal(
+    let hard = admission::refusal::hard_admission(
         front_i32(&rows, logical),
         front_i32(&cols, pick(on(a, b, 2), short, empty)),
         front_u8(&orientations, logical),
@@ -158,7 +158,7 @@ fn show(name: &[u8], a: u32, b: u32) {
         counts,
         weights,
     );
-    let soft = admission::refusal::soft_refusal(
+    let soft = admission::refusal::soft_admission(
         front_i32(&prows, physical),
         front_i32(&cols, physical),
         front_u8(&porientations, physical),
@@ -194,9 +194,9 @@ fn show(name: &[u8], a: u32, b: u32) {
     );
     print(name);
     print(b": hard ");
-    print_number(hard.number);
+    print_admission(hard);
     print(b", soft ");
-    print_number(soft.number);
+    print_admission(soft);
     print(b", statistics ");
     print_stats(stats);
     print(b"\n");

@@ -66,27 +66,27 @@ pub(crate) fn put_directions(page: &mut [u8; 32768], at: usize, transform: u32) 
 // What a refusal by the checks means. A file that was read cannot provoke most of them: its reader names the line instead.
 fn put_early(page: &mut [u8; 32768], at: usize, number: u32) -> usize {
     match number {
-        1 => put(page, at, b"the room that the program lends is too short"),
-        2 => put(page, at, b"the columns of a list differ in length"),
-        3 => put(page, at, b"a list has no edges, or more than 8192"),
-        4 => put(
+        refusals::ROOM_TOO_SHORT => put(page, at, b"the room that the program lends is too short"),
+        refusals::LENGTHS_DIFFER => put(page, at, b"the columns of a list differ in length"),
+        refusals::LIST_SIZE => put(page, at, b"a list has no edges, or more than 8192"),
+        refusals::EDGE_OUT_OF_RANGE => put(
             page,
             at,
             b"a row, a column, an orientation or a bit is out of its range",
         ),
-        5 => put(page, at, b"a confidence is not from 0 to 1"),
-        6 => put(page, at, b"a log likelihood is not from -65536 to 65536"),
-        7 => put(
+        refusals::BAD_CONFIDENCE => put(page, at, b"a confidence is not from 0 to 1"),
+        refusals::BAD_LIKELIHOOD => put(page, at, b"a log likelihood is not from -65536 to 65536"),
+        refusals::BAD_TRANSFORM => put(
             page,
             at,
             b"there are not 1 to 8 transforms, each from 0 to 7",
         ),
-        8 => put(
+        refusals::BAD_TABLE => put(
             page,
             at,
             b"a pattern table does not have 167 entries from 0 to 7",
         ),
-        9 => put(
+        refusals::BAD_SETTING => put(
             page,
             at,
             b"the error limit or the soft margin is out of its range",
@@ -98,28 +98,32 @@ fn put_early(page: &mut [u8; 32768], at: usize, number: u32) -> usize {
 // What a refusal means.
 pub(crate) fn put_meaning(page: &mut [u8; 32768], at: usize, number: u32) -> usize {
     match number {
-        10 => put(page, at, b"no edge of a list was seen with any confidence"),
-        11 => put(
+        refusals::NO_CONFIDENCE => put(page, at, b"no edge of a list was seen with any confidence"),
+        refusals::NONE_WITHIN_LIMIT => put(
             page,
             at,
             b"no square of the board fits within the error limit",
         ),
-        12 => put(
+        refusals::LISTS_DISAGREE => put(
             page,
             at,
             b"the logical and the physical list point to different squares",
         ),
-        13 => put(
+        refusals::NOT_FAR_AHEAD => put(
             page,
             at,
             b"the best square is not far enough ahead of the next best",
         ),
-        14 => put(
+        refusals::SOFT_MARGIN => put(
             page,
             at,
             b"by likelihood the two best squares are closer than the soft margin",
         ),
-        15 => put(page, at, b"likelihoods and hits point to different squares"),
+        refusals::SOFT_HARD_DISAGREE => put(
+            page,
+            at,
+            b"likelihoods and hits point to different squares",
+        ),
         _ => put_early(page, at, number),
     }
 }
@@ -127,33 +131,33 @@ pub(crate) fn put_meaning(page: &mut [u8; 32768], at: usize, number: u32) -> usi
 // What the operator can do about a refusal.
 pub(crate) fn put_advice(page: &mut [u8; 32768], at: usize, number: u32) -> usize {
     match number {
-        3 => put(
+        refusals::LIST_SIZE => put(
             page,
             at,
             b"give each list that the view names 1 to 8192 edges",
         ),
-        10 => put(
+        refusals::NO_CONFIDENCE => put(
             page,
             at,
             b"take the picture again with better light or focus",
         ),
-        11 => put(
+        refusals::NONE_WITHIN_LIMIT => put(
             page,
             at,
             b"check that this is the right board, better the light or the focus, allow mirrored transforms if there is a mirror, or raise the limit",
         ),
-        12 => put(
+        refusals::LISTS_DISAGREE => put(
             page,
             at,
             b"take the picture again; if it stays so, check how the logical list is made",
         ),
-        13 => put(
+        refusals::NOT_FAR_AHEAD => put(
             page,
             at,
             b"show more of the board, or better the light or the focus",
         ),
-        14 => put(page, at, b"show more of the board, or lower the margin"),
-        15 => put(
+        refusals::SOFT_MARGIN => put(page, at, b"show more of the board, or lower the margin"),
+        refusals::SOFT_HARD_DISAGREE => put(
             page,
             at,
             b"take the picture again; if it stays so, check how the likelihoods are made",

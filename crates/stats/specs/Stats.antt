@@ -9,12 +9,13 @@ use Rattle.laws.specs.Fold.{fold, put}
 use Rattle.laws.specs.Weights.{zeroF, oneF}
 use Rattle.board.specs.Hits.{EdgeList, Board, size, hit, hits}
 use Rattle.figures.specs.Figures.{rateOf, meanOf}
-use Rattle.refusals.specs.declared.Refusal.{Refusal}
+use Rattle.refusals.specs.declared.Admission.{Admission}
+use Rattle.refusals.specs.declared.Admission.the-variants as admission
 use Rattle.answer.specs.declared.MatchStats.{MatchStats}
 use Rattle.answer.specs.declared.StatsAnswer.{StatsAnswer}
 use Rattle.answer.specs.declared.StatsAnswer.the-variants.{Counted, Refused}
 use Rattle.stats.specs.declared.stats.HitsWeight.{HitsWeight}
-use Rattle.admission.specs.Refusals.{statsRefusal}
+use Rattle.admission.specs.Refusals.{statsAdmission}
 
 -- hard selection's rate; no edges: 1
 unfoldable pub statsRate : ℕ → ℕ → Float
@@ -33,13 +34,14 @@ statsOf E t row col B = record {
   mean = meanOf (hits B E t row col) (hitWeight B E t row col (size E));
 }
 
-abbrev pub orCounted : Refusal → Bool → MatchStats → StatsAnswer
-orCounted r true s = Counted s
-orCounted r false s = Refused r
+-- an accepted call is counted
+abbrev pub orCounted : Admission → MatchStats → StatsAnswer
+orCounted admission.Accepted s = Counted s
+orCounted (admission.Refused r) s = Refused r
 
 -- the answer: refused with its number, or counted
 unfoldable pub statsAnswer : EdgeList → ℕ → ℕ → ℕ → Board → StatsAnswer
-statsAnswer E t row col B = orCounted (statsRefusal E t row col B) (eqb (statsRefusal E t row col B .number) 0) (statsOf E t row col B)
+statsAnswer E t row col B = orCounted (statsAdmission E t row col B) (statsOf E t row col B)
 
 -- ---- what the steps between answer
 abbrev pub added : HitsWeight → Bool → Float → HitsWeight

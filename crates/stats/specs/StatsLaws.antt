@@ -3,11 +3,9 @@ use mathlib.Core.Path.{_≡_, refl, sym, ap, ap₂, _∙_}
 use mathlib.Core.Bool.{Bool, true, false}
 use Prim.Native.Nat.{ℕ, _+_, _≤_, _<_}
 use native.Mathlib.Omega.{arith}
-use lib.Dec.{eqb}
 use lib.ListN.{getD, length}
 use lib.IntN.{ℤ, pos}
 use lib.Ieee.{Float, nan, binary32, add}
-use borrow.Author.Tests.{eq-eqb, ne-eqb}
 use Rattle.laws.specs.Fold.{fold, put, one, count, fold-more, fold-zero}
 use Rattle.laws.specs.Counting.{count-le}
 use Rattle.laws.specs.Weights.{zeroF}
@@ -16,10 +14,12 @@ use Rattle.board.specs.Hits.{EdgeList, Board, size, seen, look, predicted, hit,
 use Rattle.board.specs.Domain.{EdgeOk}
 use Rattle.figures.specs.Figures.{meanOf}
 use Rattle.refusals.specs.declared.Refusal.{Refusal}
+use Rattle.refusals.specs.declared.Admission.{Admission}
+use Rattle.refusals.specs.declared.Admission.the-variants as admission
 use Rattle.answer.specs.declared.MatchStats.{MatchStats}
 use Rattle.answer.specs.declared.StatsAnswer.the-variants.{Counted, Refused}
 use Rattle.stats.specs.declared.stats.HitsWeight.{HitsWeight}
-use Rattle.admission.specs.Refusals.{statsRefusal}
+use Rattle.admission.specs.Refusals.{statsAdmission}
 use Rattle.admission.specs.Accepted.{StatsAccepted}
 use Rattle.stats.specs.Stats.{statsRate, hitWeight, statsOf, statsAnswer, orCounted, added, hitsAndWeight}
 
@@ -57,13 +57,14 @@ module _ (E : EdgeList) (t row col : ℕ) (B : Board) where
   edge-ok a i h = record { near-row = a .list .near-row i h; near-col = a .list .near-col i h; bit = a .list .bit i h; transform = a .transform }
 
   -- ---- the two ends
-  pub stats-refused : (r : Refusal) → r ≡ statsRefusal E t row col B → (r .number ≡ 0 → ⊥) → Refused r ≡ statsAnswer E t row col B
-  unfolding statsAnswer
-  stats-refused r e n = let f : eqb (statsRefusal E t row col B .number) 0 ≡ false = ap (λ (x : Refusal). eqb (x .number) 0) (sym e) ∙ ne-eqb (r .number) 0 n in rw f (ap Refused e)
+  module _ (a : Admission) (e : a ≡ statsAdmission E t row col B) where
+    pub stats-refused : (r : Refusal) → a ≡ admission.Refused r → Refused r ≡ statsAnswer E t row col B
+    unfolding statsAnswer
+    stats-refused r n = ap (λ (x : Admission). orCounted x (statsOf E t row col B)) (sym n ∙ e)
 
-  pub stats-counted : (r : Refusal) (c : HitsWeight) (s : MatchStats) → r ≡ statsRefusal E t row col B → r .number ≡ 0 → c ≡ hitsAndWeight E t row col B
-      → s ≡ record { edges = size E; hits = c .hits; rate = statsRate (size E) (c .hits); mean = meanOf (c .hits) (c .weight) } → Counted s ≡ statsAnswer E t row col B
-  unfolding statsAnswer statsOf hitsAndWeight
-  stats-counted r c s e z k d =
-      let f : eqb (statsRefusal E t row col B .number) 0 ≡ true = ap (λ (x : Refusal). eqb (x .number) 0) (sym e) ∙ eq-eqb (r .number) 0 z in
-      rw f (ap Counted (d ∙ ap (λ (x : HitsWeight). record { edges = size E; hits = x .hits; rate = statsRate (size E) (x .hits); mean = meanOf (x .hits) (x .weight) }) k))
+    pub stats-counted : (c : HitsWeight) (s : MatchStats) → a ≡ admission.Accepted → c ≡ hitsAndWeight E t row col B
+        → s ≡ record { edges = size E; hits = c .hits; rate = statsRate (size E) (c .hits); mean = meanOf (c .hits) (c .weight) } → Counted s ≡ statsAnswer E t row col B
+    unfolding statsAnswer statsOf hitsAndWeight
+    stats-counted c s z k d =
+        ap Counted (d ∙ ap (λ (x : HitsWeight). record { edges = size E; hits = x .hits; rate = statsRate (size E) (x .hits); mean = meanOf (x .hits) (x .weight) }) k)
+        ∙ ap (λ (x : Admission). orCounted x (statsOf E t row col B)) (sym z ∙ e)

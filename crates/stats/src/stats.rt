@@ -6,6 +6,7 @@ ghost use Rattle.admission.specs.Accepted.{StatsAccepted};
 ghost use Rattle.stats.specs.Stats.{added, hitsAndWeight, statsRate, statsOf, statsAnswer};
 use answer::MatchStats;
 use answer::StatsAnswer;
+use refusals::Admission;
 
 // Hits so far, and the sum of their confidences.
 pub struct HitsWeight {
@@ -98,7 +99,7 @@ pub fn match_stats<'a>(
         (edges (now (rows .entry)) (now (cols .entry)) (now (orientations .entry)) (now (bits .entry)) (now (confidences .entry)))
         transform row col (tables (now (h .entry)) (now (v .entry))) ⌝ }
 {
-    let refusal = admission::refusal::stats_refusal(
+    let admitted = admission::refusal::stats_admission(
         rows,
         cols,
         orientations,
@@ -110,27 +111,29 @@ pub fn match_stats<'a>(
         h,
         v,
     );
-    if refusal.number != 0 {
-        return StatsAnswer::Refused(refusal);
+    match admitted {
+        Admission::Refused(refusal) => StatsAnswer::Refused(refusal),
+        Admission::Accepted => {
+            let counted = count_hits(
+                rows,
+                cols,
+                orientations,
+                bits,
+                confidences,
+                transform,
+                row,
+                col,
+                h,
+                v,
+            );
+            let edges = rows.len() as u32;
+            let hits = counted.hits;
+            StatsAnswer::Counted(MatchStats {
+                edges,
+                hits,
+                rate: rate(edges, hits),
+                mean: figures::mean(hits, counted.weight),
+            })
+        }
     }
-    let counted = count_hits(
-        rows,
-        cols,
-        orientations,
-        bits,
-        confidences,
-        transform,
-        row,
-        col,
-        h,
-        v,
-    );
-    let edges = rows.len() as u32;
-    let hits = counted.hits;
-    StatsAnswer::Counted(MatchStats {
-        edges,
-        hits,
-        rate: rate(edges, hits),
-        mean: figures::mean(hits, counted.weight),
-    })
 }

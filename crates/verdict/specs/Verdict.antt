@@ -4,7 +4,10 @@ use Prim.Native.Nat.{ℕ, _-_}
 use lib.Dec.{eqb}
 use lib.IntN.{pos}
 use lib.Ieee.{binary32, div, ofInt}
-use Rattle.admission.specs.Refusals.{numbered}
+use Rattle.refusals.specs.declared.Admission.{Admission}
+use Rattle.refusals.specs.declared.Admission.the-variants as admission
+use Rattle.refusals.specs.Numbers.{numbered}
+use Rattle.refusals.specs.Numbers as why
 use Rattle.scan.specs.declared.scan.Candidate.{Candidate}
 use Rattle.scan.specs.declared.scan.RunnerUp.{RunnerUp}
 use Rattle.figures.specs.Figures.{rateOf, meanOf}
@@ -20,6 +23,11 @@ use Rattle.answer.specs.declared.Answer.the-variants.{Found, Refused}
 -- a refusal by its number, and nothing else
 abbrev pub refusedBy : ℕ → Answer
 refusedBy n = Refused (numbered n)
+
+-- an accepted call is answered by x, any other with its refusal
+abbrev pub whenAccepted : Admission → Answer → Answer
+whenAccepted admission.Accepted x = x
+whenAccepted (admission.Refused r) x = Refused r
 
 -- "origin and matrix must agree": the eight matrices differ, so transforms by number (`matrix-tells` in HardLaws)
 unfoldable pub agreed : ℕ → Candidate → ℕ → Candidate → Bool
@@ -45,16 +53,18 @@ abbrev pub pick : Bool → Answer → Answer → Answer
 pick true a b = a
 pick false a b = b
 
--- 12 where the winners differ, 13 where the gate is not passed, else found
+-- refused where the winners differ, then where the gate is not passed, else found
 unfoldable pub judged : ℕ → Candidate → RunnerUp → ℕ → Candidate → ℕ → Answer
 unfolding decodedOf agreed
-judged t w next s p edges = pick (agreed t w s p) (pick (passed edges (w .hits) (next .hits)) (Found (decodedOf t w next edges)) (refusedBy 13)) (refusedBy 12)
+judged t w next s p edges = pick (agreed t w s p) (pick (passed edges (w .hits) (next .hits)) (Found (decodedOf t w next edges)) (refusedBy why.notFarAhead)) (refusedBy why.listsDisagree)
 
 -- ---- soft decode
--- "Then hard selection on the logical list must give the same origin and matrix and pass the gate": 15, 13, or 0
-unfoldable pub softVerdict : ℕ → SoftCandidate → ℕ → Candidate → RunnerUp → ℕ → ℕ
+-- "Then hard selection on the logical list must give the same origin and matrix and pass the gate"
+unfoldable pub softVerdict : ℕ → SoftCandidate → ℕ → Candidate → RunnerUp → ℕ → Admission
 softVerdict t first s w next edges =
-    cond (eqb t s && (eqb (first .row) (w .row) && eqb (first .col) (w .col))) (cond (passed edges (w .hits) (next .hits)) 0 13) 15
+    cond (eqb t s && (eqb (first .row) (w .row) && eqb (first .col) (w .col)))
+    (cond (passed edges (w .hits) (next .hits)) admission.Accepted (admission.Refused (numbered why.notFarAhead)))
+    (admission.Refused (numbered why.softHardDisagree))
 
 -- "the runner-up fields are replaced by the hard runner-up (score = its hits); the margin stays. Best score = f32 total, weighted score = that / edges; edges,
 -- hits, rate and mean confidence are the physical list's."

@@ -5,6 +5,8 @@ ghost use Rattle.verdict.specs.Verdict.{softVerdict, softDecodedOf};
 use answer::Decoded;
 use answer::Square;
 use margin::scan::SoftCandidate;
+use refusals::Admission;
+use refusals::Refusal;
 use scan::scan::Candidate;
 use scan::scan::RunnerUp;
 use stats::stats::HitsWeight;
@@ -16,21 +18,32 @@ pub struct SoftBest {
     pub margin: f32,
 }
 
-// The soft winner under transform t against the hard winner w of the logical list under transform s: 15, 13, or 0 where both are passed.
-pub fn soft_verdict(t: u8, best: SoftBest, s: u8, w: Candidate, next: RunnerUp, edges: u32) -> u32
+// The soft winner under transform t against the hard winner w of the logical list under transform s: they disagree, it is not far ahead, or accepted.
+pub fn soft_verdict(
+    t: u8,
+    best: SoftBest,
+    s: u8,
+    w: Candidate,
+    next: RunnerUp,
+    edges: u32,
+) -> Admission
     ensures { λ r. ⌜ r ≡ softVerdict t (best .first) s w next edges ⌝ }
 {
     if t == s {
         if best.first.row == w.row {
             if best.first.col == w.col {
                 if figures::passes(edges, w.hits, next.hits) {
-                    return 0;
+                    return Admission::Accepted;
                 }
-                return 13;
+                return Admission::Refused(Refusal {
+                    number: refusals::NOT_FAR_AHEAD,
+                });
             }
         }
     }
-    15
+    Admission::Refused(Refusal {
+        number: refusals::SOFT_HARD_DISAGREE,
+    })
 }
 
 // What a found soft answer says: the soft winner with its total and margin, the physical list's figures, and the hard runner-up.

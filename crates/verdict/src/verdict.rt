@@ -57,16 +57,16 @@ fn decoded(t: u8, w: Candidate, next: RunnerUp, edges: u32) -> Decoded
     }
 }
 
-// The logical winner w under transform t, with its runner-up, judged against the physical winner p under transform s: 12, 13 or found.
+// The logical winner w under transform t, with its runner-up, judged against the physical winner p under transform s: they disagree, it is not far ahead, or found.
 pub fn judge(t: u8, w: Candidate, next: RunnerUp, s: u8, p: Candidate, edges: u32) -> Answer
     requires { ⌜ (w .hits ≤ edges) × (next .hits ≤ edges) × (edges ≤ 8192) ⌝ }
     ensures { λ r. ⌜ r ≡ judged t w next s p edges ⌝ }
 {
     if !same_square(t, w, s, p) {
-        return refuse(12);
+        return refuse(refusals::LISTS_DISAGREE);
     }
     if !figures::passes(edges, w.hits, next.hits) {
-        return refuse(13);
+        return refuse(refusals::NOT_FAR_AHEAD);
     }
     Answer::Found(decoded(t, w, next, edges))
 }

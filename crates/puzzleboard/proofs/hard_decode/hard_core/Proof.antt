@@ -41,9 +41,6 @@ select-requires c κs = let s = c .before .before .before .before .before .befor
 enum-known-logical : tie.Need-enum-known-logical
 enum-known-logical c = search needs
 
-refuse-requires : tie.Need-refuse-requires
-refuse-requires c κs = search needs
-
 enum-known-logical-2 : tie.Need-enum-known-logical-2
 enum-known-logical-2 c = search needs
 
@@ -58,9 +55,6 @@ select-requires-2 c κs =
 
 enum-known-physical : tie.Need-enum-known-physical
 enum-known-physical c = search needs
-
-refuse-requires-2 : tie.Need-refuse-requires-2
-refuse-requires-2 c κs = search needs
 
 enum-known-physical-2 : tie.Need-enum-known-physical-2
 enum-known-physical-2 c = search needs
@@ -89,9 +83,9 @@ same-length-2 c = search needs
 returns : tie.Need-returns
 unfolding ofBits
 returns c =
-    let d = c .before .before .before .before .before .before .before .before in
+    let d = c .before .before .before .before .before .before .before in
     let s = st d in
-    core-refused (L s) (P s) (ts s) (B s) (s .args .limit) _ _ (s .pre) _ _ (d .select .result) (d .select .ensures) (c .before .before .logical .given .0 .0) _ (c .before .before .logical .given .1) (c .refuse .ensures)
+    core-refused (L s) (P s) (ts s) (B s) (s .args .limit) _ _ (s .pre) _ _ (d .select .result) (d .select .ensures) (c .before .logical .given .0 .0) (c .before .logical .given .1)
 
 same-length-3 : tie.Need-same-length-3
 same-length-3 c = search needs
@@ -102,11 +96,11 @@ same-length-4 c = search needs
 returns-2 : tie.Need-returns-2
 unfolding ofBits
 returns-2 c =
-    let d = c .before .before .before .before .before .before .before .before .before .before .before .before .before .before .before .before .before .before in
+    let d = c .before .before .before .before .before .before .before .before .before .before .before .before .before .before .before .before .before in
     let s = st d in
-    let l = c .before .before .before .before .before .before .before .before .before .before .before .before .logical2 .given in
-    let f = c .before .before .before .before .before .before .before .before .select2 in
-    core-physical-refused (L s) (P s) (ts s) (B s) (s .args .limit) _ _ (s .pre) _ _ (d .select .result) (d .select .ensures) (l .0 .0) (l .0 .1 .0) (l .1) _ _ (f .result) (f .ensures) (c .before .before .physical .given .0 .0) _ (c .before .before .physical .given .1) (c .refuse2 .ensures)
+    let l = c .before .before .before .before .before .before .before .before .before .before .before .logical2 .given in
+    let f = c .before .before .before .before .before .before .before .select2 in
+    core-physical-refused (L s) (P s) (ts s) (B s) (s .args .limit) _ _ (s .pre) _ _ (d .select .result) (d .select .ensures) (l .0 .0) (l .0 .1 .0) (l .1) _ _ (f .result) (f .ensures) (c .before .physical .given .0 .0) (c .before .physical .given .1)
 
 returns-3 : tie.Need-returns-3
 unfolding ofBits
@@ -130,11 +124,9 @@ hard-core-spec =
     (tie.spec
     select-requires
     enum-known-logical
-    refuse-requires
     enum-known-logical-2
     select-requires-2
     enum-known-physical
-    refuse-requires-2
     enum-known-physical-2
     shared-slice-read-judge
     shared-slice-read-judge-2

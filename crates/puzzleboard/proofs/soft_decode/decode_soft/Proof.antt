@@ -4,30 +4,35 @@ use denote.Ref.{now}
 use lib.ListN.{length}
 use Rattle.board.specs.Hits.{edges, tables}
 use Rattle.sums.specs.Sums.{Likelihoods, likelihoods}
-use Rattle.refusals.specs.declared.Refusal.{Refusal}
 use Rattle.admission.specs.Accepted.{SoftAccepted, soft-accepted}
 use Rattle.puzzleboard.specs.SoftLaws.{soft-refused, soft-done}
 use borrow.Author.Needs.{needs}
 use Rattle.puzzleboard.proofs.soft_decode.decode_soft.Statement.{statement}
 use Rattle.puzzleboard.proofs.soft_decode.decode_soft.Tie as tie
 
--- refusal 0: the call is accepted
-accepted : (e : tie.Else1) → let a = e .before .before .before .before .before .before .before .before .before .before .before .before .before .before .before .before .args in SoftAccepted
+-- the call was accepted
+accepted : (c : tie.After-enum-told) → let a = c .before .before .before .before .before .before .before .before .before .before .before .before .before .before .before .before .args in SoftAccepted
     (edges (now (a .prows)) (now (a .pcols)) (now (a .porientations)) (now (a .pbits)) (now (a .pconfidences)))
     (now (a .matches)) (now (a .mismatches))
     (edges (now (a .lrows)) (now (a .lcols)) (now (a .lorientations)) (now (a .lbits)) (now (a .lconfidences)))
     (now (a .transforms)) (tables (now (a .h)) (now (a .v))) (a .limit) (a .margin) (length (now (a .counts))) (length (now (a .weights))) (length (now (a .sums)))
-accepted c = soft-accepted _ _ _ _ _ _ _ _ _ _ _ (ap (λ (r : Refusal). r .number) (sym (c .before .before .soft-refusal .ensures)) ∙ c .if1 .left)
+accepted c = soft-accepted _ _ _ _ _ _ _ _ _ _ _ (sym (c .before .before .soft-admission .ensures) ∙ c .enum-told .given .1)
 
 -- the likelihoods that were given
-abbrev x : (c : tie.After-soft-refusal) → Likelihoods
+abbrev x : (c : tie.After-soft-admission) → Likelihoods
 x c = let a = c .before .before .before .before .before .before .before .before .before .before .before .before .before .before .args in likelihoods (now (a .matches)) (now (a .mismatches))
 
-soft-refusal-requires : tie.Need-soft-refusal-requires
-soft-refusal-requires c κs = search needs
+soft-admission-requires : tie.Need-soft-admission-requires
+soft-admission-requires c κs = search needs
+
+enum-known-admitted : tie.Need-enum-known-admitted
+enum-known-admitted c = search needs
+
+enum-told : tie.Need-enum-told
+enum-told c = search needs
 
 returns : tie.Need-returns
-returns c = soft-refused _ (x (c .before .before)) _ _ _ _ _ _ _ _ _ (c .before .before .soft-refusal .ensures) (c .if1 .taken)
+returns c = let a = c .before .before .before .soft-admission in soft-refused _ (x (c .before .before .before)) _ _ _ _ _ _ _ _ (a .result) (a .ensures) (c .before .admitted .given .0 .0) (c .before .admitted .given .1)
 
 soft-core-requires : tie.Need-soft-core-requires
 soft-core-requires c κs = accepted (c .before .before .before)
@@ -51,7 +56,7 @@ same-length-3 : tie.Need-same-length-3
 same-length-3 c = search needs
 
 returns-2 : tie.Need-returns-2
-returns-2 c = soft-done _ (x (c .before .before .before .before .before .before .before .before .before .before .before .before .before .before .before .before .before .before .before .before .before .before)) _ _ _ _ _ _ _ _ _ _ _ _ _ _ _ _ (c .before .before .before .before .before .before .before .before .before .before .before .before .before .before .before .before .before .before .before .before .before .before .soft-refusal .ensures) (c .before .before .before .before .before .before .before .before .before .before .before .before .before .before .before .before .before .before .before .before .if1 .left) (accepted (c .before .before .before .before .before .before .before .before .before .before .before .before .before .before .before .before .before .before .before .before)) (c .before .before .before .before .before .before .before .before .before .before .before .before .before .before .before .before .soft-core .ensures) (c .before .before .before .before .before .before .before .before .before .clear-u32 .ensures) (c .before .before .before .before .before .clear-f32 .ensures) (c .before .clear-i64 .ensures)
+returns-2 c = soft-done _ (x (c .before .before .before .before .before .before .before .before .before .before .before .before .before .before .before .before .before .before .before .before .before .before)) _ _ _ _ _ _ _ _ (c .before .before .before .before .before .before .before .before .before .before .before .before .before .before .before .before .before .before .before .before .before .before .soft-admission .result) (c .before .before .before .before .before .before .before .before .before .before .before .before .before .before .before .before .before .before .before .before .before .before .soft-admission .ensures) _ _ _ _ _ _ _ (c .before .before .before .before .before .before .before .before .before .before .before .before .before .before .before .before .before .before .before .before .enum-told .given .1) (accepted (c .before .before .before .before .before .before .before .before .before .before .before .before .before .before .before .before .before .before .before .before)) (c .before .before .before .before .before .before .before .before .before .before .before .before .before .before .before .before .soft-core .ensures) (c .before .before .before .before .before .before .before .before .before .clear-u32 .ensures) (c .before .before .before .before .before .clear-f32 .ensures) (c .before .clear-i64 .ensures)
 
 pub decode-soft-spec : {M : Type 1} → statement M
-decode-soft-spec = tie.close (tie.spec soft-refusal-requires returns soft-core-requires clear-u32-requires clear-f32-requires clear-i64-requires same-length same-length-2 same-length-3 returns-2)
+decode-soft-spec = tie.close (tie.spec soft-admission-requires enum-known-admitted enum-told soft-core-requires clear-u32-requires clear-f32-requires clear-i64-requires returns same-length same-length-2 same-length-3 returns-2)

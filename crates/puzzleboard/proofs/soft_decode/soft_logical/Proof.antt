@@ -39,9 +39,6 @@ select-requires c κs = let s = c .before .before .before .before .before .befor
 enum-known-logical : tie.Need-enum-known-logical
 enum-known-logical c = search needs
 
-refuse-requires : tie.Need-refuse-requires
-refuse-requires c κs = search needs
-
 enum-known-logical-2 : tie.Need-enum-known-logical-2
 enum-known-logical-2 c = search needs
 
@@ -57,8 +54,11 @@ cast-soft-verdict c = let d = c .before .before .before .before .before .before 
 soft-verdict-requires : tie.Need-soft-verdict-requires
 soft-verdict-requires c κs = search needs
 
-refuse-requires-2 : tie.Need-refuse-requires-2
-refuse-requires-2 c κs = search needs
+enum-known-verdict : tie.Need-enum-known-verdict
+enum-known-verdict c = search needs
+
+enum-told : tie.Need-enum-told
+enum-told c = search needs
 
 same-length : tie.Need-same-length
 same-length c = search needs
@@ -66,17 +66,14 @@ same-length c = search needs
 same-length-2 : tie.Need-same-length-2
 same-length-2 c = search needs
 
-returns : tie.Need-returns
-returns c = let d = c .before .before .before .before .before .before .before .before .before .before .before .before in let s = st d in let l = c .before .before .before .before .before .before .logical2 .given in let v = c .before .before .soft-verdict in verdict-refused (L s) (P s) (ts s) (B s) (s .args .limit) (now (s .args .counts)) (now (s .args .weights)) (s .pre .0) (s .args .best) _ _ (d .select .result) (d .select .ensures) (l .0 .0) (l .0 .1 .0) (l .1) (v .result) (v .ensures) _ (c .before .if1 .taken) (c .refuse2 .ensures)
-
 figures-requires : tie.Need-figures-requires
-figures-requires c κs = let d = c .before .before .before .before .before .before .before .before .before .before .before .before .before in let s = st d in figures-ready (L s) (P s) (ts s) (B s) (s .args .limit) (now (s .args .counts)) (now (s .args .weights)) (s .pre .0) (s .args .best) _ _ (d .select .result) (d .select .ensures) (s .pre .1)
+figures-requires c κs = let d = c .before .before .before .before .before .before .before .before .before .before .before .before .before .before in let s = st d in figures-ready (L s) (P s) (ts s) (B s) (s .args .limit) (now (s .args .counts)) (now (s .args .weights)) (s .pre .0) (s .args .best) _ _ (d .select .result) (d .select .ensures) (s .pre .1)
 
 cast-soft-decoded : tie.Need-cast-soft-decoded
-cast-soft-decoded c = let d = c .before .before .before .before .before .before .before .before .before .before .before .before .before .before .before .before .before .before in let s = st d in omega (arith, s .pre .0 .physical .few)
+cast-soft-decoded c = let d = c .before .before .before .before .before .before .before .before .before .before .before .before .before .before .before .before .before .before .before in let s = st d in omega (arith, s .pre .0 .physical .few)
 
 soft-decoded-requires : tie.Need-soft-decoded-requires
-soft-decoded-requires c κs = let d = c .before .before .before .before .before .before .before .before .before .before .before .before .before .before .before .before .before .before in let s = st d in let l = c .before .before .before .before .before .before .before .before .before .before .before .before .logical2 .given in let v = c .before .before .before .before .before .before .before .before .soft-verdict in let b = winner (c .before .before .before .before .before .before .before .before .before .before .before .before) .2 in (own-few (L s) (P s) (ts s) (B s) (s .args .limit) (now (s .args .counts)) (now (s .args .weights)) (s .pre .0) (s .args .best) _ _ (d .select .result) (d .select .ensures) (l .0 .0) (l .0 .1 .0) (l .1) (v .result) (v .ensures) _ _ _ (c .before .before .before .before .figures .ensures), s .pre .0 .physical .few, omega (arith, s .pre .0 .logical .few))
+soft-decoded-requires c κs = let d = c .before .before .before .before .before .before .before .before .before .before .before .before .before .before .before .before .before .before .before in let s = st d in let l = c .before .before .before .before .before .before .before .before .before .before .before .before .before .logical2 .given in let v = c .before .before .before .before .before .before .before .before .before .soft-verdict in let b = winner (c .before .before .before .before .before .before .before .before .before .before .before .before .before) .2 in (own-few (L s) (P s) (ts s) (B s) (s .args .limit) (now (s .args .counts)) (now (s .args .weights)) (s .pre .0) (s .args .best) _ _ (d .select .result) (d .select .ensures) (l .0 .0) (l .0 .1 .0) (l .1) (v .result) (v .ensures) _ _ _ (c .before .before .before .before .figures .ensures), s .pre .0 .physical .few, omega (arith, s .pre .0 .logical .few))
 
 same-length-3 : tie.Need-same-length-3
 same-length-3 c = search needs
@@ -84,11 +81,14 @@ same-length-3 c = search needs
 same-length-4 : tie.Need-same-length-4
 same-length-4 c = search needs
 
+returns : tie.Need-returns
+returns c = let d = c .before .before .before .before .before .before .before in let s = st d in let l = c .before .logical .given in logical-refused (L s) (P s) (ts s) (B s) (s .args .limit) (now (s .args .counts)) (now (s .args .weights)) (s .pre .0) (s .args .best) _ _ (d .select .result) (d .select .ensures) (l .0 .0) (l .1)
+
 returns-2 : tie.Need-returns-2
-returns-2 c = let d = c .before .before .before .before .before .before .before .before in let s = st d in let l = c .before .before .logical .given in logical-refused (L s) (P s) (ts s) (B s) (s .args .limit) (now (s .args .counts)) (now (s .args .weights)) (s .pre .0) (s .args .best) _ _ (d .select .result) (d .select .ensures) (l .0 .0) _ (l .1) (c .refuse .ensures)
+returns-2 c = let d = c .before .before .before .before .before .before .before .before .before .before .before .before .before in let s = st d in let l = c .before .before .before .before .before .before .before .logical2 .given in let v = c .before .before .before .soft-verdict in verdict-refused (L s) (P s) (ts s) (B s) (s .args .limit) (now (s .args .counts)) (now (s .args .weights)) (s .pre .0) (s .args .best) _ _ (d .select .result) (d .select .ensures) (l .0 .0) (l .0 .1 .0) (l .1) (v .result) (v .ensures) (c .before .verdict .given .0 .0) (c .before .verdict .given .1)
 
 returns-3 : tie.Need-returns-3
-returns-3 c = let d = c .before .before .before .before .before .before .before .before .before .before .before .before .before .before .before .before .before .before .before in let s = st d in let l = c .before .before .before .before .before .before .before .before .before .before .before .before .before .logical2 .given in let v = c .before .before .before .before .before .before .before .before .before .soft-verdict in verdict-found (L s) (P s) (ts s) (B s) (s .args .limit) (now (s .args .counts)) (now (s .args .weights)) (s .pre .0) (s .args .best) _ _ (d .select .result) (d .select .ensures) (l .0 .0) (l .0 .1 .0) (l .1) (v .result) (v .ensures) _ _ _ (c .before .before .before .before .before .figures .ensures) _ (c .before .before .before .before .before .before .before .before .if1 .left) (c .soft-decoded .ensures)
+returns-3 c = let d = c .before .before .before .before .before .before .before .before .before .before .before .before .before .before .before .before .before .before .before .before in let s = st d in let l = c .before .before .before .before .before .before .before .before .before .before .before .before .before .before .logical2 .given in let v = c .before .before .before .before .before .before .before .before .before .before .soft-verdict in verdict-found (L s) (P s) (ts s) (B s) (s .args .limit) (now (s .args .counts)) (now (s .args .weights)) (s .pre .0) (s .args .best) _ _ (d .select .result) (d .select .ensures) (l .0 .0) (l .0 .1 .0) (l .1) (v .result) (v .ensures) _ _ _ (c .before .before .before .before .before .figures .ensures) _ (c .before .before .before .before .before .before .before .before .enum-told .given .1) (c .soft-decoded .ensures)
 
 same-length-5 : tie.Need-same-length-5
 same-length-5 c = returns-3 c .counts .len
@@ -97,4 +97,4 @@ same-length-6 : tie.Need-same-length-6
 same-length-6 c = returns-3 c .weights .len
 
 pub soft-logical-spec : {M : Type 1} → statement M
-soft-logical-spec = tie.close (tie.spec select-requires enum-known-logical refuse-requires enum-known-logical-2 shared-slice-read-t shared-slice-read-s cast-soft-verdict soft-verdict-requires refuse-requires-2 same-length same-length-2 returns figures-requires cast-soft-decoded soft-decoded-requires same-length-3 same-length-4 returns-2 same-length-5 same-length-6 returns-3)
+soft-logical-spec = tie.close (tie.spec select-requires enum-known-logical enum-known-logical-2 shared-slice-read-t shared-slice-read-s cast-soft-verdict soft-verdict-requires enum-known-verdict enum-told figures-requires cast-soft-decoded soft-decoded-requires same-length same-length-2 returns same-length-3 same-length-4 returns-2 same-length-5 same-length-6 returns-3)

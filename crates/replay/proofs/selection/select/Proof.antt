@@ -3,7 +3,6 @@ use mathlib.Core.Path.{_≡_, sym, ap, _∙_}
 use denote.Ref.{now}
 use lib.ListN.{length}
 use Rattle.board.specs.Hits.{edges, tables}
-use Rattle.refusals.specs.declared.Refusal.{Refusal}
 use Rattle.admission.specs.Accepted.{HardAccepted, hard-accepted}
 use Rattle.puzzleboard.specs.HardLaws.{ready-logical}
 use borrow.Author.Needs.{needs}
@@ -11,11 +10,17 @@ use Rattle.replay.proofs.selection.select.Statement.{statement}
 use Rattle.replay.proofs.selection.select.Tie as tie
 
 -- the call was accepted
-accepted : (c : tie.Else1) → let a = c .before .before .before .before .before .before .before .before .before .before .before .args in let E = edges (now (a .rows)) (now (a .cols)) (now (a .orientations)) (now (a .bits)) (now (a .confidences)) in HardAccepted E E (now (a .transforms)) (tables (now (a .h)) (now (a .v))) (a .limit) (length (now (a .counts))) (length (now (a .weights)))
-accepted c = hard-accepted _ _ _ _ _ _ _ (ap (λ (r : Refusal). r .number) (sym (c .before .before .hard-refusal .ensures)) ∙ c .if1 .left)
+accepted : (c : tie.After-enum-told) → let a = c .before .before .before .before .before .before .before .before .before .before .before .args in let E = edges (now (a .rows)) (now (a .cols)) (now (a .orientations)) (now (a .bits)) (now (a .confidences)) in HardAccepted E E (now (a .transforms)) (tables (now (a .h)) (now (a .v))) (a .limit) (length (now (a .counts))) (length (now (a .weights)))
+accepted c = hard-accepted _ _ _ _ _ _ _ (sym (c .before .before .hard-admission .ensures) ∙ c .enum-told .given .1)
 
-hard-refusal-requires : tie.Need-hard-refusal-requires
-hard-refusal-requires c κs = search needs
+hard-admission-requires : tie.Need-hard-admission-requires
+hard-admission-requires c κs = search needs
+
+enum-known-admitted : tie.Need-enum-known-admitted
+enum-known-admitted c = search needs
+
+enum-told : tie.Need-enum-told
+enum-told c = search needs
 
 returns : tie.Need-returns
 returns c = search needs
@@ -35,4 +40,4 @@ returns-2 c = search needs
 pub select-spec : {M : Type 1} → statement M
 select-spec =
     tie.close
-    (tie.spec hard-refusal-requires returns select-requires same-length same-length-2 returns-2)
+    (tie.spec hard-admission-requires enum-known-admitted enum-told select-requires returns same-length same-length-2 returns-2)

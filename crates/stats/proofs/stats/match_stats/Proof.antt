@@ -5,7 +5,6 @@ use denote.Ref.{now}
 use lib.Ieee.{Float}
 use Rattle.board.specs.Hits.{EdgeList, Board, edges, tables, size, hits}
 use Rattle.board.specs.HitsLaws.{hits-le}
-use Rattle.refusals.specs.declared.Refusal.{Refusal}
 use Rattle.answer.specs.declared.MatchStats.{MatchStats}
 use Rattle.stats.specs.declared.stats.HitsWeight.{HitsWeight}
 use Rattle.admission.specs.Accepted.{StatsAccepted, stats-accepted}
@@ -16,7 +15,7 @@ use Rattle.stats.proofs.stats.match_stats.Statement.{statement}
 use Rattle.stats.proofs.stats.match_stats.Tie as tie
 
 -- what the call was given
-module _ (c : tie.Else1) where
+module _ (c : tie.After-enum-told) where
   abbrev E : EdgeList
   E = let a = c .before .before .before .before .before .before .before .before .args in edges (now (a .rows)) (now (a .cols)) (now (a .orientations)) (now (a .bits)) (now (a .confidences))
 
@@ -25,7 +24,7 @@ module _ (c : tie.Else1) where
 
   -- it was accepted
   accepted : let a = c .before .before .before .before .before .before .before .before .args in StatsAccepted E (a .transform) (a .row) (a .col) B
-  accepted = stats-accepted _ _ _ _ _ (ap (λ (r : Refusal). r .number) (sym (c .before .before .stats-refusal .ensures)) ∙ c .if1 .left)
+  accepted = stats-accepted _ _ _ _ _ (sym (c .before .before .stats-admission .ensures) ∙ c .enum-told .given .1)
 
 -- the hits are at most the edges
 few : (c : tie.After-count-hits) → c .count-hits .result .hits ≤ size (E (c .before))
@@ -34,11 +33,17 @@ few c =
     let a = c .before .before .before .before .before .before .before .before .before .args in
     omega (arith, ap (λ (s : HitsWeight). s .hits) (c .count-hits .ensures), hits-le (B (c .before)) (E (c .before)) (a .transform) (a .row) (a .col))
 
-stats-refusal-requires : tie.Need-stats-refusal-requires
-stats-refusal-requires c κs = search needs
+stats-admission-requires : tie.Need-stats-admission-requires
+stats-admission-requires c κs = search needs
+
+enum-known-admitted : tie.Need-enum-known-admitted
+enum-known-admitted c = search needs
+
+enum-told : tie.Need-enum-told
+enum-told c = search needs
 
 returns : tie.Need-returns
-returns c = stats-refused _ _ _ _ _ _ (c .before .before .stats-refusal .ensures) (c .if1 .taken)
+returns c = let a = c .before .before .before .stats-admission in stats-refused _ _ _ _ _ (a .result) (a .ensures) (c .before .admitted .given .0 .0) (c .before .admitted .given .1)
 
 count-hits-requires : tie.Need-count-hits-requires
 count-hits-requires c κs = accepted c
@@ -54,9 +59,9 @@ mean-requires c κs = omega (arith, few (c .before), accepted (c .before .before
 
 returns-2 : tie.Need-returns-2
 returns-2 c =
-    let e = c .before .before .count-hits .ensures in
-    stats-counted _ _ _ _ _ _ (c .before .before .count-hits .result) _ (c .before .before .before .before .before .stats-refusal .ensures) (c .before .before .before .if1 .left) e
+    let a = c .before .before .before .before .before .stats-admission in
+    stats-counted _ _ _ _ _ (a .result) (a .ensures) (c .before .before .count-hits .result) _ (c .before .before .before .enum-told .given .1) (c .before .before .count-hits .ensures)
     (ap₂ (λ (x y : Float). record { edges = size (E (c .before .before .before)); hits = c .before .before .count-hits .result .hits; rate = x; mean = y }) (c .before .rate .ensures) (c .mean .ensures))
 
 pub match-stats-spec : {M : Type 1} → statement M
-match-stats-spec = tie.close (tie.spec stats-refusal-requires returns count-hits-requires cast-edges rate-requires mean-requires returns-2)
+match-stats-spec = tie.close (tie.spec stats-admission-requires enum-known-admitted enum-told count-hits-requires cast-edges rate-requires mean-requires returns returns-2)

@@ -1,0 +1,67 @@
+-- Document 01, 'Refusal numbers': the table, one name for each number. They are the names of the C header, and of the constants in the code.
+use Prim.Native.Nat.{ℕ}
+use Rattle.refusals.specs.declared.Refusal.{Refusal}
+
+-- "room too short"
+abbrev pub roomTooShort : ℕ
+roomTooShort = 1
+
+-- "one list's slices differ in length"
+abbrev pub lengthsDiffer : ℕ
+lengthsDiffer = 2
+
+-- "a list empty (not for match statistics) or over 8,192"
+abbrev pub listSize : ℕ
+listSize = 3
+
+-- "coordinate, orientation code or bit outside its range"
+abbrev pub edgeOutOfRange : ℕ
+edgeOutOfRange = 4
+
+-- "confidence NaN, below 0 or above 1"
+abbrev pub badConfidence : ℕ
+badConfidence = 5
+
+-- "a likelihood NaN, infinite or out of range (soft)"
+abbrev pub badLikelihood : ℕ
+badLikelihood = 6
+
+-- "transform count or number out of range"
+abbrev pub badTransform : ℕ
+badTransform = 7
+
+-- "pattern table length or byte wrong"
+abbrev pub badTable : ℕ
+badTable = 8
+
+-- "error limit, soft margin or given origin NaN or out of range"
+abbrev pub badSetting : ℕ
+badSetting = 9
+
+-- "total confidence is 0"
+abbrev pub noConfidence : ℕ
+noConfidence = 10
+
+-- "no listed transform's best hits are within the limit"
+abbrev pub noneWithinLimit : ℕ
+noneWithinLimit = 11
+
+-- "logical and physical winners differ"
+abbrev pub listsDisagree : ℕ
+listsDisagree = 12
+
+-- "gate not passed"
+abbrev pub notFarAhead : ℕ
+notFarAhead = 13
+
+-- "margin below the soft margin"
+abbrev pub softMargin : ℕ
+softMargin = 14
+
+-- "soft and hard winners differ"
+abbrev pub softHardDisagree : ℕ
+softHardDisagree = 15
+
+-- the refusal with a number
+abbrev pub numbered : ℕ → Refusal
+numbered n = record { number = n }

@@ -137,15 +137,15 @@ pub(crate) fn soft_call<'a>(
 }
 
 // Match statistics.
-pub(crate) fn stats_call(
+pub(crate) fn stats_call<'a>(
     rows: &[i32; 8193],
     cols: &[i32; 8193],
     orientations: &[u8; 8193],
     bits: &[u8; 8193],
     confidences: &[f32; 8193],
     p: Sizes,
-    h: &[u8; 8193],
-    v: &[u8; 8193],
+    h: &'a [u8; 8193],
+    v: &'a [u8; 8193],
     n: Lengths,
     s: Settings,
 ) -> [u32; 15] {

@@ -37,9 +37,9 @@ pub(crate) fn fill_ones(table: &mut [u8; 167], n: usize) {
 }
 
 // The bit that makes an edge a hit at a placing, by match statistics of that edge alone.
-fn true_bit(
-    h: &[u8; 167],
-    v: &[u8; 167],
+fn true_bit<'a>(
+    h: &'a [u8; 167],
+    v: &'a [u8; 167],
     row: i32,
     col: i32,
     orientation: u8,
@@ -97,7 +97,7 @@ fn wide(x: u8) -> i32 {
 }
 
 // The edges of one orientation in one row of a window, seen at the placing.
-fn put_row(
+fn put_row<'a>(
     rows: &mut [i32; 8193],
     cols: &mut [i32; 8193],
     orientations: &mut [u8; 8193],
@@ -106,8 +106,8 @@ fn put_row(
     row: u8,
     squares: u8,
     orientation: u8,
-    h: &[u8; 167],
-    v: &[u8; 167],
+    h: &'a [u8; 167],
+    v: &'a [u8; 167],
     transform: u8,
     r: u32,
     c: u32,
@@ -131,14 +131,14 @@ fn put_row(
 }
 
 // The edges of a square window, seen at the placing: how many there are.
-pub(crate) fn put_window(
+pub(crate) fn put_window<'a>(
     rows: &mut [i32; 8193],
     cols: &mut [i32; 8193],
     orientations: &mut [u8; 8193],
     bits: &mut [u8; 8193],
     squares: u8,
-    h: &[u8; 167],
-    v: &[u8; 167],
+    h: &'a [u8; 167],
+    v: &'a [u8; 167],
     transform: u8,
     r: u32,
     c: u32,

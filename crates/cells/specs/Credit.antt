@@ -31,12 +31,12 @@ CountsAdded e T n c c' = Spread 0 _+_ e (λ j. T j .count) n c c'
 abbrev pub WeightsAdded : (ℕ → ℕ) → (ℕ → FamilyTerm) → ℕ → List Float → List Float → Type 0
 WeightsAdded e T n w w' = Spread nan (add binary32) e (λ j. T j .weight) n w w'
 
--- places one step apart, and the terms of a row
+-- places one step apart, and the j-th term of a row
 abbrev pub stepped : ℕ → ℕ → ℕ → ℕ
 stepped k step j = k + j * step
 
-abbrev pub listed : List FamilyTerm → ℕ → FamilyTerm
-listed row j = getD row j noTerm
+abbrev pub termIn : List FamilyTerm → ℕ → FamilyTerm
+termIn row j = getD row j noTerm
 
 -- ---- a run of classes: the j-th cell is short class j mod 3 of class j / 3
 unfoldable pub runPlace : ℕ → ℕ → ℕ → ℕ → ℕ

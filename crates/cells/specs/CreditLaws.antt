@@ -25,7 +25,7 @@ use Rattle.cells.specs.Spread.{Fits, Spread, fits-next, spread-next, fit
 use Rattle.groups.specs.Terms.{term, Terms, noTerm, placesN, placesF}
 use Rattle.groups.specs.TermsLaws.{terms-at, no-term}
 use Rattle.cells.specs.Cells.{longClass, shortClass}
-use Rattle.cells.specs.Credit.{stepped, listed, CountsFit, WeightsFit, CountsAdded, WeightsAdded, CountsIn, WeightsIn, runPlace, entry, runTerm, fourPlace, fourTerm, Standing, RunReady, RunCells, RunCredited, longStep, shortStep, cellPattern, FamilyReady, FamilyCredited}
+use Rattle.cells.specs.Credit.{stepped, termIn, CountsFit, WeightsFit, CountsAdded, WeightsAdded, CountsIn, WeightsIn, runPlace, entry, runTerm, fourPlace, fourTerm, Standing, RunReady, RunCells, RunCredited, longStep, shortStep, cellPattern, FamilyReady, FamilyCredited}
 use Rattle.cells.specs.LayoutLaws.{stand, short-below}
 use Rattle.cells.specs.RunLaws.{run-place, run-term, after-long, after-short, pattern-small, first-places, first-inside, first-holds, second-place, second-places, second-inside, second-fresh, second-holds, family-zone}
 
@@ -57,13 +57,13 @@ module _ {A : Type 0} (d : A) (op : A → A → A) (takes : A → A → Type 0) 
     class-place : (j : ℕ) → j < 3 → runPlace at long short (i * 3 + j) ≡ stepped k short j
     class-place j h = run-place at long short i j h ∙ sym (add-assoc at (i * long) (j * short)) ∙ ap (λ x. x + j * short) (sym ek)
 
-    class-term : (j : ℕ) → j < 3 → of (runTerm noTerm terms part (i * 3 + j)) ≡ of (listed row j)
+    class-term : (j : ℕ) → j < 3 → of (runTerm noTerm terms part (i * 3 + j)) ≡ of (termIn row j)
     class-term j h = ap of (run-term noTerm terms part i j h ∙ ap (λ r. getD r j noTerm) (sym er))
 
-    pub class-fits : Fits d op takes (stepped k short) (λ j. of (listed row j)) 3 mid
+    pub class-fits : Fits d op takes (stepped k short) (λ j. of (termIn row j)) 3 mid
     class-fits = fits-next d op takes _ _ (n * 3) old F (i * 3) mid s (stepped k short) _ 3 (omega arith) class-place class-term
 
-    pub class-more : (q : ℕ) → q ≡ (i + 1) * 3 → (new : List A) → Spread d op (stepped k short) (λ j. of (listed row j)) 3 mid new → Done q new
+    pub class-more : (q : ℕ) → q ≡ (i + 1) * 3 → (new : List A) → Spread d op (stepped k short) (λ j. of (termIn row j)) 3 mid new → Done q new
     class-more q e new u = spread-next d op takes _ _ (n * 3) old F (i * 3) mid s (stepped k short) _ 3 (omega arith) class-place class-term q (omega arith) new u
 
   -- four neighbouring classes from the i-th on, short class by short class
@@ -149,14 +149,14 @@ module _ {A : Type 0} (d : A) (op : A → A → A) (takes : A → A → Type 0) 
   unfolding fourPlace
   across-place j h = rw (digits-mod m h, digits-div m h, ek) (omega arith)
 
-  across-term : (j : ℕ) → j < 4 → of (fourTerm four (m * 4 + j)) ≡ of (listed across j)
+  across-term : (j : ℕ) → j < 4 → of (fourTerm four (m * 4 + j)) ≡ of (termIn across j)
   unfolding fourTerm
-  across-term j h = ap of (rw (digits-mod m h, digits-div m h) (below-four (λ j. getD (getD four j []) m noTerm ≡ listed across j) refl refl refl refl j h))
+  across-term j h = ap of (rw (digits-mod m h, digits-div m h) (below-four (λ j. getD (getD four j []) m noTerm ≡ termIn across j) refl refl refl refl j h))
 
-  pub across-fits : Fits d op takes (stepped k' 1) (λ j. of (listed across j)) 4 mid
+  pub across-fits : Fits d op takes (stepped k' 1) (λ j. of (termIn across j)) 4 mid
   across-fits = fits-next d op takes _ _ 12 old F (m * 4) mid s (stepped k' 1) _ 4 (omega arith) across-place across-term
 
-  pub across-more : (q : ℕ) → q ≡ m * 4 + 4 → (new : List A) → Spread d op (stepped k' 1) (λ j. of (listed across j)) 4 mid new
+  pub across-more : (q : ℕ) → q ≡ m * 4 + 4 → (new : List A) → Spread d op (stepped k' 1) (λ j. of (termIn across j)) 4 mid new
       → Spread d op (fourPlace k short) (λ j. of (fourTerm four j)) q old new
   across-more q e new u = spread-next d op takes _ _ 12 old F (m * 4) mid s (stepped k' 1) _ 4 (omega arith) across-place across-term q e new u
 
@@ -190,17 +190,17 @@ module _ (terms : List (List FamilyTerm)) (part : List ℕ) (n at long short : �
     cell-in = let a = subst (λ (x : ℕ). x < length c) (run-place at long short i 0 (lit< tt)) (R .inside (i * 3 + 0) (omega arith) .0) in omega arith
 
     module _ (l : List ℕ) (d : CountsIn terms part at long short (i * 3) c l) where
-      pub counts-fit : CountsFit (stepped k short) (listed row) 3 l
+      pub counts-fit : CountsFit (stepped k short) (termIn row) 3 l
       counts-fit = class-fits 0 _+_ _ (λ x. x .count) terms part n at long short c run-counts i k row h ek refl l d
 
-      pub counts-more : (q : ℕ) → q ≡ (i + 1) * 3 → (l' : List ℕ) → CountsAdded (stepped k short) (listed row) 3 l l' → CountsIn terms part at long short q c l'
+      pub counts-more : (q : ℕ) → q ≡ (i + 1) * 3 → (l' : List ℕ) → CountsAdded (stepped k short) (termIn row) 3 l l' → CountsIn terms part at long short q c l'
       counts-more q e l' u = class-more 0 _+_ _ (λ x. x .count) terms part n at long short c run-counts i k row h ek refl l d q e l' u
 
     module _ (l : List Float) (d : WeightsIn terms part at long short (i * 3) w l) where
-      pub weights-fit : WeightsFit (stepped k short) (listed row) 3 l
+      pub weights-fit : WeightsFit (stepped k short) (termIn row) 3 l
       weights-fit = class-fits nan (add binary32) _ (λ x. x .weight) terms part n at long short w run-weights i k row h ek refl l d
 
-      pub weights-more : (q : ℕ) → q ≡ (i + 1) * 3 → (l' : List Float) → WeightsAdded (stepped k short) (listed row) 3 l l' → WeightsIn terms part at long short q w l'
+      pub weights-more : (q : ℕ) → q ≡ (i + 1) * 3 → (l' : List Float) → WeightsAdded (stepped k short) (termIn row) 3 l l' → WeightsIn terms part at long short q w l'
       weights-more q e l' u = class-more nan (add binary32) _ (λ x. x .weight) terms part n at long short w run-weights i k row h ek refl l d q e l' u
 
   -- four classes from the i-th on, whose cells stand side by side from k on

@@ -4,7 +4,7 @@ ghost use mathlib.Core.List.{[], _∷_};
 ghost use Prim.Native.Nat.{_+_, _<_, _^_};
 ghost use lib.ListN.{length, getD, set};
 ghost use lib.Ieee.{nan, binary32, add};
-ghost use Rattle.cells.specs.Credit.{stepped, listed, CountsFit, CountsAdded, WeightsFit, WeightsAdded};
+ghost use Rattle.cells.specs.Credit.{stepped, termIn, CountsFit, CountsAdded, WeightsFit, WeightsAdded};
 use groups::terms::FamilyTerm;
 
 // Adds x to the count at place k.
@@ -25,8 +25,8 @@ fn add_weight(weights: &mut [f32], k: usize, x: f32)
 
 // Adds a row's counts to the three cells of a class, which stand from k on, one step apart.
 pub fn add_class_counts(counts: &mut [u32], k: usize, step: usize, row: [FamilyTerm; 3])
-    requires { ⌜ CountsFit (stepped k step) (listed row) 3 (now counts) ⌝ }
-    ensures { λ _. ⌜ CountsAdded (stepped k step) (listed row) 3 (now (counts .entry)) (now (counts .exit)) ⌝ }
+    requires { ⌜ CountsFit (stepped k step) (termIn row) 3 (now counts) ⌝ }
+    ensures { λ _. ⌜ CountsAdded (stepped k step) (termIn row) 3 (now (counts .entry)) (now (counts .exit)) ⌝ }
 {
     let a = row[0];
     let b = row[1];
@@ -38,8 +38,8 @@ pub fn add_class_counts(counts: &mut [u32], k: usize, step: usize, row: [FamilyT
 
 // Adds a row's weights to the three cells of a class.
 pub fn add_class_weights(weights: &mut [f32], k: usize, step: usize, row: [FamilyTerm; 3])
-    requires { ⌜ WeightsFit (stepped k step) (listed row) 3 (now weights) ⌝ }
-    ensures { λ _. ⌜ WeightsAdded (stepped k step) (listed row) 3 (now (weights .entry)) (now (weights .exit)) ⌝ }
+    requires { ⌜ WeightsFit (stepped k step) (termIn row) 3 (now weights) ⌝ }
+    ensures { λ _. ⌜ WeightsAdded (stepped k step) (termIn row) 3 (now (weights .entry)) (now (weights .exit)) ⌝ }
 {
     let a = row[0];
     let b = row[1];
@@ -58,8 +58,8 @@ pub fn add_four_counts(
     c: FamilyTerm,
     d: FamilyTerm,
 )
-    requires { ⌜ CountsFit (stepped k 1) (listed (a ∷ b ∷ c ∷ d ∷ [])) 4 (now counts) ⌝ }
-    ensures { λ _. ⌜ CountsAdded (stepped k 1) (listed (a ∷ b ∷ c ∷ d ∷ [])) 4 (now (counts .entry)) (now (counts .exit)) ⌝ }
+    requires { ⌜ CountsFit (stepped k 1) (termIn (a ∷ b ∷ c ∷ d ∷ [])) 4 (now counts) ⌝ }
+    ensures { λ _. ⌜ CountsAdded (stepped k 1) (termIn (a ∷ b ∷ c ∷ d ∷ [])) 4 (now (counts .entry)) (now (counts .exit)) ⌝ }
 {
     add_count(counts, k, a.count);
     add_count(counts, k + 1, b.count);
@@ -76,8 +76,8 @@ pub fn add_four_weights(
     c: FamilyTerm,
     d: FamilyTerm,
 )
-    requires { ⌜ WeightsFit (stepped k 1) (listed (a ∷ b ∷ c ∷ d ∷ [])) 4 (now weights) ⌝ }
-    ensures { λ _. ⌜ WeightsAdded (stepped k 1) (listed (a ∷ b ∷ c ∷ d ∷ [])) 4 (now (weights .entry)) (now (weights .exit)) ⌝ }
+    requires { ⌜ WeightsFit (stepped k 1) (termIn (a ∷ b ∷ c ∷ d ∷ [])) 4 (now weights) ⌝ }
+    ensures { λ _. ⌜ WeightsAdded (stepped k 1) (termIn (a ∷ b ∷ c ∷ d ∷ [])) 4 (now (weights .entry)) (now (weights .exit)) ⌝ }
 {
     add_weight(weights, k, a.weight);
     add_weight(weights, k + 1, b.weight);

@@ -26,9 +26,9 @@ use Rattle.scan.specs.Scan.{chosen}
 use Rattle.figures.specs.Gate.{passed}
 use Rattle.figures.specs.Figures.{noConfidence}
 use Rattle.hard.specs.Select.{orRefused, scanOf, selection}
-use Rattle.margin.specs.declared.scan.SoftCandidate.{SoftCandidate}
-use Rattle.margin.specs.declared.scan.SoftChoice.{SoftChoice}
-use Rattle.margin.specs.declared.scan.SoftChoice.the-variants as soft
+use Rattle.margin.specs.declared.slots.SoftCandidate.{SoftCandidate}
+use Rattle.margin.specs.declared.slots.SoftChoice.{SoftChoice}
+use Rattle.margin.specs.declared.slots.SoftChoice.the-variants as soft
 use Rattle.margin.specs.Margin.{softMargin, belowMargin}
 use Rattle.soft.specs.Select.{softSelection}
 use Rattle.answer.specs.declared.Decoded.{Decoded}

@@ -3,7 +3,7 @@ use mathlib.Core.Bool.{Bool}
 use Prim.Native.Nat.{ℕ}
 use lib.IntN.{pos}
 use lib.Ieee.{Float, lt, sub, div, ofInt, binary32}
-use Rattle.margin.specs.declared.scan.SoftCandidate.{SoftCandidate}
+use Rattle.margin.specs.declared.slots.SoftCandidate.{SoftCandidate}
 
 -- of the totals of first and second place, over so many edges
 abbrev pub softMargin : SoftCandidate → SoftCandidate → ℕ → Float

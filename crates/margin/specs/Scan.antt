@@ -6,12 +6,12 @@ use Rattle.laws.specs.Grid.{origins}
 use Rattle.likelihood.specs.Likelihood.{dequantised}
 use Rattle.pair.specs.Sums.{SumTables, sumAt}
 use Rattle.pair.specs.Pair.{winnerOf, runnerOf}
-use Rattle.margin.specs.declared.scan.SoftCandidate.{SoftCandidate}
-use Rattle.margin.specs.declared.scan.SoftScan.{SoftScan}
-use Rattle.margin.specs.declared.scan.Slot.{Slot}
-use Rattle.margin.specs.declared.scan.Slot.the-variants.{Free, Held}
-use Rattle.margin.specs.declared.scan.SoftChoice.{SoftChoice}
-use Rattle.margin.specs.declared.scan.SoftChoice.the-variants.{Nothing, Chosen}
+use Rattle.margin.specs.declared.slots.SoftCandidate.{SoftCandidate}
+use Rattle.margin.specs.declared.slots.SoftScan.{SoftScan}
+use Rattle.margin.specs.declared.slots.Slot.{Slot}
+use Rattle.margin.specs.declared.slots.Slot.the-variants.{Free, Held}
+use Rattle.margin.specs.declared.slots.SoftChoice.{SoftChoice}
+use Rattle.margin.specs.declared.slots.SoftChoice.the-variants.{Nothing, Chosen}
 
 -- the origin of key k at a list position, by row and column; "A total returns to f32 as sum / 2^24 rounded once"
 unfoldable pub softCandidate : ℕ → ℕ → SumTables → ℕ → ℕ → SoftCandidate

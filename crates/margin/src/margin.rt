@@ -2,7 +2,7 @@
 ghost use mathlib.Core.Path.{_≡_};
 ghost use Prim.Native.Nat.{_≤_};
 ghost use Rattle.margin.specs.Margin.{softMargin, belowMargin};
-use crate::scan::SoftCandidate;
+use crate::slots::SoftCandidate;
 
 // The difference of the two totals, then its share per edge.
 pub fn soft_margin(first: SoftCandidate, second: SoftCandidate, edges: u32) -> f32

@@ -13,7 +13,7 @@ use Rattle.board.specs.Sides.{periodOf}
 use Rattle.likelihood.specs.Likelihood.{dequantised}
 use Rattle.sums.specs.Sums.{Likelihoods, score}
 use Rattle.hard.specs.OneList.{keyAt}
-use Rattle.margin.specs.declared.scan.SoftCandidate.{SoftCandidate}
+use Rattle.margin.specs.declared.slots.SoftCandidate.{SoftCandidate}
 use Rattle.soft.specs.BestPlacing.{FirstPlace, SecondPlace}
 use Rattle.margin.specs.Margin.{softMargin, belowMargin}
 use Rattle.soft.specs.SelectLaws.{scoreAtKey}

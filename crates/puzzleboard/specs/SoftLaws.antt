@@ -34,10 +34,10 @@ use Rattle.best.specs.CellTables.{Period, CellTables, cells, TablesOk, cAt, wAt
 use Rattle.figures.specs.Figures.{totalConfidence, noConfidence}
 use Rattle.hard.specs.Select.{selection, SelectDone}
 use Rattle.hard.specs.SelectLaws.{RoomReady, roomCells, built-cells, tables-ok, period-h, period-v}
-use Rattle.margin.specs.declared.scan.SoftCandidate.{SoftCandidate}
-use Rattle.margin.specs.declared.scan.SoftScan.{SoftScan}
-use Rattle.margin.specs.declared.scan.SoftChoice.{SoftChoice}
-use Rattle.margin.specs.declared.scan.SoftChoice.the-variants.{Nothing, Chosen}
+use Rattle.margin.specs.declared.slots.SoftCandidate.{SoftCandidate}
+use Rattle.margin.specs.declared.slots.SoftScan.{SoftScan}
+use Rattle.margin.specs.declared.slots.SoftChoice.{SoftChoice}
+use Rattle.margin.specs.declared.slots.SoftChoice.the-variants.{Nothing, Chosen}
 use Rattle.margin.specs.Scan.{softChosen}
 use Rattle.margin.specs.Margin.{softMargin, belowMargin}
 use Rattle.soft.specs.Select.{softSelection, SoftReady, SoftScanned}

@@ -30,9 +30,9 @@ use Rattle.scan.specs.declared.scan.Candidate.{Candidate}
 use Rattle.scan.specs.declared.scan.RunnerUp.{RunnerUp}
 use Rattle.hard.specs.declared.select.Selection.{Selection}
 use Rattle.hard.specs.declared.select.Selection.the-variants as sel
-use Rattle.margin.specs.declared.scan.SoftCandidate.{SoftCandidate}
-use Rattle.margin.specs.declared.scan.SoftChoice.{SoftChoice}
-use Rattle.margin.specs.declared.scan.SoftChoice.the-variants.{Nothing, Chosen}
+use Rattle.margin.specs.declared.slots.SoftCandidate.{SoftCandidate}
+use Rattle.margin.specs.declared.slots.SoftChoice.{SoftChoice}
+use Rattle.margin.specs.declared.slots.SoftChoice.the-variants.{Nothing, Chosen}
 use Rattle.soft.specs.BestPlacing.{FirstPlace, SecondPlace, BestTwo}
 use Rattle.soft.specs.BestPlacingUnique.{best-two-only}
 use Rattle.margin.specs.Margin.{softMargin, belowMargin}

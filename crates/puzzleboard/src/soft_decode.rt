@@ -11,8 +11,8 @@ ghost use Rattle.verdict.specs.Verdict.{softVerdict, softDecodedOf};
 ghost use Rattle.puzzleboard.specs.Soft.{cellFigures, FiguresDone, LogicalDone, SoftCoreDone, SoftDone};
 use answer::Answer;
 use hard::select::Selection;
-use margin::scan::SoftCandidate;
-use margin::scan::SoftChoice;
+use margin::slots::SoftCandidate;
+use margin::slots::SoftChoice;
 use refusals::Admission;
 use scan::scan::Candidate;
 use scan::scan::RunnerUp;
@@ -214,7 +214,7 @@ fn soft_core<'a>(
         v,
         sums,
     );
-    match margin::scan::finish(scan) {
+    match margin::slots::finish(scan) {
         SoftChoice::Nothing => refuse(refusals::SOFT_MARGIN),
         SoftChoice::Chosen { first, second } => {
             let lead = margin::margin::soft_margin(first, second, prows.len() as u32);

@@ -10,9 +10,9 @@ use lib.Signed.{ltZ}
 use lib.Ieee.{lt}
 use Rattle.laws.specs.Grid.{Grid, origins}
 use Rattle.likelihood.specs.Likelihood.{dequantised}
-use Rattle.margin.specs.declared.scan.SoftCandidate.{SoftCandidate}
-use Rattle.margin.specs.declared.scan.SoftChoice.{SoftChoice}
-use Rattle.margin.specs.declared.scan.SoftChoice.the-variants.{Chosen}
+use Rattle.margin.specs.declared.slots.SoftCandidate.{SoftCandidate}
+use Rattle.margin.specs.declared.slots.SoftChoice.{SoftChoice}
+use Rattle.margin.specs.declared.slots.SoftChoice.the-variants.{Chosen}
 
 -- ---- one transform, with the whole sum s k at the origin of key k
 -- k is its own best origin: no origin has a greater whole sum, and each before it, row by row, has a smaller one

@@ -22,10 +22,10 @@ use Rattle.soft.specs.RunnerLaws.{winner-own, runner-up}
 use Rattle.soft.specs.BestPlacing.{OwnBest, Across, Down, RunnerUp, placed, BestTwo}
 use Rattle.soft.specs.SlotLaws.{above, SlotsIn, slots-two, slots-more}
 use Rattle.soft.specs.PlaceLaws.{offers-weak, places}
-use Rattle.margin.specs.declared.scan.SoftCandidate.{SoftCandidate}
-use Rattle.margin.specs.declared.scan.SoftScan.{SoftScan}
-use Rattle.margin.specs.declared.scan.SoftChoice.{SoftChoice}
-use Rattle.margin.specs.declared.scan.SoftChoice.the-variants.{Chosen}
+use Rattle.margin.specs.declared.slots.SoftCandidate.{SoftCandidate}
+use Rattle.margin.specs.declared.slots.SoftScan.{SoftScan}
+use Rattle.margin.specs.declared.slots.SoftChoice.{SoftChoice}
+use Rattle.margin.specs.declared.slots.SoftChoice.the-variants.{Chosen}
 
 -- ---- the offers: winner and runner-up of each list position in turn
 unfoldable pairOf : (ℕ → ℕ) → (ℕ → ℕ) → ℕ → ℕ

@@ -12,8 +12,8 @@ use Rattle.best.specs.CellTables.{Period}
 use Rattle.hard.specs.TransformLaws.{grid}
 use Rattle.soft.specs.TotalOrderLaws.{not-less, less-through}
 use Rattle.soft.specs.BestPlacing.{OwnBest, NotAfter, Across, Down, RunnerUp, FirstPlace, SecondPlace, placed, BestTwo}
-use Rattle.margin.specs.declared.scan.SoftChoice.{SoftChoice}
-use Rattle.margin.specs.declared.scan.SoftChoice.the-variants.{Chosen}
+use Rattle.margin.specs.declared.slots.SoftChoice.{SoftChoice}
+use Rattle.margin.specs.declared.slots.SoftChoice.the-variants.{Chosen}
 
 -- ---- one transform
 -- one origin is its own best

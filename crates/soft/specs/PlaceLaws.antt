@@ -14,9 +14,9 @@ use Rattle.likelihood.specs.Likelihood.{dequantised}
 use Rattle.soft.specs.TotalOrderLaws.{Small, total-mono, total-less-not, total-not-less, total-less-through}
 use Rattle.soft.specs.BestPlacing.{OwnBest, RunnerUp, FirstPlace, SecondPlace, placed}
 use Rattle.soft.specs.SlotLaws.{above, Slots}
-use Rattle.margin.specs.declared.scan.SoftCandidate.{SoftCandidate}
-use Rattle.margin.specs.declared.scan.Slot.{Slot}
-use Rattle.margin.specs.declared.scan.Slot.the-variants.{Held}
+use Rattle.margin.specs.declared.slots.SoftCandidate.{SoftCandidate}
+use Rattle.margin.specs.declared.slots.Slot.{Slot}
+use Rattle.margin.specs.declared.slots.Slot.the-variants.{Held}
 
 -- x holds first place and y second place, of all placings
 pub record Places (M : ℕ) (G : Grid) (n : ℕ) (S : ℕ → ℕ → ℤ) (x y : Slot) : Type 0 where

@@ -11,9 +11,9 @@ use Rattle.pair.specs.Sums.{SumTables, sumAt}
 use Rattle.pair.specs.Pair.{winnerOf, runnerOf, twoOf}
 use Rattle.margin.specs.Scan.{yields, softCandidate, softOffered, softEmpty, softFolded, softSelected}
 use Rattle.pair.specs.declared.pair.TwoBest.{TwoBest}
-use Rattle.margin.specs.declared.scan.SoftCandidate.{SoftCandidate}
-use Rattle.margin.specs.declared.scan.SoftScan.{SoftScan}
-use Rattle.margin.specs.declared.scan.Slot.the-variants.{Held}
+use Rattle.margin.specs.declared.slots.SoftCandidate.{SoftCandidate}
+use Rattle.margin.specs.declared.slots.SoftScan.{SoftScan}
+use Rattle.margin.specs.declared.slots.Slot.the-variants.{Held}
 
 -- ---- one candidate more
 module _ (s : SoftScan) (c : SoftCandidate) where

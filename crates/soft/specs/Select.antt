@@ -13,8 +13,8 @@ use Rattle.sums.specs.Sums.{Likelihoods, LikelihoodsOk, sumsOf}
 use Rattle.sums.specs.SumsRoom.{SumsBuilt}
 use Rattle.pair.specs.Sums.{SumTables, sums}
 use Rattle.margin.specs.Scan.{softSelected, softChosen}
-use Rattle.margin.specs.declared.scan.SoftScan.{SoftScan}
-use Rattle.margin.specs.declared.scan.SoftChoice.{SoftChoice}
+use Rattle.margin.specs.declared.slots.SoftScan.{SoftScan}
+use Rattle.margin.specs.declared.slots.SoftChoice.{SoftChoice}
 
 -- the two tables of the transform t
 unfoldable pub sumTables : Board → EdgeList → Likelihoods → ℕ → SumTables

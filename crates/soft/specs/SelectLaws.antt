@@ -23,8 +23,8 @@ use Rattle.margin.specs.Scan.{softEmpty, softFolded, softSelected, softChosen}
 use Rattle.soft.specs.ScanLaws.{soft-selected-none, soft-selected-more, soft-selected-count}
 use Rattle.soft.specs.BestPlacing.{BestTwo}
 use Rattle.soft.specs.BestPlacingLaws.{soft-best}
-use Rattle.margin.specs.declared.scan.SoftScan.{SoftScan}
-use Rattle.margin.specs.declared.scan.SoftChoice.{SoftChoice}
+use Rattle.margin.specs.declared.slots.SoftScan.{SoftScan}
+use Rattle.margin.specs.declared.slots.SoftChoice.{SoftChoice}
 use Rattle.soft.specs.Select.{sumTables, softScanOf, softSelection, SoftReady, SumRoom, SoftScanned}
 
 -- the two tables in a room: horizontal cells, then vertical cells

@@ -9,10 +9,10 @@ use Rattle.laws.specs.Tests.{split}
 use Rattle.laws.specs.Best.{Weak, irrefl}
 use Rattle.margin.specs.Scan.{yields, softOffered, softEmpty}
 use Rattle.soft.specs.ScanLaws.{offer-first, offer-second, offer-none}
-use Rattle.margin.specs.declared.scan.SoftCandidate.{SoftCandidate}
-use Rattle.margin.specs.declared.scan.SoftScan.{SoftScan}
-use Rattle.margin.specs.declared.scan.Slot.{Slot}
-use Rattle.margin.specs.declared.scan.Slot.the-variants.{Held}
+use Rattle.margin.specs.declared.slots.SoftCandidate.{SoftCandidate}
+use Rattle.margin.specs.declared.slots.SoftScan.{SoftScan}
+use Rattle.margin.specs.declared.slots.Slot.{Slot}
+use Rattle.margin.specs.declared.slots.Slot.the-variants.{Held}
 
 -- offer i has a strictly greater total than offer j
 abbrev pub above : (ℕ → SoftCandidate) → ℕ → ℕ → Bool

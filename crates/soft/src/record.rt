@@ -4,9 +4,9 @@ ghost use Prim.Native.Nat.{_≤_, _<_};
 ghost use Rattle.best.specs.CellTables.{Period};
 ghost use Rattle.pair.specs.Sums.{SumsOk, sums};
 ghost use Rattle.margin.specs.Scan.{yields, softCandidate, softEmpty, softOffered, softFolded};
-use margin::scan::Slot;
-use margin::scan::SoftCandidate;
-use margin::scan::SoftScan;
+use margin::slots::Slot;
+use margin::slots::SoftCandidate;
+use margin::slots::SoftScan;
 use pair::pair::two_best;
 
 // A scan of no transforms.

@@ -7,7 +7,7 @@ ghost use Rattle.sums.specs.Sums.{likelihoods};
 ghost use Rattle.margin.specs.Scan.{softFolded};
 ghost use Rattle.soft.specs.Select.{SoftReady, SoftScanned};
 ghost use Rattle.soft.specs.SelectLaws.{roomSums, RoomReady};
-use margin::scan::SoftScan;
+use margin::slots::SoftScan;
 
 // One transform's sums, where they were built in the room, folded into the scan.
 fn fold_room(scan: SoftScan, sums: &[i64], long: usize, wide: usize) -> SoftScan

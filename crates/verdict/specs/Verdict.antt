@@ -12,7 +12,7 @@ use Rattle.scan.specs.declared.scan.Candidate.{Candidate}
 use Rattle.scan.specs.declared.scan.RunnerUp.{RunnerUp}
 use Rattle.figures.specs.Figures.{rateOf, meanOf}
 use Rattle.figures.specs.Gate.{passed}
-use Rattle.margin.specs.declared.scan.SoftCandidate.{SoftCandidate}
+use Rattle.margin.specs.declared.slots.SoftCandidate.{SoftCandidate}
 use Rattle.margin.specs.Margin.{softMargin}
 use Rattle.stats.specs.declared.stats.HitsWeight.{HitsWeight}
 use Rattle.verdict.specs.declared.soft_verdict.SoftBest.{SoftBest}

@@ -4,7 +4,7 @@ ghost use Prim.Native.Nat.{_≤_, _<_};
 ghost use Rattle.verdict.specs.Verdict.{softVerdict, softDecodedOf};
 use answer::Decoded;
 use answer::Square;
-use margin::scan::SoftCandidate;
+use margin::slots::SoftCandidate;
 use refusals::Admission;
 use refusals::Refusal;
 use scan::scan::Candidate;

@@ -7,7 +7,7 @@ use denote.Ref.{now}
 use lib.Dec.{lit<}
 use lib.ListN.{length, getD, set}
 use Rattle.cells.specs.Spread.{Spread, spread-none, place-takes, place-more}
-use Rattle.cells.specs.Credit.{stepped, listed}
+use Rattle.cells.specs.Credit.{stepped, termIn}
 use borrow.Author.Needs.{needs}
 use Rattle.cells.proofs.add.add_four_counts.Statement.{statement}
 use Rattle.cells.proofs.add.add_four_counts.Tie as tie
@@ -20,7 +20,7 @@ module _ (s : tie.Start) where
   place = stepped (s .args .k) 1
 
   abbrev term : ℕ → ℕ
-  term j = listed (s .args .a ∷ s .args .b ∷ s .args .c ∷ s .args .d ∷ []) j .count
+  term j = termIn (s .args .a ∷ s .args .b ∷ s .args .c ∷ s .args .d ∷ []) j .count
 
   within : (j : ℕ) → j < 4 → place j < length old
   within = s .pre .inside

@@ -1,7 +1,7 @@
 use borrow.Author.Needs.{needs}
 use Rattle.margin.specs.Scan.{softChosen}
-use Rattle.margin.proofs.scan.finish.Statement.{statement}
-use Rattle.margin.proofs.scan.finish.Tie as tie
+use Rattle.margin.proofs.slots.finish.Statement.{statement}
+use Rattle.margin.proofs.slots.finish.Tie as tie
 
 enum-told : tie.Need-enum-told
 enum-told c = search needs

@@ -9,6 +9,7 @@ use lib.IntN.{ℤ, pos, _+ℤ_}
 use lib.Ieee.{Float}
 use Rattle.laws.specs.Fold.{count}
 use Rattle.laws.specs.Remainder.{emod}
+use Rattle.board.specs.declared.edge.Placing.{Placing}
 use Rattle.board.specs.declared.transform.EdgeLookup.{EdgeLookup}
 use Rattle.board.specs.Transform.{lookupOf}
 
@@ -24,12 +25,6 @@ pub record EdgeList : Type 0 where
 pub record Board : Type 0 where
   pub h : List ℕ
   pub v : List ℕ
-
--- a placing: a place in the transform list with an origin
-pub record Placing : Type 0 where
-  pub place : ℕ
-  pub row : ℕ
-  pub col : ℕ
 
 -- five columns as one edge list
 abbrev pub edges : List ℤ → List ℤ → List ℕ → List ℕ → List Float → EdgeList
@@ -84,4 +79,4 @@ misses B E t r c = count (size E) (λ i. not (hit B E t r c i))
 
 -- the hits of a placing, of the transform list ts
 abbrev pub hitsAt : Board → EdgeList → List ℕ → Placing → ℕ
-hitsAt B E ts P = hits B E (getD ts (P .place) 0) (P .row) (P .col)
+hitsAt B E ts P = hits B E (getD ts (P .listed) 0) (P .row) (P .col)

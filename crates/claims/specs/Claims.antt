@@ -11,7 +11,8 @@ use lib.IntN.{ℤ, pos}
 use lib.Ieee.{Float, nan}
 use Rattle.laws.specs.Weights.{zeroF}
 use Rattle.laws.specs.Cleared.{cleared-written}
-use Rattle.board.specs.Hits.{EdgeList, Board, Placing, size, hits}
+use Rattle.board.specs.declared.edge.Placing.{Placing}
+use Rattle.board.specs.Hits.{EdgeList, Board, size, hits}
 use Rattle.sums.specs.Sums.{Likelihoods}
 use Rattle.refusals.specs.declared.Refusal.{Refusal}
 use Rattle.refusals.specs.declared.Admission.{Admission}

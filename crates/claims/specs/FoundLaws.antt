@@ -162,8 +162,8 @@ unfolding softJudged
 tells-hard-too P L ts B limit best true c = tells-refused _ (λ z. omega arith)
 tells-hard-too P L ts B limit best false choice.Nothing = tells-refused _ (λ z. omega arith)
 tells-hard-too P L ts B limit best false (choice.Chosen w next) =
-    let t = getD ts (best .first .place) 0 in
-    tells-or (softVerdict t (best .first) (getD ts (w .place) 0) w next (size L)) (Found (softDecodedOf t best (figuresOf B P t (best .first .row) (best .first .col)) (size P) next)) (verdict-numbered t (best .first) (getD ts (w .place) 0) w next (size L)) (tells-found _)
+    let t = getD ts (best .first .listed) 0 in
+    tells-or (softVerdict t (best .first) (getD ts (w .listed) 0) w next (size L)) (Found (softDecodedOf t best (figuresOf B P t (best .first .row) (best .first .col)) (size P) next)) (verdict-numbered t (best .first) (getD ts (w .listed) 0) w next (size L)) (tells-found _)
 
 tells-after-soft : (P L : EdgeList) (ts : List ℕ) (B : Board) (limit least : Float) (c : SoftChoice) → Tells (afterSoft P L ts B limit least c)
 unfolding selection

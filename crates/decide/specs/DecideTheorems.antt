@@ -18,7 +18,7 @@ use Rattle.scan.specs.declared.scan.Candidate.{Candidate}
 use Rattle.scan.specs.declared.scan.RunnerUp.{RunnerUp}
 use Rattle.scan.specs.declared.scan.Choice.{Choice}
 use Rattle.scan.specs.declared.scan.Choice.the-variants.{Nothing, Chosen}
-use Rattle.hard.specs.Placings.{NoneWithin, SomeWithin, Sole, MostOther, Right, refused-13, found}
+use Rattle.hard.specs.Placings.{NoneWithin, SomeWithin, Sole, MostOther, Right, not-far-ahead, found}
 use Rattle.hard.specs.OneList.{keyAt, originNumber, outcomeOf}
 use Rattle.hard.specs.Select.{scanOf, ofChoice, selection}
 use Rattle.hard.specs.SelectLaws.{select-unique}
@@ -42,12 +42,12 @@ module _ (B : Board) (E : EdgeList) (ts : List ℕ) (limit : Float) where
       ((r ≡ numbered why.noneWithinLimit) × NoneWithin (length ts) origins (size E) limit (hitsAtKey B E ts))
       ⊎ ((r ≡ numbered why.notFarAhead) × SomeWithin (length ts) origins (size E) limit (hitsAtKey B E ts) × ((p k : ℕ) → Sole (length ts) origins (size E) limit (hitsAtKey B E ts) p k → ⊥))
   RightOutcome (Decided w next) =
-      Sole (length ts) origins (size E) limit (hitsAtKey B E ts) (w .place) (keyOf w)
-      × (w .hits ≡ hitsAtKey B E ts (w .place) (keyOf w))
-      × MostOther (length ts) origins (size E) limit (hitsAtKey B E ts) (w .place) (keyOf w) (next .hits)
+      Sole (length ts) origins (size E) limit (hitsAtKey B E ts) (w .listed) (keyOf w)
+      × (w .hits ≡ hitsAtKey B E ts (w .listed) (keyOf w))
+      × MostOther (length ts) origins (size E) limit (hitsAtKey B E ts) (w .listed) (keyOf w) (next .hits)
 
   by-gate : (b : Bool) (w : Candidate) (next : RunnerUp)
-      → Right (length ts) origins (size E) limit (hitsAtKey B E ts) (cond b (found (w .place) (keyOf w) (w .hits) (next .hits)) refused-13) → RightOutcome (whenPassed b w next)
+      → Right (length ts) origins (size E) limit (hitsAtKey B E ts) (cond b (found (w .listed) (keyOf w) (w .hits) (next .hits)) not-far-ahead) → RightOutcome (whenPassed b w next)
   by-gate true w next r = r
   by-gate false w next r = inr (refl, r .0, r .1)
 

@@ -27,12 +27,12 @@ fn offer_origin(
     weight: f32,
     row: usize,
     col: usize,
-    place: usize,
+    listed: usize,
     edges: u32,
     limit: f32,
 ) -> Kept
     requires { ⌜ (hits ≤ edges) × (edges ≤ 8192) × (row ≤ 1500) × (col ≤ 1500) ⌝ }
-    ensures { λ r. ⌜ r ≡ offeredWithin edges limit kept (record { hits = hits; score = score; weight = weight; row = row; col = col; place = place }) ⌝ }
+    ensures { λ r. ⌜ r ≡ offeredWithin edges limit kept (record { hits = hits; score = score; weight = weight; row = row; col = col; listed = listed }) ⌝ }
 {
     let r = row as u32;
     let c = col as u32;
@@ -42,7 +42,7 @@ fn offer_origin(
         weight,
         row: r,
         col: c,
-        place,
+        listed,
     };
     offer_within(kept, found, edges, limit)
 }
@@ -62,12 +62,12 @@ fn scan_row(
     edges: u32,
     conf: f32,
     limit: f32,
-    place: usize,
+    listed: usize,
     start: Kept,
 ) -> Kept
     requires { ⌜ Period long × Period wide × TablesOk long wide edges (cells (now hc) (now hw) (now vc) (now vw)) ⌝ }
     requires { ⌜ (row < 3 * long) × (ha ≡ row % long) × (va ≡ row % 3) ⌝ }
-    ensures { λ r. ⌜ r ≡ tried long wide edges conf limit place (cells (now (hc .entry)) (now (hw .entry)) (now (vc .entry)) (now (vw .entry))) (row * (3 * wide)) start (3 * wide) ⌝ }
+    ensures { λ r. ⌜ r ≡ tried long wide edges conf limit listed (cells (now (hc .entry)) (now (hw .entry)) (now (vc .entry)) (now (vw .entry))) (row * (3 * wide)) start (3 * wide) ⌝ }
 {
     let hbase = ha * 3;
     let vbase = va * wide;
@@ -84,7 +84,7 @@ fn scan_row(
             let weight = hw[h] + vw[v];
             let score = weight / conf;
             if is_ahead(lead, hits, score) {
-                kept = offer_origin(kept, hits, score, weight, row, col, place, edges, limit);
+                kept = offer_origin(kept, hits, score, weight, row, col, listed, edges, limit);
                 lead = lead_of(kept);
             }
         }
@@ -106,11 +106,11 @@ pub fn scan_direct(
     edges: u32,
     conf: f32,
     limit: f32,
-    place: usize,
+    listed: usize,
     start: Kept,
 ) -> Kept
     requires { ⌜ Period long × Period wide × TablesOk long wide edges (cells (now hc) (now hw) (now vc) (now vw)) ⌝ }
-    ensures { λ r. ⌜ r ≡ tried long wide edges conf limit place (cells (now (hc .entry)) (now (hw .entry)) (now (vc .entry)) (now (vw .entry))) 0 start (3 * long * (3 * wide)) ⌝ }
+    ensures { λ r. ⌜ r ≡ tried long wide edges conf limit listed (cells (now (hc .entry)) (now (hw .entry)) (now (vc .entry)) (now (vw .entry))) 0 start (3 * long * (3 * wide)) ⌝ }
 {
     let mut kept = start;
     let mut ha: usize = 0;
@@ -130,7 +130,7 @@ pub fn scan_direct(
             edges,
             conf,
             limit,
-            place,
+            listed,
             kept,
         );
         ha = next_class(ha, long);

@@ -10,7 +10,8 @@ use Rattle.laws.specs.Weights.{zeroF}
 use Rattle.laws.specs.Zone.{Zone}
 use Rattle.board.specs.Hits.{EdgeList, seen, look}
 use Rattle.board.specs.Domain.{ListOk}
-use Rattle.groups.specs.Groups.{confidenceAt, placeOf, rowLength, Periods}
+use Rattle.groups.specs.Groups.{confidenceAt, placeOf, Periods}
+use Rattle.room.specs.Room.{rowLength}
 use Rattle.groups.specs.Terms.{placesN, placesF}
 
 -- where edge i's group stands in that row

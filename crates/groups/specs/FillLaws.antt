@@ -19,7 +19,8 @@ use Rattle.laws.specs.Zone.{Zone, zone-none, zone-set}
 use Rattle.board.specs.declared.transform.EdgeLookup.{EdgeLookup}
 use Rattle.board.specs.Hits.{EdgeList, Board, size, seen, look, horizontal}
 use Rattle.board.specs.Sides.{is, onSide, periodOf, longOf, shortOf}
-use Rattle.groups.specs.Groups.{group, groupAt, member, confidenceAt, placeOf, rowLength, Periods}
+use Rattle.groups.specs.Groups.{group, groupAt, member, confidenceAt, placeOf, Periods}
+use Rattle.room.specs.Room.{rowLength}
 use Rattle.groups.specs.Fill.{placeAt, rowSum, FillReady, Filled}
 
 -- ---- a group's number is below six a long residue

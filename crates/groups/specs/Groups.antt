@@ -44,10 +44,6 @@ groupWeight B E = groupSum (add binary32) zeroF (confidenceAt E) B E
 abbrev pub placeOf : ℕ → ℕ → EdgeLookup → ℕ → ℕ
 placeOf L M l bit = cond (horizontal l) (group L (l .row) (l .col) bit) (L * 6 + group M (l .col) (l .row) bit)
 
--- how many places that row has
-abbrev pub rowLength : ℕ → ℕ → ℕ
-rowLength L M = (L + M) * 6
-
 -- periods of two accepted tables
 pub record Periods (L M : ℕ) : Type 0 where
   pub some : (0 < L) × (0 < M)

@@ -54,25 +54,25 @@ module _ (L M edges : ℕ) (conf limit : Float) where
   -- ---- the direct scan
   -- the candidate of one of n origins from the key `from` on, within the limit
   abbrev Tried : ℕ → CellTables → ℕ → ℕ → Candidate → Type 0
-  Tried place X from n c = (k : ℕ) × (k < n) × (overLimit edges limit (pairHits (origins L M) X (from + k)) ≡ false) × (c ≡ originCandidate L M edges conf limit place X (from + k))
+  Tried listed X from n c = (k : ℕ) × (k < n) × (overLimit edges limit (pairHits (origins L M) X (from + k)) ≡ false) × (c ≡ originCandidate L M edges conf limit listed X (from + k))
 
-  tried-most : (place : ℕ) (X : CellTables) (S : Candidate → Type 0) (start : Kept) → MostOf S start → (from n : ℕ)
-      → MostOf (λ c. S c ⊎ Tried place X from n c) (tried L M edges conf limit place X from start n)
+  tried-most : (listed : ℕ) (X : CellTables) (S : Candidate → Type 0) (start : Kept) → MostOf S start → (from n : ℕ)
+      → MostOf (λ c. S c ⊎ Tried listed X from n c) (tried L M edges conf limit listed X from start n)
   unfolding tried offeredWithin originCandidate
-  tried-most place X S start h from zero = most-same S (λ c. S c ⊎ Tried place X from 0 c) start h (λ x s. inl s) (λ x s. ⊎-elim (λ a. a) (λ a. absurd (omega (arith, a .1))) s)
-  tried-most place X S start h from (suc n) = go (overLimit edges limit (new .hits)) refl (tried-most place X S start h from n)
+  tried-most listed X S start h from zero = most-same S (λ c. S c ⊎ Tried listed X from 0 c) start h (λ x s. inl s) (λ x s. ⊎-elim (λ a. a) (λ a. absurd (omega (arith, a .1))) s)
+  tried-most listed X S start h from (suc n) = go (overLimit edges limit (new .hits)) refl (tried-most listed X S start h from n)
     where
       new : Candidate
-      new = originCandidate L M edges conf limit place X (from + n)
+      new = originCandidate L M edges conf limit listed X (from + n)
 
       old : Kept
-      old = tried L M edges conf limit place X from start n
+      old = tried L M edges conf limit listed X from start n
 
       Before : Candidate → Type 0
-      Before c = S c ⊎ Tried place X from n c
+      Before c = S c ⊎ Tried listed X from n c
 
       After : Candidate → Type 0
-      After c = S c ⊎ Tried place X from (suc n) c
+      After c = S c ⊎ Tried listed X from (suc n) c
 
       up : (x : Candidate) → Before x → After x
       up x (inl s) = inl s
@@ -82,7 +82,7 @@ module _ (L M edges : ℕ) (conf limit : Float) where
       down : (x : Candidate) → After x → Before x ⊎ ((x ≡ new) × (overLimit edges limit (new .hits) ≡ false))
       down x (inl s) = inl (inl s)
       down x (inr t) = ⊎-elim
-          (λ e. inr (t .3 ∙ ap (λ (k : ℕ). originCandidate L M edges conf limit place X (from + k)) e, rw e at (t .2)))
+          (λ e. inr (t .3 ∙ ap (λ (k : ℕ). originCandidate L M edges conf limit listed X (from + k)) e, rw e at (t .2)))
           (λ l. inl (inr (t .0, l, t .2, t .3)))
           (split (t .0) n (t .1))
 
@@ -94,27 +94,27 @@ module _ (L M edges : ℕ) (conf limit : Float) where
 
   -- the candidate of one of all origins, within the limit
   abbrev pub Among : ℕ → CellTables → Candidate → Type 0
-  Among place X c = (k : ℕ) × (k < 3 * L * (3 * M)) × (overLimit edges limit (pairHits (origins L M) X k) ≡ false) × (c ≡ originCandidate L M edges conf limit place X k)
+  Among listed X c = (k : ℕ) × (k < 3 * L * (3 * M)) × (overLimit edges limit (pairHits (origins L M) X k) ≡ false) × (c ≡ originCandidate L M edges conf limit listed X k)
 
-  among : (place : ℕ) (X : CellTables) (c : Candidate) → Tried place X 0 (3 * L * (3 * M)) c → Among place X c
-  among place X c t = (t .0, t .1, rw (zero-add (t .0)) at (t .2), rw (zero-add (t .0)) at (t .3))
+  among : (listed : ℕ) (X : CellTables) (c : Candidate) → Tried listed X 0 (3 * L * (3 * M)) c → Among listed X c
+  among listed X c t = (t .0, t .1, rw (zero-add (t .0)) at (t .2), rw (zero-add (t .0)) at (t .3))
 
-  among-tried : (place : ℕ) (X : CellTables) (c : Candidate) → Among place X c → Tried place X 0 (3 * L * (3 * M)) c
-  among-tried place X c t = (t .0, t .1, rw (zero-add (t .0)) (t .2), rw (zero-add (t .0)) (t .3))
+  among-tried : (listed : ℕ) (X : CellTables) (c : Candidate) → Among listed X c → Tried listed X 0 (3 * L * (3 * M)) c
+  among-tried listed X c t = (t .0, t .1, rw (zero-add (t .0)) (t .2), rw (zero-add (t .0)) (t .3))
 
   -- ---- one transform
   -- a candidate of the transform at a list position: its best origin, or from 1,025 optimal pairs on one of its origins within the limit
   abbrev pub Offers : ℕ → CellTables → Candidate → Type 0
-  Offers place X c =
+  Offers listed X c =
       let a = lexOf (X .hc) (X .hw) in
       let b = lexOf (X .vc) (X .vw) in
       (overLimit edges limit (bestHits a b) ≡ false)
-      × (((a .optimal * b .optimal ≤ 1024) × (c ≡ bestCandidate M conf place a b (bestOrigin (origins L M) X)))
-      ⊎ ((1024 < a .optimal * b .optimal) × Among place X c))
+      × (((a .optimal * b .optimal ≤ 1024) × (c ≡ bestCandidate M conf listed a b (bestOrigin (origins L M) X)))
+      ⊎ ((1024 < a .optimal * b .optimal) × Among listed X c))
 
-  transform-most : (place : ℕ) (X : CellTables) (S : Candidate → Type 0) (kept : Kept) → MostOf S kept
-      → MostOf (λ c. S c ⊎ Offers place X c) (offeredBy L M edges conf limit place X (lexOf (X .hc) (X .hw)) (lexOf (X .vc) (X .vw)) (bestOrigin (origins L M) X) kept)
-  transform-most place X S kept h = ⊎-elim none-offered (λ e. ⊎-elim (scanned e) (single e) (compared 1024 (a .optimal * b .optimal))) (cases (overLimit edges limit (bestHits a b)))
+  transform-most : (listed : ℕ) (X : CellTables) (S : Candidate → Type 0) (kept : Kept) → MostOf S kept
+      → MostOf (λ c. S c ⊎ Offers listed X c) (offeredBy L M edges conf limit listed X (lexOf (X .hc) (X .hw)) (lexOf (X .vc) (X .vw)) (bestOrigin (origins L M) X) kept)
+  transform-most listed X S kept h = ⊎-elim none-offered (λ e. ⊎-elim (scanned e) (single e) (compared 1024 (a .optimal * b .optimal))) (cases (overLimit edges limit (bestHits a b)))
     where
       a : LexMax
       a = lexOf (X .hc) (X .hw)
@@ -126,24 +126,24 @@ module _ (L M edges : ℕ) (conf limit : Float) where
       first = bestOrigin (origins L M) X
 
       After : Candidate → Type 0
-      After c = S c ⊎ Offers place X c
+      After c = S c ⊎ Offers listed X c
 
-      none-offered : overLimit edges limit (bestHits a b) ≡ true → MostOf After (offeredBy L M edges conf limit place X a b first kept)
+      none-offered : overLimit edges limit (bestHits a b) ≡ true → MostOf After (offeredBy L M edges conf limit listed X a b first kept)
       none-offered e =
-          rw (by-none L M edges conf limit place X a b first kept e)
+          rw (by-none L M edges conf limit listed X a b first kept e)
           (most-same S After kept h (λ x s. inl s) (λ x s. ⊎-elim (λ t. t) (λ t. clash e (t .0)) s))
 
-      scanned : overLimit edges limit (bestHits a b) ≡ false → 1024 < a .optimal * b .optimal → MostOf After (offeredBy L M edges conf limit place X a b first kept)
+      scanned : overLimit edges limit (bestHits a b) ≡ false → 1024 < a .optimal * b .optimal → MostOf After (offeredBy L M edges conf limit listed X a b first kept)
       scanned e l =
-          rw (by-direct L M edges conf limit place X a b first kept e l)
-          (most-same (λ c. S c ⊎ Tried place X 0 (3 * L * (3 * M)) c) After (tried L M edges conf limit place X 0 kept (3 * L * (3 * M))) (tried-most place X S kept h 0 (3 * L * (3 * M)))
-          (λ x s. ⊎-elim inl (λ t. inr (e, inr (l, among place X x t))) s)
-          (λ x s. ⊎-elim inl (λ t. ⊎-elim (λ u. absurd (omega (arith, u .0))) (λ u. inr (among-tried place X x (u .1))) (t .1)) s))
+          rw (by-direct L M edges conf limit listed X a b first kept e l)
+          (most-same (λ c. S c ⊎ Tried listed X 0 (3 * L * (3 * M)) c) After (tried L M edges conf limit listed X 0 kept (3 * L * (3 * M))) (tried-most listed X S kept h 0 (3 * L * (3 * M)))
+          (λ x s. ⊎-elim inl (λ t. inr (e, inr (l, among listed X x t))) s)
+          (λ x s. ⊎-elim inl (λ t. ⊎-elim (λ u. absurd (omega (arith, u .0))) (λ u. inr (among-tried listed X x (u .1))) (t .1)) s))
 
-      single : overLimit edges limit (bestHits a b) ≡ false → a .optimal * b .optimal ≤ 1024 → MostOf After (offeredBy L M edges conf limit place X a b first kept)
+      single : overLimit edges limit (bestHits a b) ≡ false → a .optimal * b .optimal ≤ 1024 → MostOf After (offeredBy L M edges conf limit listed X a b first kept)
       single e l =
-          rw (by-best L M edges conf limit place X a b first kept e l)
-          (most-more S After kept (bestCandidate M conf place a b first) h (inr (e, inl (l, refl))) (λ x s. inl s)
+          rw (by-best L M edges conf limit listed X a b first kept e l)
+          (most-more S After kept (bestCandidate M conf listed a b first) h (inr (e, inl (l, refl))) (λ x s. inl s)
           (λ x s. ⊎-elim inl (λ t. ⊎-elim (λ u. inr (u .1)) (λ u. absurd (omega (arith, u .0))) (t .1)) s))
 
   -- ---- the list
@@ -167,9 +167,9 @@ module _ (L M edges : ℕ) (conf limit : Float) where
         down x s = ⊎-elim (λ e. inr (rw e at (s .2))) (λ l. inl (s .0, l, s .2)) (split (s .0) n (s .1))
 
     -- a candidate stands at the list position that offered it
-    pub offers-place : (p : ℕ) (c : Candidate) → Offers p (tab p) c → c .place ≡ p
+    pub offers-place : (p : ℕ) (c : Candidate) → Offers p (tab p) c → c .listed ≡ p
     unfolding originCandidate
-    offers-place p c o = ⊎-elim (λ u. ap (λ (d : Candidate). d .place) (u .1)) (λ u. ap (λ (d : Candidate). d .place) (u .1 .3)) (o .1)
+    offers-place p c o = ⊎-elim (λ u. ap (λ (d : Candidate). d .listed) (u .1)) (λ u. ap (λ (d : Candidate). d .listed) (u .1 .3)) (o .1)
 
     -- so the scan is one that `finish` takes
     pub selected-sound : (n : ℕ) → n ≤ 8 → SoundScan (selected L M edges conf limit ts tab n)

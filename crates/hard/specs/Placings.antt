@@ -8,9 +8,9 @@ use Rattle.scan.specs.Scan.{overLimit}
 
 -- what one list comes to: document 01's refusals 11 and 13, or a placing (position and key) with its hits and the runner-up's hits
 pub data Outcome : Type 0 where
-  refused-11 : Outcome
-  refused-13 : Outcome
-  found : (place key hits next : ℕ) → Outcome
+  none-within-limit : Outcome
+  not-far-ahead : Outcome
+  found : (listed key hits next : ℕ) → Outcome
 
 -- n list positions, the keys below `none`, of a list of `edges` edges
 module _ (n none edges : ℕ) (limit : Float) (hit : ℕ → ℕ → ℕ) where
@@ -24,7 +24,7 @@ module _ (n none edges : ℕ) (limit : Float) (hit : ℕ → ℕ → ℕ) where
 
   -- (p, k) is within the limit, and ahead of every other placing by more than its own misses
   pub record Sole (p k : ℕ) : Type 0 where
-    pub place : p < n
+    pub listed : p < n
     pub key : k < none
     pub allowed : overLimit edges limit (hit p k) ≡ false
     pub ahead : (q j : ℕ) → q < n → j < none → ((q ≡ p) × (j ≡ k) → ⊥) → hit q j + (edges - hit p k) < hit p k
@@ -37,6 +37,6 @@ module _ (n none edges : ℕ) (limit : Float) (hit : ℕ → ℕ → ℕ) where
   -- the right outcome: 11 exactly when no placing is within the limit; 13 exactly when some are but none is ahead of every other by more than its own
   -- misses; else that one placing, its hits, and the most hits of any other
   abbrev pub Right : Outcome → Type 0
-  Right refused-11 = NoneWithin
-  Right refused-13 = SomeWithin × ((p k : ℕ) → Sole p k → ⊥)
+  Right none-within-limit = NoneWithin
+  Right not-far-ahead = SomeWithin × ((p k : ℕ) → Sole p k → ⊥)
   Right (found p k hits next) = Sole p k × (hits ≡ hit p k) × MostOther p k next

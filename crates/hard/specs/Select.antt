@@ -14,7 +14,8 @@ use Rattle.figures.specs.Figures.{totalConfidence, noConfidence}
 use Rattle.board.specs.Sides.{periodOf}
 use Rattle.board.specs.Domain.{ListOk, BoardOk}
 use Rattle.cells.specs.Cells.{countsOf, weightsOf}
-use Rattle.tables.specs.Room.{used, TablesBuilt}
+use Rattle.room.specs.Room.{used}
+use Rattle.tables.specs.Built.{TablesBuilt}
 use Rattle.best.specs.CellTables.{CellTables, cells}
 use Rattle.scan.specs.Scan.{chosen}
 use Rattle.hard.specs.Transform.{selected}

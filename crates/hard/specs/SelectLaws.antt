@@ -16,7 +16,8 @@ use Rattle.board.specs.Hits.{EdgeList, Board, size}
 use Rattle.board.specs.Sides.{periodOf}
 use Rattle.board.specs.Domain.{ListOk, BoardOk}
 use Rattle.cells.specs.Cells.{countsOf, weightsOf}
-use Rattle.tables.specs.Room.{cellsAt, used, Laid, TablesReady, TablesBuilt}
+use Rattle.room.specs.Room.{cellsAt, used, Laid}
+use Rattle.tables.specs.Built.{TablesReady, TablesBuilt}
 use Rattle.tables.specs.TablesTheorems.{length-counts, length-weights, counts-few, weights-weightlike, read-counts, read-weights, rooms-equal}
 use Rattle.best.specs.CellTables.{Period, CellTables, cells, TablesOk, cAt, wAt}
 use Rattle.scan.specs.Scan.{SoundScan, emptyScan, chosen}

@@ -85,17 +85,17 @@ transformSummary L M t X =
 
 -- "the best origin is the candidate, weight the rounded sum of both"
 abbrev pub bestCandidate : ℕ → Float → ℕ → LexMax → LexMax → ℕ → Candidate
-bestCandidate M conf place a b first = candidate (bestHits a b) (add binary32 (a .weight) (b .weight)) conf (first / (3 * M)) (first % (3 * M)) place
+bestCandidate M conf listed a b first = candidate (bestHits a b) (add binary32 (a .weight) (b .weight)) conf (first / (3 * M)) (first % (3 * M)) listed
 
 module _ (L M edges : ℕ) (conf limit : Float) where
   -- "rate over the limit: the transform offers no candidate. If the product of the two optimal class numbers is at most 1,024, the best origin is the
   -- candidate .. From 1,025, all origins are tried in row-major order"
   unfoldable pub offeredBy : ℕ → CellTables → LexMax → LexMax → ℕ → Kept → Kept
-  offeredBy place X a b first kept =
+  offeredBy listed X a b first kept =
       cond (overLimit edges limit (bestHits a b)) kept
       (cond (ltb 1024 (a .optimal * b .optimal))
-      (tried L M edges conf limit place X 0 kept (3 * L * (3 * M)))
-      (replaced kept (bestCandidate M conf place a b first)))
+      (tried L M edges conf limit listed X 0 kept (3 * L * (3 * M)))
+      (replaced kept (bestCandidate M conf listed a b first)))
 
   -- the transform t, with the tables X, at the scan's next list position
   unfoldable pub foldTransform : ℕ → CellTables → HardScan → HardScan

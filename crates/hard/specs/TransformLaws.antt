@@ -154,18 +154,18 @@ module _ (L M : ℕ) (p : Period L) (q : Period M) where
 
 module _ (L M edges : ℕ) (conf limit : Float) where
   -- ---- what is kept after a transform, case by case
-  module _ (place : ℕ) (X : CellTables) (a b : LexMax) (first : ℕ) (kept : Kept) where
-    pub by-none : overLimit edges limit (bestHits a b) ≡ true → offeredBy L M edges conf limit place X a b first kept ≡ kept
+  module _ (listed : ℕ) (X : CellTables) (a b : LexMax) (first : ℕ) (kept : Kept) where
+    pub by-none : overLimit edges limit (bestHits a b) ≡ true → offeredBy L M edges conf limit listed X a b first kept ≡ kept
     unfolding offeredBy
     by-none e = rw e
 
     pub by-direct : overLimit edges limit (bestHits a b) ≡ false → 1024 < a .optimal * b .optimal
-        → offeredBy L M edges conf limit place X a b first kept ≡ tried L M edges conf limit place X 0 kept (3 * L * (3 * M))
+        → offeredBy L M edges conf limit listed X a b first kept ≡ tried L M edges conf limit listed X 0 kept (3 * L * (3 * M))
     unfolding offeredBy
     by-direct e l = rw (e, lt-ltb 1024 (a .optimal * b .optimal) l)
 
     pub by-best : overLimit edges limit (bestHits a b) ≡ false → a .optimal * b .optimal ≤ 1024
-        → offeredBy L M edges conf limit place X a b first kept ≡ replaced kept (bestCandidate M conf place a b first)
+        → offeredBy L M edges conf limit listed X a b first kept ≡ replaced kept (bestCandidate M conf listed a b first)
     unfolding offeredBy
     by-best e l = rw (e, le-ltb 1024 (a .optimal * b .optimal) l)
 

@@ -64,8 +64,8 @@ module _ (L M edges : ℕ) (conf limit : Float) (ts : ℕ → ℕ) (tab : ℕ �
 
   -- the kept candidate c, offered at position w
   pub record Winner (w : ℕ) (c : Candidate) : Type 0 where
-    pub place : c .place ≡ w
-    pub listed : w < n
+    pub listed : c .listed ≡ w
+    pub in-list : w < n
     pub row : c .row < 3 * L
     pub col : c .col < 3 * M
     pub inside : keyAt M (c .row) (c .col) < none
@@ -121,8 +121,8 @@ module _ (L M edges : ℕ) (conf limit : Float) (ts : ℕ → ℕ) (tab : ℕ �
         with-key k m at best rc f =
             let e : keyAt M (c .row) (c .col) ≡ k = ap₂ (keyAt M) (rc .0) (rc .1) ∙ key-back k in
             record {
-              place = offers-place L M edges conf limit ts tab w c o;
-              listed = l;
+              listed = offers-place L M edges conf limit ts tab w c o;
+              in-list = l;
               row = rw (rc .0) (row-in k m);
               col = rw (rc .1) (col-in k);
               inside = rw e m;
@@ -163,7 +163,7 @@ module _ (L M edges : ℕ) (conf limit : Float) (ts : ℕ → ℕ) (tab : ℕ �
 
       own : N w .hits ≤ r .hits
       unfolding transformSummary summaryOf
-      own = rw (at-position w (W .listed)) at (runner-own ss w n)
+      own = rw (at-position w (W .in-list)) at (runner-own ss w n)
 
       other : (i : ℕ) → i < n → (i ≡ w → ⊥) → B i ≤ r .hits
       unfolding transformSummary summaryOf
@@ -172,7 +172,7 @@ module _ (L M edges : ℕ) (conf limit : Float) (ts : ℕ → ℕ) (tab : ℕ �
       -- what it is: the runner-up inside the winner's transform, or another position's best
       is : (r ≡ ofNext (transformSummary L M (ts w) (tab w))) ⊎ ((i : ℕ) × (i < n) × (i ≡ w → ⊥) × (r ≡ ofBest (transformSummary L M (ts i) (tab i))))
       is = ⊎-elim
-          (λ e. inl (e ∙ ap ofNext (at-position w (W .listed))))
+          (λ e. inl (e ∙ ap ofNext (at-position w (W .in-list))))
           (λ u. inr (u .0, u .1, u .2, u .3 ∙ ap ofBest (at-position (u .0) (u .1))))
           (runner-is ss w n)
 
@@ -181,7 +181,7 @@ module _ (L M edges : ℕ) (conf limit : Float) (ts : ℕ → ℕ) (tab : ℕ �
       bounded i j hi hj ne = go (decided i w) (cases (tie w))
         where
           s : Summed none (hit w) (B w) (O w) (N w) (tie w)
-          s = sums w (W .listed)
+          s = sums w (W .in-list)
 
           go : (i ≡ w) ⊎ (i ≡ w → ⊥) → (tie w ≡ true) ⊎ (tie w ≡ false) → hit i j ≤ r .hits
           go (inl e) (inl t) = rw e (omega (arith, s .most j, s .level t, own))
@@ -194,7 +194,7 @@ module _ (L M edges : ℕ) (conf limit : Float) (ts : ℕ → ℕ) (tab : ℕ �
       attained = ⊎-elim inside (λ u. let t = sums (u .0) (u .1) in (u .0, O (u .0), u .1, t .inside, (λ x. u .2 (x .0)), t .at ∙ sym (ap (λ (x : RunnerUp). x .hits) (u .3)))) is
         where
           s : Summed none (hit w) (B w) (O w) (N w) (tie w)
-          s = sums w (W .listed)
+          s = sums w (W .in-list)
 
           inside : r ≡ ofNext (transformSummary L M (ts w) (tab w)) → (i : ℕ) × (j : ℕ) × (i < n) × (j < none) × ((i ≡ w) × (j ≡ key) → ⊥) × (hit i j ≡ r .hits)
           inside e = go (decided key (O w)) (cases (tie w))
@@ -203,8 +203,8 @@ module _ (L M edges : ℕ) (conf limit : Float) (ts : ℕ → ℕ) (tab : ℕ �
               hits = sym (ap (λ (x : RunnerUp). x .hits) e)
 
               go : (key ≡ O w) ⊎ (key ≡ O w → ⊥) → (tie w ≡ true) ⊎ (tie w ≡ false) → (i : ℕ) × (j : ℕ) × (i < n) × (j < none) × ((i ≡ w) × (j ≡ key) → ⊥) × (hit i j ≡ r .hits)
-              go (inl o) t = let u = s .had in (w, u .0, W .listed, u .1, (λ x. u .2 (x .1 ∙ o)), u .3 ∙ hits)
-              go (inr d) (inl t) = (w, O w, W .listed, s .inside, (λ x. d (sym (x .1))), s .at ∙ sym (s .level t) ∙ hits)
+              go (inl o) t = let u = s .had in (w, u .0, W .in-list, u .1, (λ x. u .2 (x .1 ∙ o)), u .3 ∙ hits)
+              go (inr d) (inl t) = (w, O w, W .in-list, s .inside, (λ x. d (sym (x .1))), s .at ∙ sym (s .level t) ∙ hits)
               go (inr d) (inr t) = absurd (d (W .first t))
 
       pub next-most : MostOther n none edges limit hit w key (r .hits)
@@ -214,7 +214,7 @@ module _ (L M edges : ℕ) (conf limit : Float) (ts : ℕ → ℕ) (tab : ℕ �
       named : (i : ℕ) × (k : ℕ) × (i < n) × (k < none) × (ts i ≡ r .transform) × (r .row ≡ k / (3 * M)) × (r .col ≡ k % (3 * M))
       unfolding transformSummary summaryOf
       named = ⊎-elim
-          (λ e. rw e (w, N w .key, W .listed, sums w (W .listed) .key-in, refl, refl, refl))
+          (λ e. rw e (w, N w .key, W .in-list, sums w (W .in-list) .key-in, refl, refl, refl))
           (λ u. rw (u .3) (u .0, O (u .0), u .1, sums (u .0) (u .1) .inside, refl, refl, refl))
           is
 
@@ -223,10 +223,10 @@ module _ (L M edges : ℕ) (conf limit : Float) (ts : ℕ → ℕ) (tab : ℕ �
           let v = named in
           let a = attained in
           record {
-            place = rw (W .place) (W .listed);
+            listed = rw (W .listed) (W .in-list);
             row = W .row;
             col = W .col;
-            hits = omega (arith, W .best, under-edges w (W .listed));
+            hits = omega (arith, W .best, under-edges w (W .in-list));
             next-place = (v .0, v .2, v .4);
             next-row = rw (v .5) (row-in (v .1) (v .3));
             next-col = rw (v .6) (col-in (v .1));
@@ -239,7 +239,7 @@ module _ (L M edges : ℕ) (conf limit : Float) (ts : ℕ → ℕ) (tab : ℕ �
       ahead e =
           let g = ltb-true (edges - c .hits) (c .hits - r .hits) e in
           record {
-            place = W .listed;
+            listed = W .in-list;
             key = W .inside;
             allowed = rw (W .at) (W .allowed);
             ahead = λ i j hi hj ne. rw (W .at) (omega (arith, bounded i j hi hj ne));
@@ -252,11 +252,11 @@ module _ (L M edges : ℕ) (conf limit : Float) (ts : ℕ → ℕ) (tab : ℕ �
           -- its position's best hits are within the limit too, so the winner has no fewer
           more : hit i k ≤ c .hits
           more =
-              let t = sums i (S .place) .most k in
-              omega (arith, W .most i (S .place) (more-within edges limit (hit i k) (B i) (ok i (S .place) .few) t (under-edges i (S .place)) (S .allowed)))
+              let t = sums i (S .listed) .most k in
+              omega (arith, W .most i (S .listed) (more-within edges limit (hit i k) (B i) (ok i (S .listed) .few) t (under-edges i (S .listed)) (S .allowed)))
 
           beaten : ((w ≡ i) × (key ≡ k) → ⊥) → ⊥
-          beaten ne = omega (arith, S .ahead w key (W .listed) (W .inside) ne, W .at, more)
+          beaten ne = omega (arith, S .ahead w key (W .in-list) (W .inside) ne, W .at, more)
 
           go : (w ≡ i) ⊎ (w ≡ i → ⊥) → (key ≡ k) ⊎ (key ≡ k → ⊥) → passed edges (c .hits) (r .hits) ≡ true
           go (inl e) (inl d) =
@@ -268,7 +268,7 @@ module _ (L M edges : ℕ) (conf limit : Float) (ts : ℕ → ℕ) (tab : ℕ �
 
       -- passed: no two pairs of cells have the winner's counts
       alone : passed edges (c .hits) (r .hits) ≡ true → tie w ≡ false
-      alone e = not-so (tie w) (λ t. omega (arith, ltb-true (edges - c .hits) (c .hits - r .hits) e, sums w (W .listed) .level t, W .best, own))
+      alone e = not-so (tie w) (λ t. omega (arith, ltb-true (edges - c .hits) (c .hits - r .hits) e, sums w (W .in-list) .level t, W .best, own))
 
       -- so the runner-up is named by an origin of its own
       pub place-named : passed edges (c .hits) (r .hits) ≡ true
@@ -282,9 +282,9 @@ module _ (L M edges : ℕ) (conf limit : Float) (ts : ℕ → ℕ) (tab : ℕ �
           inside : r ≡ ofNext (transformSummary L M (ts w) (tab w)) → Named r
           inside d =
               let t = alone e in
-              let u = sums w (W .listed) .named t in
+              let u = sums w (W .in-list) .named t in
               let b = key-back (N w .key) in
-              rw d (w, W .listed, refl, rw b (u .0), (λ x. u .1 (sym b ∙ x .1 ∙ W .first t)), rw b (u .2))
+              rw d (w, W .in-list, refl, rw b (u .0), (λ x. u .1 (sym b ∙ x .1 ∙ W .first t)), rw b (u .2))
 
           outside : (i : ℕ) × (i < n) × (i ≡ w → ⊥) × (r ≡ ofBest (transformSummary L M (ts i) (tab i))) → Named r
           outside v =
@@ -296,7 +296,7 @@ module _ (L M edges : ℕ) (conf limit : Float) (ts : ℕ → ℕ) (tab : ℕ �
     -- ---- what the choice is
     abbrev pub Chose : Choice → Type 0
     Chose Nothing = NoneWithin n none edges limit hit
-    Chose (Chosen c r) = Winner (c .place) c × (r ≡ runnerUp ss (c .place) n)
+    Chose (Chosen c r) = Winner (c .listed) c × (r ≡ runnerUp ss (c .listed) n)
 
     -- no position's best hits are within the limit, so no placing is
     nobody : ((c : Candidate) → Listed L M edges conf limit ts tab n c → ⊥) → NoneWithin n none edges limit hit
@@ -312,4 +312,4 @@ module _ (L M edges : ℕ) (conf limit : Float) (ts : ℕ → ℕ) (tab : ℕ �
         go Nobody h = nobody h
         go (One c) h =
             let W = winner (h .0 .0) c (h .0 .1) (h .0 .2) (h .1) in
-            (subst (λ (w : ℕ). Winner w c) (sym (W .place)) W, ap (runnerUp ss (c .place)) (selected-count L M edges conf limit ts tab n))
+            (subst (λ (w : ℕ). Winner w c) (sym (W .listed)) W, ap (runnerUp ss (c .listed)) (selected-count L M edges conf limit ts tab n))

@@ -115,18 +115,18 @@ fn offer_transform(
     edges: u32,
     conf: f32,
     limit: f32,
-    place: usize,
+    listed: usize,
 ) -> Kept
     requires { ⌜ Period long × Period wide × TablesOk long wide edges (cells (now hc) (now hw) (now vc) (now vw)) ⌝ }
     requires { ⌜ BestOk long wide a b × (a .count + b .count ≤ edges) × (key ≤ 2250000) ⌝ }
-    ensures { λ r. ⌜ r ≡ offeredBy long wide edges conf limit place (cells (now (hc .entry)) (now (hw .entry)) (now (vc .entry)) (now (vw .entry))) a b key kept ⌝ }
+    ensures { λ r. ⌜ r ≡ offeredBy long wide edges conf limit listed (cells (now (hc .entry)) (now (hw .entry)) (now (vc .entry)) (now (vw .entry))) a b key kept ⌝ }
 {
     let hits = a.count + b.count;
     if over_limit(edges, hits, limit) {
         return kept;
     }
     if a.optimal * b.optimal > 1024 {
-        return scan_direct(hc, hw, vc, vw, long, wide, edges, conf, limit, place, kept);
+        return scan_direct(hc, hw, vc, vw, long, wide, edges, conf, limit, listed, kept);
     }
     let weight = a.weight + b.weight;
     let score = weight / conf;
@@ -139,7 +139,7 @@ fn offer_transform(
         weight,
         row,
         col,
-        place,
+        listed,
     };
     offer(kept, c)
 }
@@ -170,7 +170,7 @@ pub fn fold_transform<'a>(
     };
     let next = next_origin(a, b, key, long, wide);
     let s = summary(best, next, wide, transform);
-    let place = scan.count;
+    let listed = scan.count;
     let old = scan.best;
     let kept = offer_transform(
         old,
@@ -186,7 +186,7 @@ pub fn fold_transform<'a>(
         edges,
         conf,
         limit,
-        place,
+        listed,
     );
     push(scan, s, kept)
 }

@@ -1,41 +1,14 @@
-// The leaf functions that the laws of specs/ are about: clearing lent room, and remainders that are never negative.
+// The leaf functions that the laws of specs/ are about: remainders that are never negative; and the two periods of a board.
 ghost use mathlib.Core.Path.{_≡_};
 ghost use Prim.Native.Nat.{_+_, _<_, _≤_, _%_};
-ghost use lib.ListN.{length};
 ghost use lib.IntN.{pos, natAbs, _+ℤ_};
-ghost use Rattle.laws.specs.Cleared.{cleared};
-ghost use Rattle.laws.specs.Weights.{zeroF};
 ghost use Rattle.laws.specs.Remainder.{emod};
 ghost use Rattle.laws.specs.Modulus.{modulusOf, ModulusOk};
 
-// Sets the first n places of a lent u32 slice to 0; the surplus stays as it was.
-pub fn clear_u32(room: &mut [u32], n: usize)
-    requires { ⌜ n ≤ length (now room) ⌝ }
-    ensures { λ _. ⌜ now (room .exit) ≡ cleared 0 n (now (room .entry)) ⌝ }
-{
-    for i in 0..n {
-        room[i] = 0;
-    }
-}
-
-// Sets the first n places of a lent f32 slice to +0; the surplus stays as it was.
-pub fn clear_f32(room: &mut [f32], n: usize)
-    requires { ⌜ n ≤ length (now room) ⌝ }
-    ensures { λ _. ⌜ now (room .exit) ≡ cleared zeroF n (now (room .entry)) ⌝ }
-{
-    for j in 0..n {
-        room[j] = 0.0;
-    }
-}
-
-// Sets the first n places of a lent i64 slice to 0; the surplus stays as it was.
-pub fn clear_i64(room: &mut [i64], n: usize)
-    requires { ⌜ n ≤ length (now room) ⌝ }
-    ensures { λ _. ⌜ now (room .exit) ≡ cleared (pos 0) n (now (room .entry)) ⌝ }
-{
-    for k in 0..n {
-        room[k] = 0;
-    }
+// The lengths of a board's two pattern tables: how far the horizontal patterns go before they come again, and the vertical ones.
+pub struct Periods {
+    pub h: usize,
+    pub v: usize,
 }
 
 // The remainder of x by n that is never negative: -1 by 167 is 166.

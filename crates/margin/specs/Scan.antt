@@ -15,9 +15,9 @@ use Rattle.margin.specs.declared.slots.SoftChoice.the-variants.{Nothing,
 
 -- the origin of key k at a list position, by row and column; "A total returns to f32 as sum / 2^24 rounded once"
 unfoldable pub softCandidate : ℕ → ℕ → SumTables → ℕ → ℕ → SoftCandidate
-softCandidate L M X place k =
+softCandidate L M X listed k =
     record {
-      place = place;
+      listed = listed;
       row = k / (3 * M);
       col = k % (3 * M);
       total = dequantised (sumAt (origins L M) (X .hs) (X .vs) k);

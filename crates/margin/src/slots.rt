@@ -4,7 +4,7 @@ ghost use Rattle.margin.specs.Scan.{softChosen};
 
 // An origin at a place of the transform list, with its total.
 pub struct SoftCandidate {
-    pub place: usize,
+    pub listed: usize,
     pub row: u32,
     pub col: u32,
     pub total: f32,

@@ -8,7 +8,8 @@ use lib.ListN.{getD, length}
 use lib.IntN.{pos}
 use lib.Ieee.{Float, binary32, ofInt}
 use Rattle.laws.specs.Weights.{oneF}
-use Rattle.board.specs.Hits.{EdgeList, Board, Placing, size, misses, hitsAt}
+use Rattle.board.specs.declared.edge.Placing.{Placing}
+use Rattle.board.specs.Hits.{EdgeList, Board, size, misses, hitsAt}
 use Rattle.board.specs.Sides.{periodOf}
 use Rattle.scan.specs.Scan.{overLimit}
 use Rattle.hard.specs.Select.{selection}
@@ -20,17 +21,17 @@ use Rattle.answer.specs.declared.Decoded.{Decoded}
 
 -- "A placing is one place in the transform list with one of the 251,001 origins": 3 L rows of 3 M columns
 pub record OnBoard (B : Board) (ts : List ℕ) (P : Placing) : Type 0 where
-  pub listed : P .place < length ts
+  pub in-list : P .listed < length ts
   pub row : P .row < 3 * periodOf B true
   pub col : P .col < 3 * periodOf B false
 
 -- two placings are the same one
 abbrev pub Same : Placing → Placing → Type 0
-Same P Q = (P .place ≡ Q .place) × (P .row ≡ Q .row) × (P .col ≡ Q .col)
+Same P Q = (P .listed ≡ Q .listed) × (P .row ≡ Q .row) × (P .col ≡ Q .col)
 
 -- the misses of a placing, counted edge by edge
 abbrev pub missesAt : Board → EdgeList → List ℕ → Placing → ℕ
-missesAt B E ts P = misses B E (getD ts (P .place) 0) (P .row) (P .col)
+missesAt B E ts P = misses B E (getD ts (P .listed) 0) (P .row) (P .col)
 
 -- "is within the error limit, beats the hits of every other by more than its own misses"
 pub record Leads (B : Board) (E : EdgeList) (ts : List ℕ) (limit : Float) (P : Placing) : Type 0 where
@@ -46,14 +47,14 @@ pub record RunsUp (B : Board) (E : EdgeList) (ts : List ℕ) (P Q : Placing) : T
 
 -- the square that a placing names: its transform's number, row and column
 abbrev pub Names : List ℕ → Placing → Square → Type 0
-Names ts P s = (getD ts (P .place) 0 ≡ s .transform) × (P .row ≡ s .row) × (P .col ≡ s .col)
+Names ts P s = (getD ts (P .listed) 0 ≡ s .transform) × (P .row ≡ s .row) × (P .col ≡ s .col)
 
 -- "agrees with the winner of the physical list": the physical selection, with limit 1, has a winner, and it has the same transform and origin
 pub record AgreesPhysical (B : Board) (E : EdgeList) (ts : List ℕ) (P : Placing) : Type 0 where
   pub winner : Candidate
   pub next : RunnerUp
   pub chosen : selection B E ts oneF ≡ Selected winner next
-  pub transform : getD ts (winner .place) 0 ≡ getD ts (P .place) 0
+  pub transform : getD ts (winner .listed) 0 ≡ getD ts (P .listed) 0
   pub row : winner .row ≡ P .row
   pub col : winner .col ≡ P .col
 

@@ -11,7 +11,8 @@ use lib.Dec.{eqb}
 use lib.ListN.{getD, length}
 use lib.Ieee.{Float}
 use borrow.Author.Tests.{eqb-true, eqb-false}
-use Rattle.board.specs.Hits.{EdgeList, Board, Placing, size, hits, misses, hitsAt}
+use Rattle.board.specs.declared.edge.Placing.{Placing}
+use Rattle.board.specs.Hits.{EdgeList, Board, size, hits, misses, hitsAt}
 use Rattle.board.specs.HitsLaws.{hits-misses}
 use Rattle.board.specs.Sides.{periodOf}
 use Rattle.board.specs.Domain.{BoardOk, ListOk}
@@ -25,11 +26,11 @@ use Rattle.puzzleboard.specs.Demand.{OnBoard, Same, missesAt, Leads, Run
 -- ---- one list has one leading placing
 -- two placings are the same one, or not
 same-or-not : (P Q : Placing) → Same P Q ⊎ (Same P Q → ⊥)
-same-or-not P Q = go (eqb (P .place) (Q .place)) (eqb (P .row) (Q .row)) (eqb (P .col) (Q .col)) refl refl refl
+same-or-not P Q = go (eqb (P .listed) (Q .listed)) (eqb (P .row) (Q .row)) (eqb (P .col) (Q .col)) refl refl refl
   where
-    go : (x y z : Bool) → eqb (P .place) (Q .place) ≡ x → eqb (P .row) (Q .row) ≡ y → eqb (P .col) (Q .col) ≡ z → Same P Q ⊎ (Same P Q → ⊥)
-    go true true true e f g = inl (eqb-true (P .place) (Q .place) e, eqb-true (P .row) (Q .row) f, eqb-true (P .col) (Q .col) g)
-    go false y z e f g = inr (λ s. eqb-false (P .place) (Q .place) e (s .0))
+    go : (x y z : Bool) → eqb (P .listed) (Q .listed) ≡ x → eqb (P .row) (Q .row) ≡ y → eqb (P .col) (Q .col) ≡ z → Same P Q ⊎ (Same P Q → ⊥)
+    go true true true e f g = inl (eqb-true (P .listed) (Q .listed) e, eqb-true (P .row) (Q .row) f, eqb-true (P .col) (Q .col) g)
+    go false y z e f g = inr (λ s. eqb-false (P .listed) (Q .listed) e (s .0))
     go true false z e f g = inr (λ s. eqb-false (P .row) (Q .row) f (s .1))
     go true true false e f g = inr (λ s. eqb-false (P .col) (Q .col) g (s .2))
 
@@ -59,14 +60,14 @@ module _ (B : Board) (board : BoardOk B) where
   keyOf P = keyAt (periodOf B false) (P .row) (P .col)
 
   abbrev pub placing : ℕ → ℕ → Placing
-  placing p k = record { place = p; row = k / (3 * periodOf B false); col = k % (3 * periodOf B false) }
+  placing p k = record { listed = p; row = k / (3 * periodOf B false); col = k % (3 * periodOf B false) }
 
   module _ (ts : List ℕ) where
     pub key-below : (P : Placing) → OnBoard B ts P → keyOf P < originNumber (periodOf B true) (periodOf B false)
     key-below P o = digits-lt (o .row) (o .col)
 
     pub placing-on : (p k : ℕ) → p < length ts → k < originNumber (periodOf B true) (periodOf B false) → OnBoard B ts (placing p k)
-    placing-on p k h l = record { listed = h; row = div-lt-iff-lt-mul wide .1 l; col = mod-lt k wide }
+    placing-on p k h l = record { in-list = h; row = div-lt-iff-lt-mul wide .1 l; col = mod-lt k wide }
 
     -- a placing comes back from its key
     pub row-back : (P : Placing) → OnBoard B ts P → keyOf P / (3 * periodOf B false) ≡ P .row
@@ -79,10 +80,10 @@ module _ (B : Board) (board : BoardOk B) where
     key-back p k = div-add-mod' k (3 * periodOf B false)
 
     -- the same placing, by key
-    pub same-key : (P Q : Placing) → Same P Q → (P .place ≡ Q .place) × (keyOf P ≡ keyOf Q)
+    pub same-key : (P Q : Placing) → Same P Q → (P .listed ≡ Q .listed) × (keyOf P ≡ keyOf Q)
     same-key P Q s = (s .0, ap₂ (keyAt (periodOf B false)) (s .1) (s .2))
 
-    pub key-same : (P Q : Placing) → OnBoard B ts P → OnBoard B ts Q → (P .place ≡ Q .place) × (keyOf P ≡ keyOf Q) → Same P Q
+    pub key-same : (P Q : Placing) → OnBoard B ts P → OnBoard B ts Q → (P .listed ≡ Q .listed) × (keyOf P ≡ keyOf Q) → Same P Q
     key-same P Q o u s = (
       s .0,
       sym (row-back P o) ∙ ap (λ (k : ℕ). k / (3 * periodOf B false)) (s .1) ∙ row-back Q u,
@@ -91,22 +92,22 @@ module _ (B : Board) (board : BoardOk B) where
 
     module _ (E : EdgeList) (limit : Float) where
       -- its hits, by key
-      pub hits-key : (P : Placing) → OnBoard B ts P → hitsAtKey B E ts (P .place) (keyOf P) ≡ hitsAt B E ts P
-      hits-key P o = ap₂ (hits B E (getD ts (P .place) 0)) (row-back P o) (col-back P o)
+      pub hits-key : (P : Placing) → OnBoard B ts P → hitsAtKey B E ts (P .listed) (keyOf P) ≡ hitsAt B E ts P
+      hits-key P o = ap₂ (hits B E (getD ts (P .listed) 0)) (row-back P o) (col-back P o)
 
       misses-are : (P : Placing) → missesAt B E ts P ≡ size E - hitsAt B E ts P
-      misses-are P = omega (arith, hits-misses B E (getD ts (P .place) 0) (P .row) (P .col))
+      misses-are P = omega (arith, hits-misses B E (getD ts (P .listed) 0) (P .row) (P .col))
 
       abbrev SoleAt : ℕ → ℕ → Type 0
       SoleAt = Sole (length ts) (originNumber (periodOf B true) (periodOf B false)) (size E) limit (hitsAtKey B E ts)
 
       -- a lead is a sole placing, both ways
-      pub leads-sole : (P : Placing) → Leads B E ts limit P → SoleAt (P .place) (keyOf P)
+      pub leads-sole : (P : Placing) → Leads B E ts limit P → SoleAt (P .listed) (keyOf P)
       leads-sole P l =
           let o = l .on-board in
           let e = hits-key P o in
           record {
-            place = o .listed;
+            listed = o .in-list;
             key = key-below P o;
             allowed = ap (overLimit (size E) limit) e ∙ l .within;
             ahead = λ q j hq hj ne.
@@ -115,20 +116,20 @@ module _ (B : Board) (board : BoardOk B) where
                 omega (arith, e, misses-are P);
           }
 
-      pub sole-leads : (P : Placing) → OnBoard B ts P → SoleAt (P .place) (keyOf P) → Leads B E ts limit P
+      pub sole-leads : (P : Placing) → OnBoard B ts P → SoleAt (P .listed) (keyOf P) → Leads B E ts limit P
       sole-leads P o s =
           let e = hits-key P o in
           record {
             on-board = o;
             within = ap (overLimit (size E) limit) (sym e) ∙ s .allowed;
-            ahead = λ Q u ne. omega (arith, e, misses-are P, hits-key Q u, s .ahead (Q .place) (keyOf Q) (u .listed) (key-below Q u) (λ t. ne (key-same Q P u o t)));
+            ahead = λ Q u ne. omega (arith, e, misses-are P, hits-key Q u, s .ahead (Q .listed) (keyOf Q) (u .in-list) (key-below Q u) (λ t. ne (key-same Q P u o t)));
           }
 
       -- the most hits of any other placing are a runner-up's
       pub most-runs-up : (P Q : Placing) (r : ℕ) → OnBoard B ts P → OnBoard B ts Q → (Same Q P → ⊥) → hitsAt B E ts Q ≡ r
-          → MostOther (length ts) (originNumber (periodOf B true) (periodOf B false)) (size E) limit (hitsAtKey B E ts) (P .place) (keyOf P) r → RunsUp B E ts P Q
+          → MostOther (length ts) (originNumber (periodOf B true) (periodOf B false)) (size E) limit (hitsAtKey B E ts) (P .listed) (keyOf P) r → RunsUp B E ts P Q
       most-runs-up P Q r o u ne e m = record {
         on-board = u;
         other = ne;
-        no-third = λ R v nr. omega (arith, hits-key R v, m .most (R .place) (keyOf R) (v .listed) (key-below R v) (λ t. nr (key-same R P v o t)));
+        no-third = λ R v nr. omega (arith, hits-key R v, m .most (R .listed) (keyOf R) (v .in-list) (key-below R v) (λ t. nr (key-same R P v o t)));
       }

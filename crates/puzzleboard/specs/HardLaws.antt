@@ -14,7 +14,7 @@ use Rattle.board.specs.Hits.{EdgeList, Board, size}
 use Rattle.board.specs.Transform.{mat}
 use Rattle.board.specs.Sides.{periodOf}
 use Rattle.board.specs.Domain.{ListOk, BoardOk}
-use Rattle.tables.specs.Room.{used}
+use Rattle.room.specs.Room.{used}
 use Rattle.refusals.specs.declared.Refusal.{Refusal}
 use Rattle.refusals.specs.declared.Admission.{Admission}
 use Rattle.refusals.specs.declared.Admission.the-variants as admission
@@ -83,12 +83,12 @@ module _ (L P : EdgeList) (ts : List ℕ) (B : Board) (limit : Float) (c : List 
   ready-physical c' w' e d = ready B P ts c' w' (A .physical) (A .some-physical) (A .board) (A .periods) (A .transforms) (omega (arith, A .room .0)) (omega (arith, A .room .1))
 
   -- ---- what the winners are known for
-  pub logical-winner : (r : Selection) (x : Candidate) (next : RunnerUp) → r ≡ selection B L ts limit → r ≡ sel.Selected x next → (x .place < length ts) × (x .hits ≤ size L) × (next .hits ≤ size L)
+  pub logical-winner : (r : Selection) (x : Candidate) (next : RunnerUp) → r ≡ selection B L ts limit → r ≡ sel.Selected x next → (x .listed < length ts) × (x .hits ≤ size L) × (next .hits ≤ size L)
   logical-winner r x next e k =
-      let i = selected-in-range B L ts limit (A .board) (A .logical) (A .transforms .few) x next (sym e ∙ k) in (i .place, i .hits, i .next-hits)
+      let i = selected-in-range B L ts limit (A .board) (A .logical) (A .transforms .few) x next (sym e ∙ k) in (i .listed, i .hits, i .next-hits)
 
-  pub physical-winner : (r : Selection) (x : Candidate) (next : RunnerUp) → r ≡ selection B P ts oneF → r ≡ sel.Selected x next → x .place < length ts
-  physical-winner r x next e k = selected-in-range B P ts oneF (A .board) (A .physical) (A .transforms .few) x next (sym e ∙ k) .place
+  pub physical-winner : (r : Selection) (x : Candidate) (next : RunnerUp) → r ≡ selection B P ts oneF → r ≡ sel.Selected x next → x .listed < length ts
+  physical-winner r x next e k = selected-in-range B P ts oneF (A .board) (A .physical) (A .transforms .few) x next (sym e ∙ k) .listed
 
   -- ---- the rooms
   pub beyond : (E : EdgeList) (limit' : Float) (d d' : List ℕ) (x x' : List Float) (r : Selection) → SelectReady B E ts d x → SelectDone B E ts limit' d d' x x' r → SameBeyond 0 3006 d d' × SameBeyond nan 3006 x x'
@@ -119,7 +119,7 @@ module _ (L P : EdgeList) (ts : List ℕ) (B : Board) (limit : Float) (c : List 
       pub core-physical-refused : (n : Refusal) → q ≡ sel.Refused n → CoreDone L P ts B limit c c'' w w'' (Refused n)
       core-physical-refused n g = record { answer = ap (afterPhysical L ts x next) (sym g) ∙ core-answer; counts = both .0; weights = both .1 }
 
-      pub core-judged : (p : Candidate) (other : RunnerUp) (a : Answer) → q ≡ sel.Selected p other → a ≡ judged (getD ts (x .place) 0) x next (getD ts (p .place) 0) p (size L) → CoreDone L P ts B limit c c'' w w'' a
+      pub core-judged : (p : Candidate) (other : RunnerUp) (a : Answer) → q ≡ sel.Selected p other → a ≡ judged (getD ts (x .listed) 0) x next (getD ts (p .listed) 0) p (size L) → CoreDone L P ts B limit c c'' w w'' a
       core-judged p other a g e = record { answer = e ∙ ap (afterPhysical L ts x next) (sym g) ∙ core-answer; counts = both .0; weights = both .1 }
 
 -- ---- the two ways in which hard decode ends

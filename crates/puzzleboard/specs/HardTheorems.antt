@@ -12,7 +12,8 @@ use lib.Ieee.{Float, binary32, ofInt}
 use borrow.Author.Tests.{eq-eqb, eqb-true}
 use Rattle.laws.specs.Tests.{clash, and-true}
 use Rattle.laws.specs.Weights.{oneF}
-use Rattle.board.specs.Hits.{EdgeList, Board, Placing, size, hitsAt}
+use Rattle.board.specs.declared.edge.Placing.{Placing}
+use Rattle.board.specs.Hits.{EdgeList, Board, size, hitsAt}
 use Rattle.board.specs.Sides.{periodOf}
 use Rattle.admission.specs.Accepted.{HardAccepted}
 use Rattle.figures.specs.Gate.{passed}
@@ -53,10 +54,10 @@ module _ (L P : EdgeList) (ts : List ℕ) (B : Board) (limit : Float) (m n : ℕ
   module _ (d : Decoded) where
     module _ (x : Candidate) (r : RunnerUp) (y : Candidate) (o : RunnerUp) (e : selection B L ts limit ≡ sel.Selected x r) (f : selection B P ts oneF ≡ sel.Selected y o) where
       abbrev t : ℕ
-      t = getD ts (x .place) 0
+      t = getD ts (x .listed) 0
 
       abbrev s : ℕ
-      s = getD ts (y .place) 0
+      s = getD ts (y .listed) 0
 
       answered : agreed t x s y ≡ true → passed (size L) (x .hits) (r .hits) ≡ true → Found (decodedOf t x r (size L)) ≡ Found d → Answered d
       unfolding agreed decodedOf
@@ -110,13 +111,13 @@ module _ (L P : EdgeList) (ts : List ℕ) (B : Board) (limit : Float) (m n : ℕ
   pub hard-complete : noConfidence L ≡ false → (Q : Placing) → Leads B L ts limit Q → AgreesPhysical B P ts Q → (d : Decoded) × (hardCore L P ts B limit ≡ Found d)
   unfolding hardCore judged agreed
   hard-complete h Q l a =
-      let s = sole-selected B L ts limit (A .board) (A .logical) (A .transforms .few) h (Q .place) (keyOf B (A .board) Q) (leads-sole B (A .board) ts L limit Q l) in
+      let s = sole-selected B L ts limit (A .board) (A .logical) (A .transforms .few) h (Q .listed) (keyOf B (A .board) Q) (leads-sole B (A .board) ts L limit Q l) in
       let x = s .0 in
       let r = s .1 in
       let k = key-same B (A .board) ts Q (placed x) (l .on-board) (winner-on B L ts limit (A .board) (A .logical) (A .transforms .few) x r (s .2)) (s .4, s .5) in
       let y = a .winner in
-      let t = getD ts (x .place) 0 in
-      let v = getD ts (y .place) 0 in
+      let t = getD ts (x .listed) 0 in
+      let v = getD ts (y .listed) 0 in
       let p1 : eqb t v ≡ true = eq-eqb t v (ap (λ (i : ℕ). getD ts i 0) (sym (k .0)) ∙ sym (a .transform)) in
       let p2 : eqb (x .row) (y .row) ≡ true = eq-eqb (x .row) (y .row) (sym (k .1) ∙ sym (a .row)) in
       let p3 : eqb (x .col) (y .col) ≡ true = eq-eqb (x .col) (y .col) (sym (k .2) ∙ sym (a .col)) in

@@ -10,7 +10,7 @@ use Rattle.laws.specs.Weights.{zeroF}
 use Rattle.laws.specs.Cleared.{SameBeyond}
 use Rattle.board.specs.Hits.{EdgeList, Board, size}
 use Rattle.board.specs.Sides.{periodOf}
-use Rattle.tables.specs.Room.{TablesBuilt}
+use Rattle.tables.specs.Built.{TablesBuilt}
 use Rattle.sums.specs.Sums.{Likelihoods}
 use Rattle.refusals.specs.Numbers as why
 use Rattle.admission.specs.Refusals.{softAdmission}
@@ -54,8 +54,8 @@ module _ (P L : EdgeList) (ts : List ℕ) (B : Board) (limit : Float) where
   unfoldable pub softJudged : SoftBest → Candidate → RunnerUp → Answer
   unfolding softDecodedOf
   softJudged best w next =
-      let t = getD ts (best .first .place) 0 in
-      whenAccepted (softVerdict t (best .first) (getD ts (w .place) 0) w next (size L)) (Found (softDecodedOf t best (figuresOf B P t (best .first .row) (best .first .col)) (size P) next))
+      let t = getD ts (best .first .listed) 0 in
+      whenAccepted (softVerdict t (best .first) (getD ts (w .listed) 0) w next (size L)) (Found (softDecodedOf t best (figuresOf B P t (best .first .row) (best .first .col)) (size P) next))
 
   abbrev pub afterHard : SoftBest → Selection → Answer
   afterHard best (sel.Refused r) = Refused r

@@ -8,7 +8,8 @@ use lib.ListN.{getD, length}
 use lib.IntN.{pos}
 use lib.Ieee.{Float, binary32, ofInt}
 use Rattle.laws.specs.Grid.{origins}
-use Rattle.board.specs.Hits.{EdgeList, Board, Placing, size, hitsAt}
+use Rattle.board.specs.declared.edge.Placing.{Placing}
+use Rattle.board.specs.Hits.{EdgeList, Board, size, hitsAt}
 use Rattle.board.specs.Sides.{periodOf}
 use Rattle.likelihood.specs.Likelihood.{dequantised}
 use Rattle.sums.specs.Sums.{Likelihoods, score}
@@ -22,11 +23,11 @@ use Rattle.puzzleboard.specs.Demand.{OnBoard, Names, Leads, RunsUp}
 
 -- the f32 total of a placing: its likelihood sum over the edges
 abbrev pub total : Board → EdgeList → Likelihoods → List ℕ → Placing → Float
-total B E X ts P = dequantised (score B E X (getD ts (P .place) 0) (P .row) (P .col))
+total B E X ts P = dequantised (score B E X (getD ts (P .listed) 0) (P .row) (P .col))
 
 -- the placing with its total
 abbrev pub candidate : Board → EdgeList → Likelihoods → List ℕ → Placing → SoftCandidate
-candidate B E X ts P = record { place = P .place; row = P .row; col = P .col; total = total B E X ts P }
+candidate B E X ts P = record { listed = P .listed; row = P .row; col = P .col; total = total B E X ts P }
 
 -- "Margin = (first - second) / edges"
 abbrev pub marginOf : Board → EdgeList → Likelihoods → List ℕ → Placing → Placing → Float
@@ -36,8 +37,8 @@ marginOf B E X ts P Q = softMargin (candidate B E X ts P) (candidate B E X ts Q)
 pub record BestByLikelihood (B : Board) (E : EdgeList) (X : Likelihoods) (ts : List ℕ) (P Q : Placing) : Type 0 where
   pub on-board : OnBoard B ts P
   pub second-on : OnBoard B ts Q
-  pub first : FirstPlace (origins (periodOf B true) (periodOf B false)) (length ts) (scoreAtKey B E X ts) (P .place) (keyAt (periodOf B false) (P .row) (P .col))
-  pub second : SecondPlace (origins (periodOf B true) (periodOf B false)) (length ts) (scoreAtKey B E X ts) (P .place) (keyAt (periodOf B false) (P .row) (P .col)) (Q .place) (keyAt (periodOf B false) (Q .row) (Q .col))
+  pub first : FirstPlace (origins (periodOf B true) (periodOf B false)) (length ts) (scoreAtKey B E X ts) (P .listed) (keyAt (periodOf B false) (P .row) (P .col))
+  pub second : SecondPlace (origins (periodOf B true) (periodOf B false)) (length ts) (scoreAtKey B E X ts) (P .listed) (keyAt (periodOf B false) (P .row) (P .col)) (Q .listed) (keyAt (periodOf B false) (Q .row) (Q .col))
 
 -- what a found soft answer says: the physical list E gives the square, its figures and the margin; the logical list F gives the lead and the runner-up R
 pub record SoftAnswered (E : EdgeList) (X : Likelihoods) (F : EdgeList) (ts : List ℕ) (B : Board) (limit least : Float) (d : Decoded) : Type 0 where

@@ -18,7 +18,8 @@ use Rattle.laws.specs.Cleared.{cleared, SameBeyond, beyond-refl, beyond-trans, 
 use Rattle.board.specs.Hits.{EdgeList, Board, size}
 use Rattle.board.specs.Sides.{periodOf}
 use Rattle.board.specs.Domain.{ListOk, BoardOk}
-use Rattle.tables.specs.Room.{used, TablesReady, TablesBuilt}
+use Rattle.room.specs.Room.{used}
+use Rattle.tables.specs.Built.{TablesReady, TablesBuilt}
 use Rattle.sums.specs.Sums.{Likelihoods, LikelihoodsOk}
 use Rattle.refusals.specs.declared.Refusal.{Refusal}
 use Rattle.refusals.specs.declared.Admission.{Admission}
@@ -104,20 +105,20 @@ module _ (L P : EdgeList) (ts : List ℕ) (B : Board) (limit : Float) (c : List 
   logical-refused n k = record { answer = ap (afterHard P L ts B limit best) (sym k ∙ D .answer); counts = logical-rooms .0; weights = logical-rooms .1 }
 
   -- the tables of its transform can be built
-  pub figures-ready : best .first .place < length ts → TablesReady B P (getD ts (best .first .place) 0) c' w'
+  pub figures-ready : best .first .listed < length ts → TablesReady B P (getD ts (best .first .listed) 0) c' w'
   figures-ready h =
       let u = used-flat B 1 (A .periods) in
       record {
         list = A .physical;
         board = A .board;
-        transform = A .transforms .small (best .first .place) h;
+        transform = A .transforms .small (best .first .listed) h;
         room = (omega (arith, A .room .0, logical-rooms .0 .len), omega (arith, A .room .1, logical-rooms .1 .len));
       }
 
-  module _ (x : Candidate) (next : RunnerUp) (k : r ≡ sel.Selected x next) (n : Admission) (v : n ≡ softVerdict (getD ts (best .first .place) 0) (best .first) (getD ts (x .place) 0) x next (size L)) where
+  module _ (x : Candidate) (next : RunnerUp) (k : r ≡ sel.Selected x next) (n : Admission) (v : n ≡ softVerdict (getD ts (best .first .listed) 0) (best .first) (getD ts (x .listed) 0) x next (size L)) where
     -- the answer under a verdict
     abbrev under : Admission → Answer
-    under y = let t = getD ts (best .first .place) 0 in whenAccepted y (Found (softDecodedOf t best (figuresOf B P t (best .first .row) (best .first .col)) (size P) next))
+    under y = let t = getD ts (best .first .listed) 0 in whenAccepted y (Found (softDecodedOf t best (figuresOf B P t (best .first .row) (best .first .col)) (size P) next))
 
     logical-answer : under n ≡ afterHard P L ts B limit best (selection B L ts limit)
     unfolding softJudged
@@ -126,15 +127,15 @@ module _ (L P : EdgeList) (ts : List ℕ) (B : Board) (limit : Float) (c : List 
     pub verdict-refused : (z : Refusal) → n ≡ admission.Refused z → LogicalDone P L ts B limit best c c' w w' (Refused z)
     verdict-refused z o = record { answer = ap under (sym o) ∙ logical-answer; counts = logical-rooms .0; weights = logical-rooms .1 }
 
-    module _ (c'' : List ℕ) (w'' : List Float) (own : HitsWeight) (F : FiguresDone B P (getD ts (best .first .place) 0) (best .first .row) (best .first .col) c' c'' w' w'' own) where
+    module _ (c'' : List ℕ) (w'' : List Float) (own : HitsWeight) (F : FiguresDone B P (getD ts (best .first .listed) 0) (best .first .row) (best .first .col) c' c'' w' w'' own) where
       pub own-few : own .hits ≤ size P
-      own-few = subst (λ (z : HitsWeight). z .hits ≤ size P) (sym (F .answer)) (figures-few B P (getD ts (best .first .place) 0) (best .first .row) (best .first .col) (A .board) (A .physical))
+      own-few = subst (λ (z : HitsWeight). z .hits ≤ size P) (sym (F .answer)) (figures-few B P (getD ts (best .first .listed) 0) (best .first .row) (best .first .col) (A .board) (A .physical))
 
-      pub verdict-found : (a : Decoded) → n ≡ admission.Accepted → a ≡ softDecodedOf (getD ts (best .first .place) 0) best own (size P) next → LogicalDone P L ts B limit best c c'' w w'' (Found a)
+      pub verdict-found : (a : Decoded) → n ≡ admission.Accepted → a ≡ softDecodedOf (getD ts (best .first .listed) 0) best own (size P) next → LogicalDone P L ts B limit best c c'' w w'' (Found a)
       verdict-found a o e =
           let u = used-flat B 1 (A .periods) in
           record {
-            answer = ap Found (e ∙ ap (λ (z : HitsWeight). softDecodedOf (getD ts (best .first .place) 0) best z (size P) next) (F .answer)) ∙ ap under (sym o) ∙ logical-answer;
+            answer = ap Found (e ∙ ap (λ (z : HitsWeight). softDecodedOf (getD ts (best .first .listed) 0) best z (size P) next) (F .answer)) ∙ ap under (sym o) ∙ logical-answer;
             counts = beyond-trans 0 3006 c c' c'' (logical-rooms .0) (record { len = F .rooms .counts .len; same = λ i h. F .rooms .counts .surplus i (omega arith) });
             weights = beyond-trans nan 3006 w w' w'' (logical-rooms .1) (record { len = F .rooms .weights .len; same = λ i h. F .rooms .weights .surplus i (omega arith) });
           }
@@ -143,7 +144,7 @@ module _ (L P : EdgeList) (ts : List ℕ) (B : Board) (limit : Float) (c : List 
 -- the list position that a choice holds in first place
 abbrev firstPlaceOf : SoftChoice → ℕ
 firstPlaceOf Nothing = 0
-firstPlaceOf (Chosen first second) = first .place
+firstPlaceOf (Chosen first second) = first .listed
 
 module _ (P : EdgeList) (X : Likelihoods) (L : EdgeList) (ts : List ℕ) (B : Board) (limit least : Float) (m n o : ℕ) (A : SoftAccepted P (X .matches) (X .mismatches) L ts B limit least m n o) where
   -- the hard part of it is accepted too
@@ -163,11 +164,11 @@ module _ (P : EdgeList) (X : Likelihoods) (L : EdgeList) (ts : List ℕ) (B : Bo
   pub likelihoods-ok : LikelihoodsOk P X
   likelihoods-ok = record { matches = A .matches; mismatches = A .mismatches; match = λ i h. A .likely i h .0; mismatch = λ i h. A .likely i h .1 }
 
-  pub first-listed : (first second : SoftCandidate) → softSelection B P X ts ≡ Chosen first second → first .place < length ts
+  pub first-listed : (first second : SoftCandidate) → softSelection B P X ts ≡ Chosen first second → first .listed < length ts
   first-listed first second e =
       let b = soft-best-edges B P X ts (A .board) (A .physical) likelihoods-ok (A .transforms .some) in
-      let p : first .place ≡ b .p = ap firstPlaceOf (sym e ∙ b .chosen) in
-      omega (arith, b .first .place)
+      let p : first .listed ≡ b .p = ap firstPlaceOf (sym e ∙ b .chosen) in
+      omega (arith, b .first .listed)
 
 module _ (P : EdgeList) (X : Likelihoods) (L : EdgeList) (ts : List ℕ) (B : Board) (limit least : Float) (c : List ℕ) (w : List Float) (a : List ℤ) (A : SoftAccepted P (X .matches) (X .mismatches) L ts B limit least (length c) (length w) (length a)) where
   pub ready-soft : SoftReady B P X ts a

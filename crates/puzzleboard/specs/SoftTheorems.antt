@@ -12,7 +12,8 @@ use lib.Ieee.{Float, binary32, ofInt}
 use borrow.Author.Tests.{eq-eqb, eqb-true, eqb-false}
 use Rattle.laws.specs.Tests.{and-true}
 use Rattle.laws.specs.Grid.{Grid, origins}
-use Rattle.board.specs.Hits.{EdgeList, Board, Placing, size, hits, hitsAt}
+use Rattle.board.specs.declared.edge.Placing.{Placing}
+use Rattle.board.specs.Hits.{EdgeList, Board, size, hits, hitsAt}
 use Rattle.board.specs.Sides.{periodOf}
 use Rattle.board.specs.Domain.{BoardOk}
 use Rattle.admission.specs.Accepted.{SoftAccepted}
@@ -86,17 +87,17 @@ module _ (P : EdgeList) (X : Likelihoods) (L : EdgeList) (ts : List ℕ) (B : Bo
   best = soft-best-edges B P X ts (A .board) (A .physical) (likelihoods-ok P X L ts B limit least m n o A) (A .transforms .some)
 
   -- a placing by its key has the total that its row and column have
-  by-key : (Q : Placing) → OnBoard B ts Q → record { place = Q .place; row = keyOf B (A .board) Q / (3 * periodOf B false); col = keyOf B (A .board) Q % (3 * periodOf B false); total = dequantised (scoreAtKey B P X ts (Q .place) (keyOf B (A .board) Q)) } ≡ candidate B P X ts Q
+  by-key : (Q : Placing) → OnBoard B ts Q → record { listed = Q .listed; row = keyOf B (A .board) Q / (3 * periodOf B false); col = keyOf B (A .board) Q % (3 * periodOf B false); total = dequantised (scoreAtKey B P X ts (Q .listed) (keyOf B (A .board) Q)) } ≡ candidate B P X ts Q
   by-key Q u =
       let r = row-back B (A .board) ts Q u in
       let c = col-back B (A .board) ts Q u in
-      λ i. record { place = Q .place; row = r i; col = c i; total = dequantised (score B P X (getD ts (Q .place) 0) (r i) (c i)) }
+      λ i. record { listed = Q .listed; row = r i; col = c i; total = dequantised (score B P X (getD ts (Q .listed) 0) (r i) (c i)) }
 
   -- the two best by likelihood are what soft selection holds
   pub own-best : (Q R : Placing) → BestByLikelihood B P X ts Q R → softSelection B P X ts ≡ Chosen (candidate B P X ts Q) (candidate B P X ts R)
   own-best Q R b =
       best-two-only (periodOf B true) (periodOf B false) (length ts) (period-h B (A .board)) (period-v B (A .board)) (scoreAtKey B P X ts) (softSelection B P X ts) _ best
-      (record { p = Q .place; k = keyOf B (A .board) Q; q = R .place; j = keyOf B (A .board) R; chosen = refl; first = b .first; second = b .second })
+      (record { p = Q .listed; k = keyOf B (A .board) Q; q = R .listed; j = keyOf B (A .board) R; chosen = refl; first = b .first; second = b .second })
       ∙ ap₂ (λ (x y : SoftCandidate). Chosen x y) (by-key Q (b .on-board)) (by-key R (b .second-on))
 
   -- and it always holds two
@@ -113,8 +114,8 @@ module _ (P : EdgeList) (X : Likelihoods) (L : EdgeList) (ts : List ℕ) (B : Bo
       let f = key-back B (A .board) ts (best .q) (best .j) in
       let G = origins (periodOf B true) (periodOf B false) in
       record {
-        on-board = placing-on B (A .board) ts (best .p) (best .k) (best .first .place) (best .first .own .key);
-        second-on = placing-on B (A .board) ts (best .q) (best .j) (best .second .place) (best .second .key);
+        on-board = placing-on B (A .board) ts (best .p) (best .k) (best .first .listed) (best .first .own .key);
+        second-on = placing-on B (A .board) ts (best .q) (best .j) (best .second .listed) (best .second .key);
         first = subst (λ (k : ℕ). FirstPlace (origins (periodOf B true) (periodOf B false)) (length ts) (scoreAtKey B P X ts) (best .p) k) (sym e) (best .first);
         second = subst (λ (k : ℕ). SecondPlace (origins (periodOf B true) (periodOf B false)) (length ts) (scoreAtKey B P X ts) (best .p) k (best .q) (keyOf B (A .board) (placing B (A .board) (best .q) (best .j)))) (sym e)
             (subst (λ (j : ℕ). SecondPlace (origins (periodOf B true) (periodOf B false)) (length ts) (scoreAtKey B P X ts) (best .p) (best .k) (best .q) j) (sym f) (best .second));
@@ -123,12 +124,12 @@ module _ (P : EdgeList) (X : Likelihoods) (L : EdgeList) (ts : List ℕ) (B : Bo
   -- ---- found: then its own best placing clears the margin and leads
   module _ (d : Decoded) (Q R : Placing) (b : BestByLikelihood B P X ts Q R) (clear : belowMargin (marginOf B P X ts Q R) least ≡ false) where
     abbrev t : ℕ
-    t = getD ts (Q .place) 0
+    t = getD ts (Q .listed) 0
 
     abbrev answer : RunnerUp → Decoded
     answer r = softDecodedOf t (bestOf (candidate B P X ts Q) (candidate B P X ts R) (size P)) (figuresOf B P t (Q .row) (Q .col)) (size P) r
 
-    module _ (x : Candidate) (r : RunnerUp) (e : selection B L ts limit ≡ sel.Selected x r) (p : (t ≡ getD ts (x .place) 0) × (Q .row ≡ x .row) × (Q .col ≡ x .col) × (passed (size L) (x .hits) (r .hits) ≡ true)) where
+    module _ (x : Candidate) (r : RunnerUp) (e : selection B L ts limit ≡ sel.Selected x r) (p : (t ≡ getD ts (x .listed) 0) × (Q .row ≡ x .row) × (Q .col ≡ x .col) × (passed (size L) (x .hits) (r .hits) ≡ true)) where
       lead : Leads B L ts limit (placed x)
       lead = winner-leads B L ts limit (A .board) (A .logical) (A .transforms .few) x r e (p .3)
 
@@ -136,12 +137,12 @@ module _ (P : EdgeList) (X : Likelihoods) (L : EdgeList) (ts : List ℕ) (B : Bo
       same-hits : hitsAt B L ts Q ≡ hitsAt B L ts (placed x)
       same-hits = λ i. hits B L (p .0 i) (p .1 i) (p .2 i)
 
-      same-place : (e : Bool) → eqb (Q .place) (x .place) ≡ e → Q .place ≡ x .place
-      same-place true h = eqb-true (Q .place) (x .place) h
-      same-place false h = absurd (omega (arith, same-hits, lead .ahead Q (b .on-board) (λ s. eqb-false (Q .place) (x .place) h (s .0))))
+      same-place : (e : Bool) → eqb (Q .listed) (x .listed) ≡ e → Q .listed ≡ x .listed
+      same-place true h = eqb-true (Q .listed) (x .listed) h
+      same-place false h = absurd (omega (arith, same-hits, lead .ahead Q (b .on-board) (λ s. eqb-false (Q .listed) (x .listed) h (s .0))))
 
       same-one : placed x ≡ Q
-      same-one = let q = same-place (eqb (Q .place) (x .place)) refl in λ i. record { place = sym q i; row = sym (p .1) i; col = sym (p .2) i }
+      same-one = let q = same-place (eqb (Q .listed) (x .listed)) refl in λ i. record { listed = sym q i; row = sym (p .1) i; col = sym (p .2) i }
 
       soft-answered : Found (answer r) ≡ Found d → SoftAnswered P X L ts B limit least d
       unfolding softDecodedOf
@@ -166,10 +167,10 @@ module _ (P : EdgeList) (X : Likelihoods) (L : EdgeList) (ts : List ℕ) (B : Bo
           })
 
     abbrev verdict : Candidate → RunnerUp → Admission
-    verdict x r = softVerdict t (candidate B P X ts Q) (getD ts (x .place) 0) x r (size L)
+    verdict x r = softVerdict t (candidate B P X ts Q) (getD ts (x .listed) 0) x r (size L)
 
     by-verdict : (x : Candidate) (r : RunnerUp) (v : Admission) → selection B L ts limit ≡ sel.Selected x r → verdict x r ≡ v → whenAccepted v (Found (answer r)) ≡ Found d → SoftAnswered P X L ts B limit least d
-    by-verdict x r admission.Accepted e h k = soft-answered x r e (verdict-passed t (candidate B P X ts Q) (getD ts (x .place) 0) x r (size L) h) k
+    by-verdict x r admission.Accepted e h k = soft-answered x r e (verdict-passed t (candidate B P X ts Q) (getD ts (x .listed) 0) x r (size L) h) k
     by-verdict x r (admission.Refused j) e h k = absurd (no-square d j k)
 
     by-logical : (q : Selection) → selection B L ts limit ≡ q → afterHard P L ts B limit (bestOf (candidate B P X ts Q) (candidate B P X ts R) (size P)) q ≡ Found d → SoftAnswered P X L ts B limit least d
@@ -200,12 +201,12 @@ module _ (P : EdgeList) (X : Likelihoods) (L : EdgeList) (ts : List ℕ) (B : Bo
       → (d : Decoded) × (softCore P X L ts B limit least ≡ Found d)
   unfolding softCore softJudged softVerdict
   soft-complete h g Q R b clear l =
-      let s = sole-selected B L ts limit (A .board) (A .logical) (A .transforms .few) g (Q .place) (keyOf B (A .board) Q) (leads-sole B (A .board) ts L limit Q l) in
+      let s = sole-selected B L ts limit (A .board) (A .logical) (A .transforms .few) g (Q .listed) (keyOf B (A .board) Q) (leads-sole B (A .board) ts L limit Q l) in
       let x = s .0 in
       let r = s .1 in
       let k = key-same B (A .board) ts Q (placed x) (l .on-board) (winner-on B L ts limit (A .board) (A .logical) (A .transforms .few) x r (s .2)) (s .4, s .5) in
-      let t = getD ts (Q .place) 0 in
-      let p1 : eqb t (getD ts (x .place) 0) ≡ true = eq-eqb t (getD ts (x .place) 0) (ap (λ (i : ℕ). getD ts i 0) (k .0)) in
+      let t = getD ts (Q .listed) 0 in
+      let p1 : eqb t (getD ts (x .listed) 0) ≡ true = eq-eqb t (getD ts (x .listed) 0) (ap (λ (i : ℕ). getD ts i 0) (k .0)) in
       let p2 : eqb (Q .row) (x .row) ≡ true = eq-eqb (Q .row) (x .row) (k .1) in
       let p3 : eqb (Q .col) (x .col) ≡ true = eq-eqb (Q .col) (x .col) (k .2) in
       (softDecodedOf t (bestOf (candidate B P X ts Q) (candidate B P X ts R) (size P)) (figuresOf B P t (Q .row) (Q .col)) (size P) r, rw (h, own-best Q R b, clear, s .2, p1, p2, p3, s .3))

@@ -5,7 +5,8 @@ use mathlib.Core.List.{List}
 use Prim.Native.Nat.{ℕ, _≤_, _<_}
 use lib.ListN.{getD, length}
 use lib.Ieee.{Float}
-use Rattle.board.specs.Hits.{EdgeList, Board, Placing, size, hitsAt}
+use Rattle.board.specs.declared.edge.Placing.{Placing}
+use Rattle.board.specs.Hits.{EdgeList, Board, size, hitsAt}
 use Rattle.board.specs.Sides.{periodOf}
 use Rattle.board.specs.Domain.{ListOk, BoardOk}
 use Rattle.figures.specs.Gate.{passed}
@@ -22,22 +23,22 @@ use Rattle.puzzleboard.specs.DemandLaws.{same-key, hits-key, sole-leads,
 
 -- the placing of a winner, and of its runner-up at list position p
 abbrev pub placed : Candidate → Placing
-placed x = record { place = x .place; row = x .row; col = x .col }
+placed x = record { listed = x .listed; row = x .row; col = x .col }
 
 abbrev pub nextAt : ℕ → RunnerUp → Placing
-nextAt p r = record { place = p; row = r .row; col = r .col }
+nextAt p r = record { listed = p; row = r .row; col = r .col }
 
 module _ (B : Board) (E : EdgeList) (ts : List ℕ) (limit : Float) (board : BoardOk B) (list : ListOk E) (few : length ts ≤ 8) (x : Candidate) (r : RunnerUp) (e : selection B E ts limit ≡ Selected x r) where
   in-range : InRange (periodOf B true) (periodOf B false) (size E) (totalConfidence E) limit (λ p. getD ts p 0) (λ p. tablesOf B E (getD ts p 0)) (length ts) x r
   in-range = selected-in-range B E ts limit board list few x r e
 
   pub winner-on : OnBoard B ts (placed x)
-  winner-on = record { listed = in-range .place; row = in-range .row; col = in-range .col }
+  winner-on = record { in-list = in-range .listed; row = in-range .row; col = in-range .col }
 
   module _ (g : passed (size E) (x .hits) (r .hits) ≡ true) where
-    right : Sole (length ts) (originNumber (periodOf B true) (periodOf B false)) (size E) limit (hitsAtKey B E ts) (x .place) (keyAt (periodOf B false) (x .row) (x .col))
-        × (x .hits ≡ hitsAtKey B E ts (x .place) (keyAt (periodOf B false) (x .row) (x .col)))
-        × MostOther (length ts) (originNumber (periodOf B true) (periodOf B false)) (size E) limit (hitsAtKey B E ts) (x .place) (keyAt (periodOf B false) (x .row) (x .col)) (r .hits)
+    right : Sole (length ts) (originNumber (periodOf B true) (periodOf B false)) (size E) limit (hitsAtKey B E ts) (x .listed) (keyAt (periodOf B false) (x .row) (x .col))
+        × (x .hits ≡ hitsAtKey B E ts (x .listed) (keyAt (periodOf B false) (x .row) (x .col)))
+        × MostOther (length ts) (originNumber (periodOf B true) (periodOf B false)) (size E) limit (hitsAtKey B E ts) (x .listed) (keyAt (periodOf B false) (x .row) (x .col)) (r .hits)
     right = selected-right B E ts limit board list few x r e g
 
     pub winner-leads : Leads B E ts limit (placed x)
@@ -47,11 +48,11 @@ module _ (B : Board) (E : EdgeList) (ts : List ℕ) (limit : Float) (board : Boa
     winner-hits = right .1 ∙ hits-key B board ts E limit (placed x) winner-on
 
     -- the list position of the runner-up, and what is known of it
-    pub named : (p : ℕ) × (p < length ts) × (getD ts p 0 ≡ r .transform) × ((p ≡ x .place) × (keyAt (periodOf B false) (r .row) (r .col) ≡ keyAt (periodOf B false) (x .row) (x .col)) → ⊥) × (hitsAtKey B E ts p (keyAt (periodOf B false) (r .row) (r .col)) ≡ r .hits)
+    pub named : (p : ℕ) × (p < length ts) × (getD ts p 0 ≡ r .transform) × ((p ≡ x .listed) × (keyAt (periodOf B false) (r .row) (r .col) ≡ keyAt (periodOf B false) (x .row) (x .col)) → ⊥) × (hitsAtKey B E ts p (keyAt (periodOf B false) (r .row) (r .col)) ≡ r .hits)
     named = selected-next B E ts limit board list few x r e g
 
     runner-on : OnBoard B ts (nextAt (named .0) r)
-    runner-on = record { listed = named .1; row = in-range .next-row; col = in-range .next-col }
+    runner-on = record { in-list = named .1; row = in-range .next-row; col = in-range .next-col }
 
     pub runner-hits : hitsAt B E ts (nextAt (named .0) r) ≡ r .hits
     runner-hits = sym (hits-key B board ts E limit (nextAt (named .0) r) runner-on) ∙ named .4

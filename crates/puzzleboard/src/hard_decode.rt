@@ -71,8 +71,8 @@ fn hard_core<'a>(
             match physical {
                 Selection::Refused(refusal) => Answer::Refused(refusal),
                 Selection::Selected(p, _) => {
-                    let at = w.place;
-                    let other = p.place;
+                    let at = w.listed;
+                    let other = p.listed;
                     judge(
                         transforms[at],
                         w,
@@ -152,8 +152,8 @@ pub fn decode_hard<'a>(
                 counts,
                 weights,
             );
-            laws::clear_u32(counts, 3006);
-            laws::clear_f32(weights, 3006);
+            room::clear_u32(counts, 3006);
+            room::clear_f32(weights, 3006);
             answer
         }
     }

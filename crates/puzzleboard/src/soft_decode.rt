@@ -4,7 +4,7 @@ ghost use Prim.Native.Nat.{_≤_, _<_};
 ghost use lib.ListN.{length};
 ghost use Rattle.board.specs.Hits.{edges, tables};
 ghost use Rattle.sums.specs.Sums.{likelihoods};
-ghost use Rattle.tables.specs.Room.{TablesReady};
+ghost use Rattle.tables.specs.Built.{TablesReady};
 ghost use Rattle.hard.specs.SelectLaws.{RoomReady, roomCells};
 ghost use Rattle.admission.specs.Accepted.{HardAccepted, SoftAccepted};
 ghost use Rattle.verdict.specs.Verdict.{softVerdict, softDecodedOf};
@@ -110,7 +110,7 @@ fn soft_logical<'a>(
         (edges (now lrows) (now lcols) (now lorientations) (now lbits) (now lconfidences))
         (edges (now prows) (now pcols) (now porientations) (now pbits) (now pconfidences))
         (now transforms) (tables (now h) (now v)) limit (length (now counts)) (length (now weights)) ⌝ }
-    requires { ⌜ best .first .place < length (now transforms) ⌝ }
+    requires { ⌜ best .first .listed < length (now transforms) ⌝ }
     ensures { λ r. ⌜ LogicalDone
         (edges (now (prows .entry)) (now (pcols .entry)) (now (porientations .entry)) (now (pbits .entry)) (now (pconfidences .entry)))
         (edges (now (lrows .entry)) (now (lcols .entry)) (now (lorientations .entry)) (now (lbits .entry)) (now (lconfidences .entry)))
@@ -133,8 +133,8 @@ fn soft_logical<'a>(
     match logical {
         Selection::Refused(refusal) => Answer::Refused(refusal),
         Selection::Selected(w, next) => {
-            let at = best.first.place;
-            let other = w.place;
+            let at = best.first.listed;
+            let other = w.listed;
             let t = transforms[at];
             let s = transforms[other];
             let verdict = soft_verdict(t, best, s, w, next, lrows.len() as u32);
@@ -327,9 +327,9 @@ pub fn decode_soft<'a>(
                 weights,
                 sums,
             );
-            laws::clear_u32(counts, 3006);
-            laws::clear_f32(weights, 3006);
-            laws::clear_i64(sums, 5010);
+            room::clear_u32(counts, 3006);
+            room::clear_f32(weights, 3006);
+            room::clear_i64(sums, 5010);
             answer
         }
     }

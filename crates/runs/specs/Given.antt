@@ -13,7 +13,7 @@ use lib.Ieee.{Float, binary32, ofBits, le}
 use Rattle.laws.specs.WeightLaws.{confidence}
 use Rattle.board.specs.Hits.{EdgeList, edges, tables}
 use Rattle.board.specs.Domain.{ListOk, Patterns}
-use Rattle.tables.specs.Room.{TablesReady}
+use Rattle.tables.specs.Built.{TablesReady}
 
 -- 167 entries, the first n of them three-bit patterns
 pub record Made (ps : List ℕ) (n : ℕ) : Type 0 where

@@ -4,7 +4,7 @@ ghost use mathlib.Core.Path.{_≡_};
 ghost use Prim.Native.Nat.{_<_, _≤_};
 ghost use lib.ListN.{length};
 ghost use Rattle.board.specs.Hits.{edges, tables};
-ghost use Rattle.tables.specs.Room.{TablesReady};
+ghost use Rattle.tables.specs.Built.{TablesReady};
 use crate::cut::fill_patterns;
 use crate::print::bits_of;
 use crate::print::print;

@@ -172,8 +172,8 @@ pub fn finish(scan: HardScan) -> Choice
     match kept {
         Kept::Nobody => Choice::Nothing,
         Kept::One(winner) => {
-            let place = winner.place;
-            let next = runner_up(scan, place);
+            let listed = winner.listed;
+            let next = runner_up(scan, listed);
             Choice::Chosen { winner, next }
         }
     }

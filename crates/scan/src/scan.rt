@@ -18,7 +18,7 @@ pub struct Candidate {
     pub weight: f32,
     pub row: u32,
     pub col: u32,
-    pub place: usize,
+    pub listed: usize,
 }
 
 // What is kept of the candidates so far.

@@ -51,7 +51,7 @@ pub record RunnerUp (G : Grid) (s : ℕ → ℤ) (k j : ℕ) : Type 0 where
 module _ (G : Grid) (n : ℕ) (S : ℕ → ℕ → ℤ) where
   -- first place: its own best placing, no placing has a greater f32 total, and each of an earlier list position has a smaller one
   pub record FirstPlace (p k : ℕ) : Type 0 where
-    pub place : p < n
+    pub listed : p < n
     pub own : OwnBest G (S p) k
     pub greatest : (r i : ℕ) → r < n → i < G .none → lt (dequantised (S p k)) (dequantised (S r i)) ≡ false
     pub earliest : (r i : ℕ) → r < p → i < G .none → lt (dequantised (S r i)) (dequantised (S p k)) ≡ true
@@ -59,7 +59,7 @@ module _ (G : Grid) (n : ℕ) (S : ℕ → ℕ → ℤ) where
   -- second place after (p, k): another placing, no placing but the first has a greater f32 total, and each of an earlier list position but the first has a
   -- smaller one; in another transform it is its own best placing, in the first's the runner-up there
   pub record SecondPlace (p k q j : ℕ) : Type 0 where
-    pub place : q < n
+    pub listed : q < n
     pub key : j < G .none
     pub other : (q ≡ p) × (j ≡ k) → ⊥
     pub greatest : (r i : ℕ) → r < n → i < G .none → ((r ≡ p) × (i ≡ k) → ⊥) → lt (dequantised (S q j)) (dequantised (S r i)) ≡ false
@@ -70,7 +70,7 @@ module _ (G : Grid) (n : ℕ) (S : ℕ → ℕ → ℤ) where
 -- ---- the choice
 -- a placing with its total, by row and column on a board of 3 M columns
 abbrev pub placed : ℕ → (ℕ → ℕ → ℤ) → ℕ → ℕ → SoftCandidate
-placed M S p k = record { place = p; row = k / (3 * M); col = k % (3 * M); total = dequantised (S p k) }
+placed M S p k = record { listed = p; row = k / (3 * M); col = k % (3 * M); total = dequantised (S p k) }
 
 -- the choice holds first place and second place, with their totals
 pub record BestTwo (L M n : ℕ) (S : ℕ → ℕ → ℤ) (choice : SoftChoice) : Type 0 where

@@ -160,21 +160,21 @@ module _ (L M n : ℕ) (S T : ℕ → ℕ → ℤ) (e : (r k : ℕ) → r < n �
         k = B .k;
         q = B .q;
         j = B .j;
-        chosen = B .chosen ∙ ap₂ Chosen (placed-same (B .p) (B .k) (a .place) f) (placed-same (B .q) (B .j) (b .place) g);
+        chosen = B .chosen ∙ ap₂ Chosen (placed-same (B .p) (B .k) (a .listed) f) (placed-same (B .q) (B .j) (b .listed) g);
         first = record {
-          place = a .place;
-          own = own-same (origins L M) (S (B .p)) (T (B .p)) (λ i l. e (B .p) i (a .place) l) (B .k) (a .own);
-          greatest = λ r i l m. ap₂ lt (total-same (B .p) (B .k) (a .place) f) (total-same r i l m) ∙ a .greatest r i l m;
-          earliest = λ r i l m. ap₂ lt (total-same r i (omega (arith, a .place)) m) (total-same (B .p) (B .k) (a .place) f) ∙ a .earliest r i l m;
+          listed = a .listed;
+          own = own-same (origins L M) (S (B .p)) (T (B .p)) (λ i l. e (B .p) i (a .listed) l) (B .k) (a .own);
+          greatest = λ r i l m. ap₂ lt (total-same (B .p) (B .k) (a .listed) f) (total-same r i l m) ∙ a .greatest r i l m;
+          earliest = λ r i l m. ap₂ lt (total-same r i (omega (arith, a .listed)) m) (total-same (B .p) (B .k) (a .listed) f) ∙ a .earliest r i l m;
         };
         second = record {
-          place = b .place;
+          listed = b .listed;
           key = g;
           other = b .other;
-          greatest = λ r i l m n. ap₂ lt (total-same (B .q) (B .j) (b .place) g) (total-same r i l m) ∙ b .greatest r i l m n;
-          earliest = λ r i l m n. ap₂ lt (total-same r i (omega (arith, b .place)) m) (total-same (B .q) (B .j) (b .place) g) ∙ b .earliest r i l m n;
-          elsewhere = λ n. own-same (origins L M) (S (B .q)) (T (B .q)) (λ i l. e (B .q) i (b .place) l) (B .j) (b .elsewhere n);
-          inside = λ z. runner-same (origins L M) (S (B .q)) (T (B .q)) (λ i l. e (B .q) i (b .place) l) (B .k) (B .j) f (b .inside z);
+          greatest = λ r i l m n. ap₂ lt (total-same (B .q) (B .j) (b .listed) g) (total-same r i l m) ∙ b .greatest r i l m n;
+          earliest = λ r i l m n. ap₂ lt (total-same r i (omega (arith, b .listed)) m) (total-same (B .q) (B .j) (b .listed) g) ∙ b .earliest r i l m n;
+          elsewhere = λ n. own-same (origins L M) (S (B .q)) (T (B .q)) (λ i l. e (B .q) i (b .listed) l) (B .j) (b .elsewhere n);
+          inside = λ z. runner-same (origins L M) (S (B .q)) (T (B .q)) (λ i l. e (B .q) i (b .listed) l) (B .k) (B .j) f (b .inside z);
         };
       }
 

@@ -72,14 +72,14 @@ module _ (G : Grid) (n : ℕ) (S : ℕ → ℕ → ℤ) where
   pub first-only : (p k q j : ℕ) → FirstPlace G n S p k → FirstPlace G n S q j → (p ≡ q) × (k ≡ j)
   first-only p k q j A B = ⊎-elim
       (λ e. (e, own-only G (S p) k j (A .own) (subst (λ (r : ℕ). OwnBest G (S r) j) (sym e) (B .own))))
-      (⊎-elim (λ l. clash (B .earliest p k l (A .own .key)) (A .greatest q j (B .place) (B .own .key))) (λ l. clash (A .earliest q j l (B .own .key)) (B .greatest p k (A .place) (A .own .key))))
+      (⊎-elim (λ l. clash (B .earliest p k l (A .own .key)) (A .greatest q j (B .listed) (B .own .key))) (λ l. clash (A .earliest q j l (B .own .key)) (B .greatest p k (A .listed) (A .own .key))))
       (apart p q)
 
   -- one placing is second to it
   pub second-only : (hn vn : ℕ) → Laws G hn vn → (p k q j r i : ℕ) → SecondPlace G n S p k q j → SecondPlace G n S p k r i → (q ≡ r) × (j ≡ i)
   second-only hn vn E p k q j r i A B = ⊎-elim
       (λ e. (e, inner (subst (λ (x : ℕ). SecondPlace G n S p k x i) (sym e) B)))
-      (⊎-elim (λ l. clash (B .earliest q j l (A .key) (A .other)) (A .greatest r i (B .place) (B .key) (B .other))) (λ l. clash (A .earliest r i l (B .key) (B .other)) (B .greatest q j (A .place) (A .key) (A .other))))
+      (⊎-elim (λ l. clash (B .earliest q j l (A .key) (A .other)) (A .greatest r i (B .listed) (B .key) (B .other))) (λ l. clash (A .earliest r i l (B .key) (B .other)) (B .greatest q j (A .listed) (A .key) (A .other))))
       (apart q r)
     where
       inner : SecondPlace G n S p k q i → j ≡ i

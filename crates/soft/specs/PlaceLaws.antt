@@ -95,7 +95,7 @@ module _ (M : ℕ) (G : Grid) (n : ℕ) (S : ℕ → ℕ → ℤ) (W R : ℕ →
 
     first-place : FirstPlace G n S P (W P)
     first-place = record {
-      place = P-in;
+      listed = P-in;
       own = own P P-in;
       greatest = λ r i l m.
           total-not-less (S P (W P)) (S r (W r)) (S r i) (w-small P P-in) (w-small r l) (small r i l m)
@@ -133,7 +133,7 @@ module _ (M : ℕ) (G : Grid) (n : ℕ) (S : ℕ → ℕ → ℤ) (W R : ℕ →
           (decided i (W r))
 
       second-place : ((q ≡ P) × (j ≡ W P) → ⊥) → ((q ≡ P → ⊥) → OwnBest G (S q) j) → (q ≡ P → RunnerUp G (S q) (W P) j) → SecondPlace G n S P (W P) q j
-      second-place other elsewhere inside = record { place = q-in; key = j-in; other = other; greatest = not-over; earliest = under; elsewhere = elsewhere; inside = inside }
+      second-place other elsewhere inside = record { listed = q-in; key = j-in; other = other; greatest = not-over; earliest = under; elsewhere = elsewhere; inside = inside }
 
     -- by the winner of another position
     by-winner : (r : ℕ) → F .g ≡ 2 * r → SecondPlace G n S P (W P) r (W r)

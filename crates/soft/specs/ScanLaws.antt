@@ -38,10 +38,10 @@ withBoth s a b =
 
 module _ (L M : ℕ) where
   -- ---- a candidate from its parts
-  pub candidate-made : (X : SumTables) (place k : ℕ) (x : ℤ) (f : Float) → x ≡ sumAt (origins L M) (X .hs) (X .vs) k → f ≡ dequantised x
-      → _≡_ {A = SoftCandidate} (record { place = place; row = k / (3 * M); col = k % (3 * M); total = f }) (softCandidate L M X place k)
+  pub candidate-made : (X : SumTables) (listed k : ℕ) (x : ℤ) (f : Float) → x ≡ sumAt (origins L M) (X .hs) (X .vs) k → f ≡ dequantised x
+      → _≡_ {A = SoftCandidate} (record { listed = listed; row = k / (3 * M); col = k % (3 * M); total = f }) (softCandidate L M X listed k)
   unfolding softCandidate
-  candidate-made X place k x f e d = rw (d, e)
+  candidate-made X listed k x f e d = rw (d, e)
 
   -- ---- a transform from its parts
   pub folded : (X : SumTables) (s one both : SoftScan) (two : TwoBest) (a b : SoftCandidate)

@@ -8,7 +8,7 @@ use lib.IntN.{ℤ}
 use Rattle.board.specs.Hits.{EdgeList, Board, size}
 use Rattle.board.specs.Sides.{periodOf}
 use Rattle.board.specs.Domain.{ListOk, BoardOk}
-use Rattle.tables.specs.Room.{used}
+use Rattle.room.specs.Room.{used}
 use Rattle.sums.specs.Sums.{Likelihoods, LikelihoodsOk, sumsOf}
 use Rattle.sums.specs.SumsRoom.{SumsBuilt}
 use Rattle.pair.specs.Sums.{SumTables, sums}

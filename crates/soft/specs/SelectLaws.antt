@@ -12,7 +12,7 @@ use Rattle.laws.specs.Cleared.{SameBeyond}
 use Rattle.board.specs.Hits.{EdgeList, Board, size}
 use Rattle.board.specs.Sides.{periodOf}
 use Rattle.board.specs.Domain.{ListOk, BoardOk}
-use Rattle.tables.specs.Room.{cellsAt, used}
+use Rattle.room.specs.Room.{cellsAt, used}
 use Rattle.sums.specs.Sums.{Likelihoods, LikelihoodsOk, sumsOf, score}
 use Rattle.sums.specs.SumsRoom.{SumsReady, SumsBuilt}
 use Rattle.sums.specs.SumsTheorems.{length-sums, sums-small, read-sums, sums-again, key-sum, sum-rooms-equal}

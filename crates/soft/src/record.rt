@@ -63,12 +63,12 @@ fn candidate_of(
     hs: &[i64],
     vs: &[i64],
     key: usize,
-    place: usize,
+    listed: usize,
     long: usize,
     wide: usize,
 ) -> SoftCandidate
     requires { ⌜ Period long × Period wide × SumsOk long wide (now hs) (now vs) × (key ≤ 2250000) ⌝ }
-    ensures { λ r. ⌜ r ≡ softCandidate long wide (sums (now (hs .entry)) (now (vs .entry))) place key ⌝ }
+    ensures { λ r. ⌜ r ≡ softCandidate long wide (sums (now (hs .entry)) (now (vs .entry))) listed key ⌝ }
 {
     let row = key / (3 * wide);
     let col = key % (3 * wide);
@@ -79,7 +79,7 @@ fn candidate_of(
     let r = row as u32;
     let c = col as u32;
     SoftCandidate {
-        place,
+        listed,
         row: r,
         col: c,
         total,
@@ -92,15 +92,15 @@ pub fn fold_transform(scan: SoftScan, hs: &[i64], vs: &[i64], long: usize, wide:
     requires { ⌜ scan .count < 8 ⌝ }
     ensures { λ r. ⌜ r ≡ softFolded long wide (sums (now (hs .entry)) (now (vs .entry))) scan ⌝ }
 {
-    let place = scan.count;
+    let listed = scan.count;
     let two = two_best(hs, vs, long, wide);
-    let winner = candidate_of(hs, vs, two.winner, place, long, wide);
-    let runner = candidate_of(hs, vs, two.runner, place, long, wide);
+    let winner = candidate_of(hs, vs, two.winner, listed, long, wide);
+    let runner = candidate_of(hs, vs, two.runner, listed, long, wide);
     let one = offer(scan, winner);
     let both = offer(one, runner);
     let first = both.first;
     let second = both.second;
-    let count = place + 1;
+    let count = listed + 1;
     SoftScan {
         first,
         second,

@@ -10,7 +10,8 @@ use Rattle.laws.specs.Zone.{Zone}
 use Rattle.board.specs.Hits.{EdgeList, Board}
 use Rattle.board.specs.Sides.{tableOf, periodOf}
 use Rattle.board.specs.Domain.{ListOk, BoardOk}
-use Rattle.groups.specs.Groups.{rowLength, Periods}
+use Rattle.groups.specs.Groups.{Periods}
+use Rattle.room.specs.Room.{rowLength}
 use Rattle.groups.specs.Fill.{rowSum}
 use Rattle.groups.specs.Terms.{agrees}
 use Rattle.cells.specs.Cells.{longClass, shortClass, cellSum, family}

@@ -20,7 +20,7 @@ use Rattle.board.specs.Hits.{EdgeList, Board, size}
 use Rattle.board.specs.Sides.{tableOf, periodOf}
 use Rattle.board.specs.HitsLaws.{side-some}
 use Rattle.likelihood.specs.SumLaws.{cell-size}
-use Rattle.groups.specs.Groups.{rowLength}
+use Rattle.room.specs.Room.{rowLength}
 use Rattle.groups.specs.Fill.{placeAt, rowSum}
 use Rattle.groups.specs.Terms.{agrees}
 use Rattle.cells.specs.Cells.{longClass, shortClass, family}

@@ -8,7 +8,7 @@ use Rattle.board.specs.Hits.{EdgeList, Board, size}
 use Rattle.board.specs.Sides.{periodOf}
 use Rattle.board.specs.Domain.{ListOk, BoardOk}
 use Rattle.groups.specs.Groups.{groupSum}
-use Rattle.tables.specs.Room.{used, Laid}
+use Rattle.room.specs.Room.{used, Laid}
 use Rattle.sums.specs.Sums.{Likelihoods, LikelihoodsOk, cellScore}
 use Rattle.sums.specs.SumParts.{valueAt}
 

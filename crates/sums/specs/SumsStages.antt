@@ -12,12 +12,11 @@ use Rattle.laws.specs.Zone.{zone-ext}
 use Rattle.board.specs.Hits.{EdgeList, Board, size}
 use Rattle.board.specs.Sides.{is, tableOf, periodOf}
 use Rattle.board.specs.HitsLaws.{side-some}
-use Rattle.groups.specs.Groups.{rowLength}
+use Rattle.room.specs.Room.{rowLength, cellsAt, cellsEnd, groupsAt, used, Laid}
 use Rattle.groups.specs.Fill.{rowSum}
 use Rattle.cells.specs.Cells.{longClass, shortClass}
 use Rattle.cells.specs.Credit.{longStep, shortStep}
-use Rattle.tables.specs.Room.{cellsAt, cellsEnd, groupsAt, used, Laid}
-use Rattle.tables.specs.RoomLaws.{cells-in, groups-in, groups-past, laid-ext, laid-clear, laid-groups, laid-cells}
+use Rattle.room.specs.RoomLaws.{cells-in, groups-in, groups-past, laid-ext, laid-clear, laid-groups, laid-cells}
 use Rattle.tables.specs.Stages.{row-groups, both}
 use Rattle.sums.specs.Sums.{Likelihoods, cellScore}
 use Rattle.sums.specs.SumParts.{placesZ, valueAt, rowsSum, SumsFillReady, SumsFilled, cellZ, SideReadyZ, SideBuiltZ}

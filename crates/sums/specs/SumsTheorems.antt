@@ -21,8 +21,8 @@ use Rattle.board.specs.HitsLaws.{side-some}
 use Rattle.likelihood.specs.SumLaws.{pair-size}
 use Rattle.cells.specs.Listed.{length-listed, getD-listed, view-listed}
 use Rattle.cells.specs.Cells.{width}
-use Rattle.tables.specs.Room.{cellsAt, used}
-use Rattle.tables.specs.RoomLaws.{cells-in, laid-again, laid-cleared, laid-used, laid-same}
+use Rattle.room.specs.Room.{cellsAt, used}
+use Rattle.room.specs.RoomLaws.{cells-in, laid-again, laid-cleared, laid-used, laid-same}
 use Rattle.tables.specs.TablesTheorems.{hCell, vCell}
 use Rattle.sums.specs.Sums.{Likelihoods, gain, score, sideScore, cellScore, sumsOf, LikelihoodsOk}
 use Rattle.sums.specs.SumsLaws.{score-by-class, gain-small}

@@ -256,7 +256,7 @@ pub fn build_sums<'a>(
     let base = 3 * len + 3 * tall;
     let row = (len + tall) * 6;
     let next = base + row;
-    laws::clear_i64(sums, next + row);
+    room::clear_i64(sums, next + row);
     fill_sums(
         rows,
         cols,

@@ -1,6 +1,5 @@
 pub mod CellsLaws
-pub mod Room
-pub mod RoomLaws
+pub mod Built
 pub mod Side
 pub mod SideLaws
 pub mod Stages

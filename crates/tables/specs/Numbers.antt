@@ -1,4 +1,4 @@
--- Numbers on the definitions: the used room at 167, and one edge's tables worked out.
+-- Numbers on the definitions: one edge's tables worked out.
 use mathlib.Core.Path.{_≡_, refl}
 use mathlib.Core.Bool.{true, false}
 use mathlib.Core.List.{[], _∷_}
@@ -10,11 +10,6 @@ use Rattle.board.specs.Hits.{EdgeList, Board, edges, tables, look, predicted, h
 use Rattle.board.specs.Sides.{sideHits}
 use Rattle.cells.specs.Listed.{listed}
 use Rattle.cells.specs.Cells.{cellCount, countsOf}
-use Rattle.tables.specs.Room.{used}
-
--- document 01, 'Room': 3,006 u32 and f32, 5,010 i64
-pub rooms : (used (λ s. 167) 1 ≡ 3006) × (used (λ s. 167) 2 ≡ 5010)
-rooms = (refl, refl)
 
 -- tables of periods 4 and 5, and two edges, the first horizontal and the second vertical under transform 0
 abbrev B : Board

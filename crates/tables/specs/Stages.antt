@@ -16,7 +16,8 @@ use Rattle.laws.specs.Zone.{Zone, zone-ext}
 use Rattle.board.specs.Hits.{EdgeList, Board, size, seen}
 use Rattle.board.specs.Sides.{is, tableOf, periodOf}
 use Rattle.board.specs.HitsLaws.{side-some}
-use Rattle.groups.specs.Groups.{rowLength, member, confidenceAt, groupCount, groupWeight, Periods}
+use Rattle.groups.specs.Groups.{member, confidenceAt, groupCount, groupWeight, Periods}
+use Rattle.room.specs.Room.{rowLength, cellsAt, cellsEnd, groupsAt, used, Laid}
 use Rattle.groups.specs.Terms.{placesN, placesF}
 use Rattle.cells.specs.Cells.{longClass, shortClass, cellCount, cellWeight}
 use Rattle.tables.specs.CellsLaws.{same-cell, cell-count, total-edges, group-upto}
@@ -24,8 +25,8 @@ use Rattle.cells.specs.Credit.{longStep, shortStep}
 use Rattle.groups.specs.Fill.{FillReady, Filled, rowSum}
 use Rattle.groups.specs.FillLaws.{row-side}
 use Rattle.tables.specs.Side.{total, SideReady, SideBuilt}
-use Rattle.tables.specs.Room.{cellsAt, cellsEnd, groupsAt, used, Laid, TablesReady, TablesBuilt}
-use Rattle.tables.specs.RoomLaws.{cells-in, groups-in, groups-past, laid-ext, laid-clear, laid-groups, laid-cells}
+use Rattle.tables.specs.Built.{TablesReady, TablesBuilt}
+use Rattle.room.specs.RoomLaws.{cells-in, groups-in, groups-past, laid-ext, laid-clear, laid-groups, laid-cells}
 
 -- ---- of any sum: the groups of both sides, filled in one row, are the groups of each side
 pub row-groups : {A : Type 0} (op : A → A → A) (z : A) (f : ℕ → A) (B : Board) (E : EdgeList) (t : ℕ) → 0 < periodOf B true → ((i : ℕ) → i < size E → seen E i < 2) → (s : Bool) (k : ℕ) → k < periodOf B s * 6

@@ -24,8 +24,9 @@ use Rattle.cells.specs.Listed.{length-listed, getD-listed, view-listed}
 use Rattle.groups.specs.Groups.{groupCount, groupWeight}
 use Rattle.cells.specs.Cells.{width, longClass, shortClass, cellCount, cellWeight, countsOf, weightsOf}
 use Rattle.tables.specs.CellsLaws.{cell-count, cell-upto, total-edges, group-upto}
-use Rattle.tables.specs.Room.{cellsAt, used, TablesReady, TablesBuilt}
-use Rattle.tables.specs.RoomLaws.{cells-in, laid-again, laid-cleared, laid-used, laid-same}
+use Rattle.room.specs.Room.{cellsAt, used}
+use Rattle.tables.specs.Built.{TablesReady, TablesBuilt}
+use Rattle.room.specs.RoomLaws.{cells-in, laid-again, laid-cleared, laid-used, laid-same}
 
 -- the horizontal and the vertical cell of the origin (r, c)
 abbrev pub hCell : Board → ℕ → ℕ → ℕ

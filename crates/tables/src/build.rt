@@ -2,7 +2,7 @@
 ghost use lib.Dec.{eqb};
 ghost use Rattle.board.specs.Hits.{edges, tables};
 ghost use Rattle.tables.specs.Side.{SideReady, SideBuilt};
-ghost use Rattle.tables.specs.Room.{TablesReady, TablesBuilt};
+ghost use Rattle.tables.specs.Built.{TablesReady, TablesBuilt};
 
 // Adds all families of one side to its cells, by rising long residue. The cells were cleared, and the groups stand.
 fn build_side<'a>(
@@ -56,8 +56,8 @@ pub fn build_tables<'a>(
     let tall = v.len();
     let base = 3 * len + 3 * tall;
     let end = base + (len + tall) * 6;
-    laws::clear_u32(counts, end);
-    laws::clear_f32(weights, end);
+    room::clear_u32(counts, end);
+    room::clear_f32(weights, end);
     groups::groups::fill_groups(
         rows,
         cols,

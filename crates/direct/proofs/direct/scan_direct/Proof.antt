@@ -12,10 +12,10 @@ use Rattle.direct.proofs.direct.scan_direct.Statement.{statement}
 use Rattle.direct.proofs.direct.scan_direct.Tie as tie
 
 abbrev Inv-loop : tie.InvT-loop
-Inv-loop hc hw vc vw long wide edges conf limit place kept₀ ha₀ va₀ row₀ kept ha va row = (row ≤ 3 * long) × (ha ≡ row % long) × (va ≡ row % 3) × (kept ≡ tried long wide edges conf limit place (cells hc hw vc vw) 0 kept₀ (row * (3 * wide)))
+Inv-loop hc hw vc vw long wide edges conf limit listed kept₀ ha₀ va₀ row₀ kept ha va row = (row ≤ 3 * long) × (ha ≡ row % long) × (va ≡ row % 3) × (kept ≡ tried long wide edges conf limit listed (cells hc hw vc vw) 0 kept₀ (row * (3 * wide)))
 
 abbrev μ-loop : tie.MeasureT-loop
-μ-loop hc hw vc vw long wide edges conf limit place kept₀ ha₀ va₀ row₀ kept ha va row = length hc - row
+μ-loop hc hw vc vw long wide edges conf limit listed kept₀ ha₀ va₀ row₀ kept ha va row = length hc - row
 
 loop-holds : tie.Need-loop-holds Inv-loop μ-loop
 loop-holds c = (omega arith, sym (mod-eq-of-lt (omega (arith, c .before .before .before .before .pre .0 .more))), refl, tried-none _ _ _ _ _ _ _ _)

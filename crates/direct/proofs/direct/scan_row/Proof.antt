@@ -20,10 +20,10 @@ use Rattle.direct.proofs.direct.scan_row.Statement.{statement}
 use Rattle.direct.proofs.direct.scan_row.Tie as tie
 
 abbrev Inv-loop : tie.InvT-loop
-Inv-loop hc hw vc vw long wide row ha va edges conf limit place hbase vbase kept₀ lead₀ hb₀ vb₀ col₀ kept lead hb vb col = RowTurn long wide hbase vbase hb vb col × (kept ≡ tried long wide edges conf limit place (cells hc hw vc vw) (row * (3 * wide)) kept₀ col) × (lead ≡ leadOf kept)
+Inv-loop hc hw vc vw long wide row ha va edges conf limit listed hbase vbase kept₀ lead₀ hb₀ vb₀ col₀ kept lead hb vb col = RowTurn long wide hbase vbase hb vb col × (kept ≡ tried long wide edges conf limit listed (cells hc hw vc vw) (row * (3 * wide)) kept₀ col) × (lead ≡ leadOf kept)
 
 abbrev μ-loop : tie.MeasureT-loop
-μ-loop hc hw vc vw long wide row ha va edges conf limit place hbase vbase kept₀ lead₀ hb₀ vb₀ col₀ kept lead hb vb col = length vc - col
+μ-loop hc hw vc vw long wide row ha va edges conf limit listed hbase vbase kept₀ lead₀ hb₀ vb₀ col₀ kept lead hb vb col = length vc - col
 
 mul-hbase : tie.Need-mul-hbase Inv-loop μ-loop
 mul-hbase c = record { fits = omega (arith, mod-lt (c .before .before .before .before .args .row) {m = c .before .before .before .before .args .long} (omega (arith, c .before .before .before .before .pre .0 .0 .more)), c .before .before .before .before .pre .0 .0 .few) }
@@ -102,18 +102,18 @@ loop-again c =
     let v = a .va * a .wide + t .vb in
     let n : ℕ = cAt (a .hc .now) h + cAt (a .vc .now) v in
     let w : Float = add binary32 (wAt (a .hw .now) h) (wAt (a .vw .now) v) in
-    let k : Candidate = candidate n w (a .conf) (a .row) (t .col) (a .place) in
+    let k : Candidate = candidate n w (a .conf) (a .row) (t .col) (a .listed) in
     let l : t .col < 3 * a .wide = omega (arith, c .before .before .before .before .before .before .before .before .before .before .before .before .before .pre .0 .2 .vcs) in
     let next = row-next _ _ _ _ _ _ _ _ _ (inv .0) l (c .before .next-class .ensures) (c .next-class2 .ensures) in
     ⊎-elim
-    (λ z. (next, row-turn (a .long) (a .wide) (a .edges) (a .conf) (a .limit) (a .place) (cells (a .hc .now) (a .hw .now) (a .vc .now) (a .vw .now)) (a .row) (t .col) (a .ha) (a .va) (t .hb) (t .vb) (a .start) (t .kept) _ l (s .1) (s .2) (inv .0 .h-class) (inv .0 .v-class) (inv .1) (z .7 ∙ z .5 .ensures), z .8 ∙ z .6 .ensures ∙ ap leadOf (sym (z .7))))
+    (λ z. (next, row-turn (a .long) (a .wide) (a .edges) (a .conf) (a .limit) (a .listed) (cells (a .hc .now) (a .hw .now) (a .vc .now) (a .vw .now)) (a .row) (t .col) (a .ha) (a .va) (t .hb) (t .vb) (a .start) (t .kept) _ l (s .1) (s .2) (inv .0 .h-class) (inv .0 .v-class) (inv .1) (z .7 ∙ z .5 .ensures), z .8 ∙ z .6 .ensures ∙ ap leadOf (sym (z .7))))
     (⊎-elim
     (λ z.
     let o : takes (t .kept) n (div binary32 w (a .conf)) ≡ false = ahead-takes (t .kept) n (div binary32 w (a .conf)) ∙ ap (λ (x : Lead). aheadOf x n (div binary32 w (a .conf))) (sym (inv .2)) ∙ sym (z .3 .ensures) ∙ z .4 .left in
-    (next, row-turn (a .long) (a .wide) (a .edges) (a .conf) (a .limit) (a .place) (cells (a .hc .now) (a .hw .now) (a .vc .now) (a .vw .now)) (a .row) (t .col) (a .ha) (a .va) (t .hb) (t .vb) (a .start) (t .kept) _ l (s .1) (s .2) (inv .0 .h-class) (inv .0 .v-class) (inv .1) (z .5 ∙ sym (offered-left (a .edges) (a .limit) (t .kept) k o)), z .6 ∙ inv .2 ∙ ap leadOf (sym (z .5))))
+    (next, row-turn (a .long) (a .wide) (a .edges) (a .conf) (a .limit) (a .listed) (cells (a .hc .now) (a .hw .now) (a .vc .now) (a .vw .now)) (a .row) (t .col) (a .ha) (a .va) (t .hb) (t .vb) (a .start) (t .kept) _ l (s .1) (s .2) (inv .0 .h-class) (inv .0 .v-class) (inv .1) (z .5 ∙ sym (offered-left (a .edges) (a .limit) (t .kept) k o)), z .6 ∙ inv .2 ∙ ap leadOf (sym (z .5))))
     (λ z.
     let o : takes (t .kept) n (div binary32 w (a .conf)) ≡ false = behind-left (t .kept) n (div binary32 w (a .conf)) (below-behind (t .kept) n (subst (λ (x : Lead). n < x .hits) (inv .2) (z .0 .left))) in
-    (next, row-turn (a .long) (a .wide) (a .edges) (a .conf) (a .limit) (a .place) (cells (a .hc .now) (a .hw .now) (a .vc .now) (a .vw .now)) (a .row) (t .col) (a .ha) (a .va) (t .hb) (t .vb) (a .start) (t .kept) _ l (s .1) (s .2) (inv .0 .h-class) (inv .0 .v-class) (inv .1) (z .1 ∙ sym (offered-left (a .edges) (a .limit) (t .kept) k o)), z .2 ∙ inv .2 ∙ ap leadOf (sym (z .1)))))
+    (next, row-turn (a .long) (a .wide) (a .edges) (a .conf) (a .limit) (a .listed) (cells (a .hc .now) (a .hw .now) (a .vc .now) (a .vw .now)) (a .row) (t .col) (a .ha) (a .va) (t .hb) (t .vb) (a .start) (t .kept) _ l (s .1) (s .2) (inv .0 .h-class) (inv .0 .v-class) (inv .1) (z .1 ∙ sym (offered-left (a .edges) (a .limit) (t .kept) k o)), z .2 ∙ inv .2 ∙ ap leadOf (sym (z .1)))))
     (c .before .before .if1 .came)
 
 returns : tie.Need-returns Inv-loop μ-loop

@@ -10,7 +10,8 @@ use Rattle.laws.specs.Modulus.{modulus-n, modulus-ok}
 use Rattle.board.specs.declared.transform.EdgeLookup.{EdgeLookup}
 use Rattle.board.specs.Transform.{lookupOf}
 use Rattle.board.specs.Hits.{EdgeList, edges, look}
-use Rattle.groups.specs.Groups.{placeOf, rowLength}
+use Rattle.groups.specs.Groups.{placeOf}
+use Rattle.room.specs.Room.{rowLength}
 use Rattle.groups.specs.Fill.{Filled, placeAt}
 use Rattle.groups.specs.FillLaws.{place-held, filled-none, filled-more, filled-few}
 use Rattle.groups.proofs.groups.fill_groups.Statement.{statement}

@@ -30,7 +30,7 @@ abbrev st : tie.After-select → tie.Start
 st c = c .before .before .before .before .before .before .before .before .before .before .before .before .before .before
 
 -- the hard winner of the logical list and its runner-up
-winner : (c : tie.After-logical2) → let d = c .before .before .before .before .before .before in let x = c .logical2 .given .0 .0 in let r = c .logical2 .given .0 .1 .0 in (x .place < length (ts (st d))) × (x .hits ≤ size (L (st d))) × (r .hits ≤ size (L (st d)))
+winner : (c : tie.After-logical2) → let d = c .before .before .before .before .before .before in let x = c .logical2 .given .0 .0 in let r = c .logical2 .given .0 .1 .0 in (x .listed < length (ts (st d))) × (x .hits ≤ size (L (st d))) × (r .hits ≤ size (L (st d)))
 winner c = let d = c .before .before .before .before .before .before in let s = st d in logical-winner (L s) (P s) (ts s) (B s) (s .args .limit) (now (s .args .counts)) (now (s .args .weights)) (s .pre .0) (d .select .result) _ _ (d .select .ensures .answer) (c .logical2 .given .1)
 
 select-requires : tie.Need-select-requires

@@ -11,7 +11,8 @@ use Rattle.laws.specs.Modulus.{modulus-n, modulus-ok}
 use Rattle.board.specs.declared.transform.EdgeLookup.{EdgeLookup}
 use Rattle.board.specs.Transform.{lookupOf}
 use Rattle.board.specs.Hits.{EdgeList, edges, look}
-use Rattle.groups.specs.Groups.{placeOf, rowLength}
+use Rattle.groups.specs.Groups.{placeOf}
+use Rattle.room.specs.Room.{rowLength}
 use Rattle.groups.specs.Fill.{placeAt}
 use Rattle.groups.specs.FillLaws.{place-held}
 use Rattle.sums.specs.Sums.{Likelihoods, likelihoods, matchAt, mismatchAt}

@@ -13,8 +13,7 @@ use Rattle.laws.specs.Tests.{compared}
 use Rattle.laws.specs.Written.{Written}
 use Rattle.laws.specs.Zone.{Zone}
 use Rattle.board.specs.Sides.{is}
-use Rattle.groups.specs.Groups.{rowLength}
-use Rattle.tables.specs.Room.{cellsAt, cellsEnd, groupsAt, used, Laid}
+use Rattle.room.specs.Room.{rowLength, cellsAt, cellsEnd, groupsAt, used, Laid}
 
 -- ---- the parts do not overlap
 module _ (P : Bool → ℕ) where

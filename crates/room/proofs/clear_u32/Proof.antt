@@ -1,8 +1,8 @@
 use Prim.Native.Nat.{_-_}
 use native.Mathlib.Omega.{arith}
 use Rattle.laws.specs.Cleared.{Clearing, clearing-none, clearing-more, clearing-done}
-use Rattle.laws.proofs.clear_u32.Statement.{statement}
-use Rattle.laws.proofs.clear_u32.Tie as tie
+use Rattle.room.proofs.clear_u32.Statement.{statement}
+use Rattle.room.proofs.clear_u32.Tie as tie
 
 abbrev Inv-loop : tie.InvT-loop
 Inv-loop room₀ n i₀ room i = Clearing 0 n room₀ room i

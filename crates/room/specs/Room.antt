@@ -1,0 +1,47 @@
+-- Document 01, 'Numbers that bound the domain' (room): where cells and groups stand in lent room, and how much of it is used. P gives the period of each side.
+use mathlib.Core.Path.{_≡_, refl}
+use mathlib.Core.Bool.{Bool, true, false, cond}
+use mathlib.Core.List.{List}
+use Prim.Native.Nat.{ℕ, _+_, _*_, _≤_, _<_}
+use lib.ListN.{length, getD}
+use Rattle.laws.specs.declared.Periods.{Periods}
+
+-- the period of each side
+abbrev pub bySide : Periods → Bool → ℕ
+bySide p s = cond s (p .h) (p .v)
+
+-- periods of two accepted tables
+pub record PeriodsOk (p : Periods) : Type 0 where
+  pub some : (0 < p .h) × (0 < p .v)
+  pub few : (p .h ≤ 500) × (p .v ≤ 500)
+
+-- how many places a row of the groups of both sides has, six for each long residue
+abbrev pub rowLength : ℕ → ℕ → ℕ
+rowLength L M = (L + M) * 6
+
+-- horizontal cells, then vertical cells
+abbrev pub cellsAt : (Bool → ℕ) → Bool → ℕ
+cellsAt P s = cond s 0 (3 * P true)
+
+abbrev pub cellsEnd : (Bool → ℕ) → ℕ
+cellsEnd P = 3 * P true + 3 * P false
+
+-- then rows of groups, in each the horizontal ones first: one row in the u32 and f32 room, two in the i64 room
+abbrev pub groupsAt : (Bool → ℕ) → ℕ → Bool → ℕ
+groupsAt P i s = cellsEnd P + i * rowLength (P true) (P false) + cond s 0 (P true * 6)
+
+-- the used room with m rows of groups
+abbrev pub used : (Bool → ℕ) → ℕ → ℕ
+used P m = cellsEnd P + m * rowLength (P true) (P false)
+
+-- a list so laid out, with cells C and m rows of groups G, and the surplus as it was
+module _ {A : Type 0} (d : A) (P : Bool → ℕ) (m : ℕ) (C : Bool → ℕ → A) (G : ℕ → Bool → ℕ → A) where
+  pub record Laid (old new : List A) : Type 0 where
+    pub len : length new ≡ length old
+    pub cells : (s : Bool) (k : ℕ) → k < 3 * P s → getD new (cellsAt P s + k) d ≡ C s k
+    pub groups : (i : ℕ) → i < m → (s : Bool) (k : ℕ) → k < P s * 6 → getD new (groupsAt P i s + k) d ≡ G i s k
+    pub surplus : (k : ℕ) → used P m ≤ k → getD new k d ≡ getD old k d
+
+-- "Room: 3,006 u32 and 3,006 f32; soft also 5,010 i64": what is used at two periods of 167
+pub rooms : (used (λ s. 167) 1 ≡ 3006) × (used (λ s. 167) 2 ≡ 5010)
+rooms = (refl, refl)

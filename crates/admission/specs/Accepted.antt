@@ -3,7 +3,7 @@ use mathlib.Core.Path.{_≡_, refl, sym, ap, _∙_}
 use mathlib.Core.Bool.{Bool, true, false, not, _&&_, _||_, cond, true≢false}
 use mathlib.Core.List.{List}
 use Prim.Native.Nat.{ℕ, suc, _%_, _≤_, _<_}
-use native.Mathlib.Nat.{le-trans}
+use native.Mathlib.Nat.{le-trans, le-of-eq}
 use native.Mathlib.Omega.{arith}
 use lib.Dec.{T, ltb, eqb, lit≤}
 use lib.ListN.{getD, length}
@@ -21,7 +21,9 @@ use Rattle.refusals.specs.declared.Admission.{Admission}
 use Rattle.refusals.specs.declared.Admission.the-variants.{Accepted, Refused}
 use Rattle.refusals.specs.Numbers.{numbered}
 use Rattle.refusals.specs.Numbers as why
+use Rattle.room.specs.Room.{flatTables, flatSums, tablesRoom, sumsRoom, flat-room}
 use Rattle.checks.specs.Checks.{far, farAt, badCoordinate, badByte, inRange, marginTop, badConfidence, badLikelihood, firstBadCoordinate, firstBadByte, firstBadConfidence, firstBadLikelihood, lengthsDiffer, sizeBad, fieldBad, confidenceBad, likelihoodsDiffer, likelihoodBad, transformsBad, tableBad, originBad}
+use Rattle.admission.specs.Calls.{HardCall, SoftCall}
 use Rattle.admission.specs.Refusals.{fieldsBad, tablesBad, roomShort, softRoomShort, hardAdmission, softAdmission, statsAdmission}
 
 -- ---- lists without a bad place
@@ -146,20 +148,46 @@ stats-accepted E t row col B h =
     }
 
 -- a hard call
-pub record HardAccepted (L P : EdgeList) (ts : List ℕ) (B : Board) (limit : Float) (counts weights : ℕ) : Type 0 where
-  pub room : (3006 ≤ counts) × (3006 ≤ weights)
-  pub logical : ListOk L
-  pub some-logical : 0 < size L
-  pub physical : ListOk P
-  pub some-physical : 0 < size P
-  pub transforms : TransformsOk ts
-  pub board : BoardOk B
-  pub periods : (length (B .h) ≡ 167) × (length (B .v) ≡ 167)
-  pub within-limit : inRange oneF limit ≡ true
+pub record HardAccepted (call : HardCall) (counts weights : ℕ) : Type 0 where
+  pub room : (tablesRoom (call .board) ≤ counts) × (tablesRoom (call .board) ≤ weights)
+  pub logical : ListOk (call .logical)
+  pub some-logical : 0 < size (call .logical)
+  pub physical : ListOk (call .physical)
+  pub some-physical : 0 < size (call .physical)
+  pub transforms : TransformsOk (call .transforms)
+  pub board : BoardOk (call .board)
+  pub periods : (length (call .board .h) ≡ 167) × (length (call .board .v) ≡ 167)
+  pub within-limit : inRange oneF (call .error-limit) ≡ true
 
-pub hard-accepted : (L P : EdgeList) (ts : List ℕ) (B : Board) (limit : Float) (m n : ℕ) → hardAdmission L P ts B limit m n ≡ Accepted → HardAccepted L P ts B limit m n
+-- none of the tests that hard and soft calls share
+hard-tests : (call : HardCall) (m n : ℕ) → (ltb m flatTables || ltb n flatTables) ≡ false → (lengthsDiffer (call .logical) || lengthsDiffer (call .physical)) ≡ false
+    → (sizeBad 1 (size (call .logical)) || sizeBad 1 (size (call .physical))) ≡ false → (fieldsBad (call .logical) || fieldsBad (call .physical)) ≡ false
+    → (confidenceBad (call .logical .confidences) || confidenceBad (call .physical .confidences)) ≡ false → transformsBad (call .transforms) ≡ false → tablesBad (call .board) ≡ false
+    → not (inRange oneF (call .error-limit)) ≡ false → HardAccepted call m n
+hard-tests call m n a1 a2 a3 a4 a5 a7 a8 a9 =
+    let r = or-false (ltb m flatTables) (ltb n flatTables) a1 in
+    let d = or-false (lengthsDiffer (call .logical)) (lengthsDiffer (call .physical)) a2 in
+    let z = or-false (sizeBad 1 (size (call .logical))) (sizeBad 1 (size (call .physical))) a3 in
+    let f = or-false (fieldsBad (call .logical)) (fieldsBad (call .physical)) a4 in
+    let w = or-false (confidenceBad (call .logical .confidences)) (confidenceBad (call .physical .confidences)) a5 in
+    let t = or-false (tableBad (call .board .h)) (tableBad (call .board .v)) a8 in
+    let periods : (length (call .board .h) ≡ 167) × (length (call .board .v) ≡ 167) = (period-167 (call .board .h) (t .0), period-167 (call .board .v) (t .1)) in
+    let u = flat-room (call .board) periods .0 in
+    record {
+      room = (le-trans (le-of-eq u) (ltb-false _ _ (r .0)), le-trans (le-of-eq u) (ltb-false _ _ (r .1)));
+      logical = list-ok 1 (call .logical) (d .0) (z .0) (f .0) (w .0);
+      some-logical = size-ok 1 (size (call .logical)) (z .0);
+      physical = list-ok 1 (call .physical) (d .1) (z .1) (f .1) (w .1);
+      some-physical = size-ok 1 (size (call .physical)) (z .1);
+      transforms = transforms-ok (call .transforms) a7;
+      board = board-ok (call .board) a8;
+      periods = periods;
+      within-limit = not-false _ a9;
+    }
+
+pub hard-accepted : (call : HardCall) (m n : ℕ) → hardAdmission call m n ≡ Accepted → HardAccepted call m n
 unfolding hardAdmission roomShort
-hard-accepted L P ts B limit m n h =
+hard-accepted call m n h =
     let a1 = rest _ why.roomTooShort _ h in
     let a2 = rest _ why.lengthsDiffer _ (a1 .1) in
     let a3 = rest _ why.listSize _ (a2 .1) in
@@ -168,44 +196,23 @@ hard-accepted L P ts B limit m n h =
     let a7 = rest _ why.badTransform _ (a5 .1) in
     let a8 = rest _ why.badTable _ (a7 .1) in
     let a9 = rest _ why.badSetting _ (a8 .1) in
-    let r = or-false (ltb m 3006) (ltb n 3006) (a1 .0) in
-    let d = or-false (lengthsDiffer L) (lengthsDiffer P) (a2 .0) in
-    let z = or-false (sizeBad 1 (size L)) (sizeBad 1 (size P)) (a3 .0) in
-    let f = or-false (fieldsBad L) (fieldsBad P) (a4 .0) in
-    let w = or-false (confidenceBad (L .confidences)) (confidenceBad (P .confidences)) (a5 .0) in
-    let t = or-false (tableBad (B .h)) (tableBad (B .v)) (a8 .0) in
-    record {
-      room = (ltb-false _ _ (r .0), ltb-false _ _ (r .1));
-      logical = list-ok 1 L (d .0) (z .0) (f .0) (w .0);
-      some-logical = size-ok 1 (size L) (z .0);
-      physical = list-ok 1 P (d .1) (z .1) (f .1) (w .1);
-      some-physical = size-ok 1 (size P) (z .1);
-      transforms = transforms-ok ts (a7 .0);
-      board = board-ok B (a8 .0);
-      periods = (period-167 (B .h) (t .0), period-167 (B .v) (t .1));
-      within-limit = not-false _ (a9 .0);
-    }
+    hard-tests call m n (a1 .0) (a2 .0) (a3 .0) (a4 .0) (a5 .0) (a7 .0) (a8 .0) (a9 .0)
 
--- a soft call: besides, each edge of the physical list has two acceptable likelihoods, and there is room for the sums
-pub record SoftAccepted (P : EdgeList) (ms us : List Float) (L : EdgeList) (ts : List ℕ) (B : Board) (limit margin : Float) (counts weights sums : ℕ) : Type 0 where
-  pub room : (3006 ≤ counts) × (3006 ≤ weights) × (5010 ≤ sums)
-  pub physical : ListOk P
-  pub some-physical : 0 < size P
-  pub matches : length ms ≡ size P
-  pub mismatches : length us ≡ size P
-  pub likely : (i : ℕ) → i < size P → (acceptable (getD ms i nan) ≡ true) × (acceptable (getD us i nan) ≡ true)
-  pub logical : ListOk L
-  pub some-logical : 0 < size L
-  pub transforms : TransformsOk ts
-  pub board : BoardOk B
-  pub periods : (length (B .h) ≡ 167) × (length (B .v) ≡ 167)
-  pub within-limit : inRange oneF limit ≡ true
-  pub within-margin : inRange marginTop margin ≡ true
+-- a soft call: its hard part, and besides each edge of the physical list has two acceptable likelihoods, and there is room for the sums
+pub record SoftAccepted (call : SoftCall) (counts weights sums : ℕ) : Type 0 where
+  pub hard : HardAccepted (call .hard) counts weights
+  pub room : sumsRoom (call .hard .board) ≤ sums
+  pub matches : length (call .likelihoods .matches) ≡ size (call .hard .physical)
+  pub mismatches : length (call .likelihoods .mismatches) ≡ size (call .hard .physical)
+  pub likely : (i : ℕ) → i < size (call .hard .physical) → (acceptable (getD (call .likelihoods .matches) i nan) ≡ true) × (acceptable (getD (call .likelihoods .mismatches) i nan) ≡ true)
+  pub within-margin : inRange marginTop (call .soft-margin) ≡ true
 
-pub soft-accepted : (P : EdgeList) (ms us : List Float) (L : EdgeList) (ts : List ℕ) (B : Board) (limit margin : Float) (m n k : ℕ)
-    → softAdmission P ms us L ts B limit margin m n k ≡ Accepted → SoftAccepted P ms us L ts B limit margin m n k
+pub soft-accepted : (call : SoftCall) (m n k : ℕ) → softAdmission call m n k ≡ Accepted → SoftAccepted call m n k
 unfolding softAdmission softRoomShort roomShort likelihoodsDiffer likelihoodBad firstBadLikelihood
-soft-accepted P ms us L ts B limit margin m n k h =
+soft-accepted call m n k h =
+    let ms = call .likelihoods .matches in
+    let us = call .likelihoods .mismatches in
+    let edges = size (call .hard .physical) in
     let a1 = rest _ why.roomTooShort _ h in
     let a2 = rest _ why.lengthsDiffer _ (a1 .1) in
     let a3 = rest _ why.listSize _ (a2 .1) in
@@ -215,32 +222,20 @@ soft-accepted P ms us L ts B limit margin m n k h =
     let a7 = rest _ why.badTransform _ (a6 .1) in
     let a8 = rest _ why.badTable _ (a7 .1) in
     let a9 = rest _ why.badSetting _ (a8 .1) in
-    let s = or-false (ltb m 3006 || ltb n 3006) (ltb k 5010) (a1 .0) in
-    let r = or-false (ltb m 3006) (ltb n 3006) (s .0) in
-    let e = or-false (lengthsDiffer P || lengthsDiffer L) _ (a2 .0) in
-    let d = or-false (lengthsDiffer P) (lengthsDiffer L) (e .0) in
-    let q = and-true (eqb (size P) (length ms)) (eqb (size P) (length us)) (not-false _ (e .1)) in
-    let z = or-false (sizeBad 1 (size P)) (sizeBad 1 (size L)) (a3 .0) in
-    let f = or-false (fieldsBad P) (fieldsBad L) (a4 .0) in
-    let w = or-false (confidenceBad (P .confidences)) (confidenceBad (L .confidences)) (a5 .0) in
-    let t = or-false (tableBad (B .h)) (tableBad (B .v)) (a8 .0) in
-    let g = or-false (not (inRange oneF limit)) (not (inRange marginTop margin)) (a9 .0) in
-    let matches : length ms ≡ size P = sym (eqb-true _ _ (q .0)) in
+    let s = or-false (ltb m flatTables || ltb n flatTables) (ltb k flatSums) (a1 .0) in
+    let e = or-false (lengthsDiffer (call .hard .logical) || lengthsDiffer (call .hard .physical)) _ (a2 .0) in
+    let q = and-true (eqb edges (length ms)) (eqb edges (length us)) (not-false _ (e .1)) in
+    let g = or-false (not (inRange oneF (call .hard .error-limit))) (not (inRange marginTop (call .soft-margin))) (a9 .0) in
+    let hard = hard-tests (call .hard) m n (s .0) (e .0) (a3 .0) (a4 .0) (a5 .0) (a7 .0) (a8 .0) (g .0) in
+    let matches : length ms ≡ edges = sym (eqb-true _ _ (q .0)) in
     record {
-      room = (ltb-false _ _ (r .0), ltb-false _ _ (r .1), ltb-false _ _ (s .1));
-      physical = list-ok 1 P (d .0) (z .0) (f .0) (w .0);
-      some-physical = size-ok 1 (size P) (z .0);
+      hard = hard;
+      room = le-trans (le-of-eq (flat-room (call .hard .board) (hard .periods) .1)) (ltb-false _ _ (s .1));
       matches = matches;
       mismatches = sym (eqb-true _ _ (q .1));
       likely = λ i l.
           let x : i < length ms = omega arith in
           let b = or-false (not (acceptable (getD ms i nan))) (not (acceptable (getD us i nan))) (none-bad (badLikelihood ms us) (length ms) _ (a6 .0) refl i x) in
           (not-false _ (b .0), not-false _ (b .1));
-      logical = list-ok 1 L (d .1) (z .1) (f .1) (w .1);
-      some-logical = size-ok 1 (size L) (z .1);
-      transforms = transforms-ok ts (a7 .0);
-      board = board-ok B (a8 .0);
-      periods = (period-167 (B .h) (t .0), period-167 (B .v) (t .1));
-      within-limit = not-false _ (g .0);
       within-margin = not-false _ (g .1);
     }

@@ -15,6 +15,7 @@ use Rattle.refusals.specs.Numbers.{numbered}
 use Rattle.refusals.specs.Numbers as why
 use Rattle.refusals.specs.Order.{ranked, earlier}
 use Rattle.checks.specs.Checks.{inRange, marginTop, lengthsDiffer, sizeBad, confidenceBad, likelihoodsDiffer, likelihoodBad, transformsBad, originBad}
+use Rattle.admission.specs.Calls.{HardCall, SoftCall}
 use Rattle.admission.specs.Refusals.{fieldsBad, tablesBad, roomShort, softRoomShort, hardAdmission, softAdmission, statsAdmission, refusedIf, listAdmission, likelihoodAdmission, settingsAdmission}
 
 -- refused by a number
@@ -126,40 +127,39 @@ settings-above n a b c l =
     above-if n why.badTransform a _ l (above-if n why.badTable b _ (omega arith) (above-if n why.badSetting c Accepted (omega arith) (above-none n)))
 
 -- ---- the three entry points
-module _ (L P : EdgeList) (ts : List ℕ) (B : Board) (limit : Float) where
-  pub hard-parts : (m n : ℕ)
-      → earlier (refusedIf (roomShort m n) why.roomTooShort) (earlier (earlier (listAdmission 1 L) (listAdmission 1 P)) (settingsAdmission (transformsBad ts) (tablesBad B) (not (inRange oneF limit))))
-      ≡ hardAdmission L P ts B limit m n
-  unfolding earlier ranked listAdmission hardAdmission settingsAdmission
-  hard-parts m n =
-      let s = settingsAdmission (transformsBad ts) (tablesBad B) (not (inRange oneF limit)) in
-      let up : (k : ℕ) → ranked k < ranked why.badTransform → Above k s = λ k l. settings-above k (transformsBad ts) (tablesBad B) (not (inRange oneF limit)) l in
-      let lists = two-lists (lengthsDiffer L) (sizeBad 1 (size L)) (fieldsBad L) (confidenceBad (L .confidences)) (lengthsDiffer P) (sizeBad 1 (size P)) (fieldsBad P) (confidenceBad (P .confidences)) in
-      let rest = ap (λ x. earlier x s) lists ∙ chain-then (lengthsDiffer L || lengthsDiffer P) (sizeBad 1 (size L) || sizeBad 1 (size P)) (fieldsBad L || fieldsBad P) (confidenceBad (L .confidences) || confidenceBad (P .confidences)) Accepted s (up why.lengthsDiffer (omega arith)) (up why.listSize (omega arith)) (up why.edgeOutOfRange (omega arith)) (up why.badConfidence (omega arith)) in
-      ap (earlier (refusedIf (roomShort m n) why.roomTooShort)) rest
-      ∙ pull why.roomTooShort (roomShort m n) Accepted _ (above-if why.roomTooShort why.lengthsDiffer (lengthsDiffer L || lengthsDiffer P) _ (omega arith) (before-size why.roomTooShort s (up why.roomTooShort (omega arith)) (omega arith) (sizeBad 1 (size L) || sizeBad 1 (size P)) (fieldsBad L || fieldsBad P) (confidenceBad (L .confidences) || confidenceBad (P .confidences))))
+pub hard-parts : (call : HardCall) (m n : ℕ)
+    → earlier (refusedIf (roomShort m n) why.roomTooShort) (earlier (earlier (listAdmission 1 (call .logical)) (listAdmission 1 (call .physical))) (settingsAdmission (transformsBad (call .transforms)) (tablesBad (call .board)) (not (inRange oneF (call .error-limit)))))
+    ≡ hardAdmission call m n
+unfolding earlier ranked listAdmission hardAdmission settingsAdmission
+hard-parts call m n =
+    let s = settingsAdmission (transformsBad (call .transforms)) (tablesBad (call .board)) (not (inRange oneF (call .error-limit))) in
+    let up : (k : ℕ) → ranked k < ranked why.badTransform → Above k s = λ k l. settings-above k (transformsBad (call .transforms)) (tablesBad (call .board)) (not (inRange oneF (call .error-limit))) l in
+    let lists = two-lists (lengthsDiffer (call .logical)) (sizeBad 1 (size (call .logical))) (fieldsBad (call .logical)) (confidenceBad (call .logical .confidences)) (lengthsDiffer (call .physical)) (sizeBad 1 (size (call .physical))) (fieldsBad (call .physical)) (confidenceBad (call .physical .confidences)) in
+    let rest = ap (λ x. earlier x s) lists ∙ chain-then (lengthsDiffer (call .logical) || lengthsDiffer (call .physical)) (sizeBad 1 (size (call .logical)) || sizeBad 1 (size (call .physical))) (fieldsBad (call .logical) || fieldsBad (call .physical)) (confidenceBad (call .logical .confidences) || confidenceBad (call .physical .confidences)) Accepted s (up why.lengthsDiffer (omega arith)) (up why.listSize (omega arith)) (up why.edgeOutOfRange (omega arith)) (up why.badConfidence (omega arith)) in
+    ap (earlier (refusedIf (roomShort m n) why.roomTooShort)) rest
+    ∙ pull why.roomTooShort (roomShort m n) Accepted _ (above-if why.roomTooShort why.lengthsDiffer (lengthsDiffer (call .logical) || lengthsDiffer (call .physical)) _ (omega arith) (before-size why.roomTooShort s (up why.roomTooShort (omega arith)) (omega arith) (sizeBad 1 (size (call .logical)) || sizeBad 1 (size (call .physical))) (fieldsBad (call .logical) || fieldsBad (call .physical)) (confidenceBad (call .logical .confidences) || confidenceBad (call .physical .confidences))))
 
-  pub soft-parts : (ms us : List Float) (margin : Float) (m n k : ℕ)
-      → earlier (refusedIf (softRoomShort m n k) why.roomTooShort) (earlier (earlier (earlier (listAdmission 1 P) (listAdmission 1 L)) (likelihoodAdmission (size P) ms us)) (settingsAdmission (transformsBad ts) (tablesBad B) (not (inRange oneF limit) || not (inRange marginTop margin))))
-      ≡ softAdmission P ms us L ts B limit margin m n k
-  unfolding earlier ranked listAdmission likelihoodAdmission softAdmission settingsAdmission
-  soft-parts ms us margin m n k =
-      let rest = not (inRange oneF limit) || not (inRange marginTop margin) in
-      let s = settingsAdmission (transformsBad ts) (tablesBad B) rest in
-      let up : (i : ℕ) → ranked i < ranked why.badTransform → Above i s = λ i l. settings-above i (transformsBad ts) (tablesBad B) rest l in
-      let d = lengthsDiffer P || lengthsDiffer L in
-      let z = sizeBad 1 (size P) || sizeBad 1 (size L) in
-      let f = fieldsBad P || fieldsBad L in
-      let c = confidenceBad (P .confidences) || confidenceBad (L .confidences) in
-      let e = likelihoodsDiffer (size P) ms us in
-      let g = likelihoodBad ms us in
-      let lists = two-lists (lengthsDiffer P) (sizeBad 1 (size P)) (fieldsBad P) (confidenceBad (P .confidences)) (lengthsDiffer L) (sizeBad 1 (size L)) (fieldsBad L) (confidenceBad (L .confidences)) in
-      let both = ap (λ x. earlier x (likelihoodAdmission (size P) ms us)) lists ∙ with-likelihoods d z f c e g in
-      let all = ap (λ x. earlier x s) both
-      ∙ chain-then (d || e) z f c (cond g (by why.badLikelihood) Accepted) s (up why.lengthsDiffer (omega arith)) (up why.listSize (omega arith)) (up why.edgeOutOfRange (omega arith)) (up why.badConfidence (omega arith))
-      ∙ ap (chain (d || e) z f c) (pull why.badLikelihood g Accepted s (up why.badLikelihood (omega arith))) in
-      ap (earlier (refusedIf (softRoomShort m n k) why.roomTooShort)) all
-      ∙ pull why.roomTooShort (softRoomShort m n k) Accepted _ (above-if why.roomTooShort why.lengthsDiffer (d || e) _ (omega arith) (before-size why.roomTooShort (cond g (by why.badLikelihood) s) (above-if why.roomTooShort why.badLikelihood g s (omega arith) (up why.roomTooShort (omega arith))) (omega arith) z f c))
+pub soft-parts : (call : SoftCall) (m n k : ℕ)
+    → earlier (refusedIf (softRoomShort m n k) why.roomTooShort) (earlier (earlier (earlier (listAdmission 1 (call .hard .logical)) (listAdmission 1 (call .hard .physical))) (likelihoodAdmission (size (call .hard .physical)) (call .likelihoods .matches) (call .likelihoods .mismatches))) (settingsAdmission (transformsBad (call .hard .transforms)) (tablesBad (call .hard .board)) (not (inRange oneF (call .hard .error-limit)) || not (inRange marginTop (call .soft-margin)))))
+    ≡ softAdmission call m n k
+unfolding earlier ranked listAdmission likelihoodAdmission softAdmission settingsAdmission
+soft-parts call m n k =
+    let rest = not (inRange oneF (call .hard .error-limit)) || not (inRange marginTop (call .soft-margin)) in
+    let s = settingsAdmission (transformsBad (call .hard .transforms)) (tablesBad (call .hard .board)) rest in
+    let up : (i : ℕ) → ranked i < ranked why.badTransform → Above i s = λ i l. settings-above i (transformsBad (call .hard .transforms)) (tablesBad (call .hard .board)) rest l in
+    let d = lengthsDiffer (call .hard .logical) || lengthsDiffer (call .hard .physical) in
+    let z = sizeBad 1 (size (call .hard .logical)) || sizeBad 1 (size (call .hard .physical)) in
+    let f = fieldsBad (call .hard .logical) || fieldsBad (call .hard .physical) in
+    let c = confidenceBad (call .hard .logical .confidences) || confidenceBad (call .hard .physical .confidences) in
+    let e = likelihoodsDiffer (size (call .hard .physical)) (call .likelihoods .matches) (call .likelihoods .mismatches) in
+    let g = likelihoodBad (call .likelihoods .matches) (call .likelihoods .mismatches) in
+    let lists = two-lists (lengthsDiffer (call .hard .logical)) (sizeBad 1 (size (call .hard .logical))) (fieldsBad (call .hard .logical)) (confidenceBad (call .hard .logical .confidences)) (lengthsDiffer (call .hard .physical)) (sizeBad 1 (size (call .hard .physical))) (fieldsBad (call .hard .physical)) (confidenceBad (call .hard .physical .confidences)) in
+    let both = ap (λ x. earlier x (likelihoodAdmission (size (call .hard .physical)) (call .likelihoods .matches) (call .likelihoods .mismatches))) lists ∙ with-likelihoods d z f c e g in
+    let all = ap (λ x. earlier x s) both
+    ∙ chain-then (d || e) z f c (cond g (by why.badLikelihood) Accepted) s (up why.lengthsDiffer (omega arith)) (up why.listSize (omega arith)) (up why.edgeOutOfRange (omega arith)) (up why.badConfidence (omega arith))
+    ∙ ap (chain (d || e) z f c) (pull why.badLikelihood g Accepted s (up why.badLikelihood (omega arith))) in
+    ap (earlier (refusedIf (softRoomShort m n k) why.roomTooShort)) all
+    ∙ pull why.roomTooShort (softRoomShort m n k) Accepted _ (above-if why.roomTooShort why.lengthsDiffer (d || e) _ (omega arith) (before-size why.roomTooShort (cond g (by why.badLikelihood) s) (above-if why.roomTooShort why.badLikelihood g s (omega arith) (up why.roomTooShort (omega arith))) (omega arith) z f c))
 
 pub stats-parts : (E : EdgeList) (t row col : ℕ) (B : Board) → earlier (listAdmission 0 E) (settingsAdmission (ltb 7 t) (tablesBad B) (originBad row col)) ≡ statsAdmission E t row col B
 unfolding earlier ranked listAdmission statsAdmission settingsAdmission

@@ -11,7 +11,9 @@ use Rattle.refusals.specs.declared.Admission.{Admission}
 use Rattle.refusals.specs.declared.Admission.the-variants.{Accepted, Refused}
 use Rattle.refusals.specs.Numbers.{numbered}
 use Rattle.refusals.specs.Numbers as why
+use Rattle.room.specs.Room.{flatTables, flatSums}
 use Rattle.checks.specs.Checks.{inRange, marginTop, lengthsDiffer, sizeBad, fieldBad, confidenceBad, likelihoodsDiffer, likelihoodBad, transformsBad, tableBad, originBad}
+use Rattle.admission.specs.Calls.{HardCall, SoftCall}
 
 -- the tests of one list
 abbrev pub fieldsBad : EdgeList → Bool
@@ -23,35 +25,45 @@ tablesBad B = tableBad (B .h) || tableBad (B .v)
 
 -- "Room: 3,006 u32 and 3,006 f32; soft also 5,010 i64"
 unfoldable pub roomShort : ℕ → ℕ → Bool
-roomShort counts weights = ltb counts 3006 || ltb weights 3006
+roomShort counts weights = ltb counts flatTables || ltb weights flatTables
 
 unfoldable pub softRoomShort : ℕ → ℕ → ℕ → Bool
-softRoomShort counts weights sums = roomShort counts weights || ltb sums 5010
+softRoomShort counts weights sums = roomShort counts weights || ltb sums flatSums
 
--- a hard call: logical list L, physical list P, transforms, tables, error limit, and the lengths of the lent room
-unfoldable pub hardAdmission : EdgeList → EdgeList → List ℕ → Board → Float → ℕ → ℕ → Admission
-hardAdmission L P ts B limit counts weights =
+-- a hard call, with the lengths of the lent room
+unfoldable pub hardAdmission : HardCall → ℕ → ℕ → Admission
+hardAdmission call counts weights =
     cond (roomShort counts weights) (Refused (numbered why.roomTooShort))
-    (cond (lengthsDiffer L || lengthsDiffer P) (Refused (numbered why.lengthsDiffer))
-    (cond (sizeBad 1 (size L) || sizeBad 1 (size P)) (Refused (numbered why.listSize))
-    (cond (fieldsBad L || fieldsBad P) (Refused (numbered why.edgeOutOfRange))
-    (cond (confidenceBad (L .confidences) || confidenceBad (P .confidences)) (Refused (numbered why.badConfidence))
-    (cond (transformsBad ts) (Refused (numbered why.badTransform))
-    (cond (tablesBad B) (Refused (numbered why.badTable))
-    (cond (not (inRange oneF limit)) (Refused (numbered why.badSetting)) Accepted)))))))
+    (cond (lengthsDiffer (call .logical) || lengthsDiffer (call .physical)) (Refused (numbered why.lengthsDiffer))
+    (cond (sizeBad 1 (size (call .logical)) || sizeBad 1 (size (call .physical))) (Refused (numbered why.listSize))
+    (cond (fieldsBad (call .logical) || fieldsBad (call .physical)) (Refused (numbered why.edgeOutOfRange))
+    (cond (confidenceBad (call .logical .confidences) || confidenceBad (call .physical .confidences)) (Refused (numbered why.badConfidence))
+    (cond (transformsBad (call .transforms)) (Refused (numbered why.badTransform))
+    (cond (tablesBad (call .board)) (Refused (numbered why.badTable))
+    (cond (not (inRange oneF (call .error-limit))) (Refused (numbered why.badSetting)) Accepted)))))))
 
--- a soft call: the physical list has match likelihoods ms and mismatch likelihoods us besides, and there is a soft margin
-unfoldable pub softAdmission : EdgeList → List Float → List Float → EdgeList → List ℕ → Board → Float → Float → ℕ → ℕ → ℕ → Admission
-softAdmission P ms us L ts B limit margin counts weights sums =
+-- the likelihood slices of a soft call differ in length from the physical list; one of its likelihoods is bad; one of its settings is
+abbrev pub softLengthsDiffer : SoftCall → Bool
+softLengthsDiffer call = likelihoodsDiffer (size (call .hard .physical)) (call .likelihoods .matches) (call .likelihoods .mismatches)
+
+abbrev pub softLikelihoodBad : SoftCall → Bool
+softLikelihoodBad call = likelihoodBad (call .likelihoods .matches) (call .likelihoods .mismatches)
+
+abbrev pub softSettingsBad : SoftCall → Bool
+softSettingsBad call = not (inRange oneF (call .hard .error-limit)) || not (inRange marginTop (call .soft-margin))
+
+-- a soft call: the physical list has likelihoods besides, and there is a soft margin
+unfoldable pub softAdmission : SoftCall → ℕ → ℕ → ℕ → Admission
+softAdmission call counts weights sums =
     cond (softRoomShort counts weights sums) (Refused (numbered why.roomTooShort))
-    (cond ((lengthsDiffer P || lengthsDiffer L) || likelihoodsDiffer (size P) ms us) (Refused (numbered why.lengthsDiffer))
-    (cond (sizeBad 1 (size P) || sizeBad 1 (size L)) (Refused (numbered why.listSize))
-    (cond (fieldsBad P || fieldsBad L) (Refused (numbered why.edgeOutOfRange))
-    (cond (confidenceBad (P .confidences) || confidenceBad (L .confidences)) (Refused (numbered why.badConfidence))
-    (cond (likelihoodBad ms us) (Refused (numbered why.badLikelihood))
-    (cond (transformsBad ts) (Refused (numbered why.badTransform))
-    (cond (tablesBad B) (Refused (numbered why.badTable))
-    (cond (not (inRange oneF limit) || not (inRange marginTop margin)) (Refused (numbered why.badSetting)) Accepted))))))))
+    (cond ((lengthsDiffer (call .hard .logical) || lengthsDiffer (call .hard .physical)) || softLengthsDiffer call) (Refused (numbered why.lengthsDiffer))
+    (cond (sizeBad 1 (size (call .hard .logical)) || sizeBad 1 (size (call .hard .physical))) (Refused (numbered why.listSize))
+    (cond (fieldsBad (call .hard .logical) || fieldsBad (call .hard .physical)) (Refused (numbered why.edgeOutOfRange))
+    (cond (confidenceBad (call .hard .logical .confidences) || confidenceBad (call .hard .physical .confidences)) (Refused (numbered why.badConfidence))
+    (cond (softLikelihoodBad call) (Refused (numbered why.badLikelihood))
+    (cond (transformsBad (call .hard .transforms)) (Refused (numbered why.badTransform))
+    (cond (tablesBad (call .hard .board)) (Refused (numbered why.badTable))
+    (cond (softSettingsBad call) (Refused (numbered why.badSetting)) Accepted))))))))
 
 -- "Match statistics use 2 to 5 and 7 to 9 and no room": one list, which may be empty, one transform number and one origin
 unfoldable pub statsAdmission : EdgeList → ℕ → ℕ → ℕ → Board → Admission

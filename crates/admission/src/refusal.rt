@@ -3,7 +3,9 @@ ghost use mathlib.Core.Path.{_≡_};
 ghost use mathlib.Core.Bool.{_||_, not};
 ghost use Rattle.laws.specs.Weights.{oneF};
 ghost use Rattle.board.specs.Hits.{edges, tables};
+ghost use Rattle.likelihood.specs.Likelihood.{likelihoods};
 ghost use Rattle.checks.specs.Checks.{inRange, marginTop, likelihoodsDiffer, originBad};
+ghost use Rattle.admission.specs.Calls.{hardCall, softCall};
 ghost use Rattle.admission.specs.Refusals.{refusedIf, roomShort, softRoomShort, tablesBad, listAdmission, likelihoodAdmission, settingsAdmission, hardAdmission, softAdmission, statsAdmission};
 use refusals::Admission;
 use refusals::Refusal;
@@ -23,14 +25,14 @@ fn refused_if(bad: bool, number: u32) -> Admission
 fn room_short(counts: usize, weights: usize) -> bool
     ensures { λ r. ⌜ r ≡ roomShort counts weights ⌝ }
 {
-    counts < 3006 || weights < 3006
+    counts < room::FLAT_TABLES || weights < room::FLAT_TABLES
 }
 
 // Whether the room of a soft call is too short: 5,010 i64 besides.
 fn soft_room_short(counts: usize, weights: usize, sums: usize) -> bool
     ensures { λ r. ⌜ r ≡ softRoomShort counts weights sums ⌝ }
 {
-    room_short(counts, weights) || sums < 5010
+    room_short(counts, weights) || sums < room::FLAT_SUMS
 }
 
 // Whether one of the two pattern tables is wrong.
@@ -141,9 +143,10 @@ pub fn hard_admission(
     weights: usize,
 ) -> Admission
     ensures { λ r. ⌜ r ≡ hardAdmission
+        (hardCall
         (edges (now (lrows .entry)) (now (lcols .entry)) (now (lorientations .entry)) (now (lbits .entry)) (now (lconfidences .entry)))
         (edges (now (prows .entry)) (now (pcols .entry)) (now (porientations .entry)) (now (pbits .entry)) (now (pconfidences .entry)))
-        (now (transforms .entry)) (tables (now (h .entry)) (now (v .entry))) limit counts weights ⌝ }
+        (now (transforms .entry)) (tables (now (h .entry)) (now (v .entry))) limit) counts weights ⌝ }
 {
     let room = refused_if(room_short(counts, weights), refusals::ROOM_TOO_SHORT);
     let logical = list_admission(1, lrows, lcols, lorientations, lbits, lconfidences);
@@ -168,6 +171,11 @@ fn limits_bad(limit: f32, margin: f32) -> bool
 
 // Numbers 1 to 9 of a soft call: the physical list has two likelihood slices besides, and the soft margin is checked with the limit.
 pub fn soft_admission(
+    lrows: &[i32],
+    lcols: &[i32],
+    lorientations: &[u8],
+    lbits: &[u8],
+    lconfidences: &[f32],
     prows: &[i32],
     pcols: &[i32],
     porientations: &[u8],
@@ -175,11 +183,6 @@ pub fn soft_admission(
     pconfidences: &[f32],
     matches: &[f32],
     mismatches: &[f32],
-    lrows: &[i32],
-    lcols: &[i32],
-    lorientations: &[u8],
-    lbits: &[u8],
-    lconfidences: &[f32],
     transforms: &[u8],
     h: &[u8],
     v: &[u8],
@@ -190,17 +193,18 @@ pub fn soft_admission(
     sums: usize,
 ) -> Admission
     ensures { λ r. ⌜ r ≡ softAdmission
-        (edges (now (prows .entry)) (now (pcols .entry)) (now (porientations .entry)) (now (pbits .entry)) (now (pconfidences .entry)))
-        (now (matches .entry)) (now (mismatches .entry))
+        (softCall
         (edges (now (lrows .entry)) (now (lcols .entry)) (now (lorientations .entry)) (now (lbits .entry)) (now (lconfidences .entry)))
-        (now (transforms .entry)) (tables (now (h .entry)) (now (v .entry))) limit margin counts weights sums ⌝ }
+        (edges (now (prows .entry)) (now (pcols .entry)) (now (porientations .entry)) (now (pbits .entry)) (now (pconfidences .entry)))
+        (likelihoods (now (matches .entry)) (now (mismatches .entry)))
+        (now (transforms .entry)) (tables (now (h .entry)) (now (v .entry))) limit margin) counts weights sums ⌝ }
 {
     let room = refused_if(
         soft_room_short(counts, weights, sums),
         refusals::ROOM_TOO_SHORT,
     );
-    let physical = list_admission(1, prows, pcols, porientations, pbits, pconfidences);
     let logical = list_admission(1, lrows, lcols, lorientations, lbits, lconfidences);
+    let physical = list_admission(1, prows, pcols, porientations, pbits, pconfidences);
     let likelihoods = likelihood_admission(prows.len(), matches, mismatches);
     let settings = settings_admission(
         checks::check::transforms_bad(transforms),
@@ -209,7 +213,7 @@ pub fn soft_admission(
     );
     first_of(
         room,
-        first_of(first_of(first_of(physical, logical), likelihoods), settings),
+        first_of(first_of(first_of(logical, physical), likelihoods), settings),
     )
 }
 

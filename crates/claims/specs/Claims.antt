@@ -17,6 +17,8 @@ use Rattle.sums.specs.Sums.{Likelihoods}
 use Rattle.refusals.specs.declared.Refusal.{Refusal}
 use Rattle.refusals.specs.declared.Admission.{Admission}
 use Rattle.refusals.specs.declared.Admission.the-variants as admission
+use Rattle.room.specs.Room.{tablesRoom, sumsRoom, flatTables, flatSums, flat-room}
+use Rattle.admission.specs.Calls.{HardCall, SoftCall}
 use Rattle.admission.specs.Refusals.{hardAdmission, softAdmission, statsAdmission}
 use Rattle.admission.specs.Accepted.{HardAccepted, hard-accepted, SoftAccepted, soft-accepted}
 use Rattle.figures.specs.Figures.{noConfidence}
@@ -59,100 +61,105 @@ module _ {A : Type 0} (d zero : A) (n : ℕ) (a : Admission) (old : List A) wher
   unfolding left
   left-emptied h room = rw h (let w = cleared-written d zero n old room in record { len = w .len; used = w .front; surplus = w .back })
 
+-- the same of what a call left, where n is m
+pub left-zero : {A : Type 0} (d zero : A) (n m : ℕ) (a : Admission) (old new : List A) → n ≡ m → a ≡ admission.Accepted → n ≤ length old → new ≡ left zero n a old → Emptied d zero m old new
+left-zero d zero n m a old new u h room e = rw (e, ← u) (left-emptied d zero n a old h room)
+
 found-only : (a : Admission) (x : Answer) (d : Decoded) → Found d ≡ whenAccepted a x → (a ≡ admission.Accepted) × (x ≡ Found d)
 found-only admission.Accepted x d e = (refl, sym e)
 found-only (admission.Refused r) x d e = let z : _≡_ {A = ℕ} 0 1 = cc in absurd (omega arith)
 
 -- ---- HARD DECODE
-module _ (L P : EdgeList) (ts : List ℕ) (B : Board) (limit : Float) (c c' : List ℕ) (w w' : List Float) (r : Answer) (done : HardDone L P ts B limit c c' w w' r) where
+module _ (call : HardCall) (c c' : List ℕ) (w w' : List Float) (r : Answer) (done : HardDone call c c' w w' r) where
   -- what the checks say of the call
   abbrev hardChecked : Admission
-  hardChecked = hardAdmission L P ts B limit (length c) (length w)
+  hardChecked = hardAdmission call (length c) (length w)
 
   -- refusals 1 to 9: the number of document 01, and both slices as they were
   pub hard-refused-early : (x : Refusal) → hardChecked ≡ admission.Refused x → (r ≡ Refused x) × (c' ≡ c) × (w' ≡ w)
   unfolding hardAnswer
   hard-refused-early x h = (
-    done .answer ∙ ap (λ (y : Admission). whenAccepted y (hardCore L P ts B limit)) h,
-    done .counts ∙ left-untouched 0 0 3006 hardChecked c x h,
-    done .weights ∙ left-untouched nan zeroF 3006 hardChecked w x h,
+    done .answer ∙ ap (λ (y : Admission). whenAccepted y (hardCore call)) h,
+    done .counts ∙ left-untouched 0 0 (tablesRoom (call .board)) hardChecked c x h,
+    done .weights ∙ left-untouched nan zeroF (tablesRoom (call .board)) hardChecked w x h,
   )
 
-  accepted : hardChecked ≡ admission.Accepted → HardAccepted L P ts B limit (length c) (length w)
-  accepted h = hard-accepted L P ts B limit (length c) (length w) h
+  accepted : hardChecked ≡ admission.Accepted → HardAccepted call (length c) (length w)
+  accepted h = hard-accepted call (length c) (length w) h
 
   -- every other call: the first 3,006 places are zero, the surplus as it was
-  pub hard-room-zero : hardChecked ≡ admission.Accepted → Emptied 0 0 3006 c c' × Emptied nan zeroF 3006 w w'
-  hard-room-zero h = (
-    subst (λ (l : List ℕ). Emptied 0 0 3006 c l) (sym (done .counts)) (left-emptied 0 0 3006 hardChecked c h (accepted h .room .0)),
-    subst (λ (l : List Float). Emptied nan zeroF 3006 w l) (sym (done .weights)) (left-emptied nan zeroF 3006 hardChecked w h (accepted h .room .1)),
-  )
+  pub hard-room-zero : hardChecked ≡ admission.Accepted → Emptied 0 0 flatTables c c' × Emptied nan zeroF flatTables w w'
+  hard-room-zero h =
+      let u = flat-room (call .board) (accepted h .periods) .0 in
+      (left-zero 0 0 (tablesRoom (call .board)) flatTables hardChecked c c' u h (accepted h .room .0) (done .counts), left-zero nan zeroF (tablesRoom (call .board)) flatTables hardChecked w w' u h (accepted h .room .1) (done .weights))
 
   -- DEMAND 2: the answer is document 01's
-  pub hard-by-the-rules : r ≡ hardAnswer L P ts B limit (length c) (length w)
+  pub hard-by-the-rules : r ≡ hardAnswer call (length c) (length w)
   hard-by-the-rules = done .answer
 
   -- DEMAND 3, found means true: some placing of the logical list leads and agrees, and the answer tells it
-  pub hard-found : (d : Decoded) → r ≡ Found d → (h : hardChecked ≡ admission.Accepted) × Answered L P ts B limit (length c) (length w) (hard-accepted L P ts B limit (length c) (length w) h) d
+  pub hard-found : (d : Decoded) → r ≡ Found d → (h : hardChecked ≡ admission.Accepted) × Answered call (length c) (length w) (hard-accepted call (length c) (length w) h) d
   unfolding hardAnswer
   hard-found d e =
-      let f = found-only hardChecked (hardCore L P ts B limit) d (sym e ∙ done .answer) in
-      (f .0, hard-sound L P ts B limit (length c) (length w) (hard-accepted L P ts B limit (length c) (length w) (f .0)) d (f .1))
+      let f = found-only hardChecked (hardCore call) d (sym e ∙ done .answer) in
+      (f .0, hard-sound call (length c) (length w) (hard-accepted call (length c) (length w) (f .0)) d (f .1))
 
   -- DEMAND 3, a true square is found, and it is the one that the answer names
-  pub hard-finds : hardChecked ≡ admission.Accepted → noConfidence L ≡ false → (Q : Placing) → Leads B L ts limit Q → AgreesPhysical B P ts Q → (d : Decoded) × (r ≡ Found d) × Names ts Q (d .square)
+  pub hard-finds : hardChecked ≡ admission.Accepted → noConfidence (call .logical) ≡ false → (Q : Placing) → Leads (call .board) (call .logical) (call .transforms) (call .error-limit) Q → AgreesPhysical (call .board) (call .physical) (call .transforms) Q → (d : Decoded) × (r ≡ Found d) × Names (call .transforms) Q (d .square)
   unfolding hardAnswer
   hard-finds h k Q l a =
-      let f = hard-complete L P ts B limit (length c) (length w) (accepted h) k Q l a in
-      let s = hard-sound L P ts B limit (length c) (length w) (accepted h) (f .0) (f .1) in
-      (f .0, done .answer ∙ ap (λ (y : Admission). whenAccepted y (hardCore L P ts B limit)) h ∙ f .1, leader-named B L ts limit Q (s .square) (f .0 .square) l (s .leads) (s .tells .square))
+      let f = hard-complete call (length c) (length w) (accepted h) k Q l a in
+      let s = hard-sound call (length c) (length w) (accepted h) (f .0) (f .1) in
+      (f .0, done .answer ∙ ap (λ (y : Admission). whenAccepted y (hardCore call)) h ∙ f .1, leader-named (call .board) (call .logical) (call .transforms) (call .error-limit) Q (s .square) (f .0 .square) l (s .leads) (s .tells .square))
 
 -- ---- SOFT DECODE
-module _ (P : EdgeList) (X : Likelihoods) (L : EdgeList) (ts : List ℕ) (B : Board) (limit least : Float) (c c' : List ℕ) (w w' : List Float) (a a' : List ℤ) (r : Answer) (done : SoftDone P X L ts B limit least c c' w w' a a' r) where
+module _ (call : SoftCall) (c c' : List ℕ) (w w' : List Float) (a a' : List ℤ) (r : Answer) (done : SoftDone call c c' w w' a a' r) where
   -- what the checks say of the call
   abbrev softChecked : Admission
-  softChecked = softAdmission P (X .matches) (X .mismatches) L ts B limit least (length c) (length w) (length a)
+  softChecked = softAdmission call (length c) (length w) (length a)
 
   -- refusals 1 to 9: the number of document 01, and all three slices as they were
   pub soft-refused-early : (x : Refusal) → softChecked ≡ admission.Refused x → (r ≡ Refused x) × (c' ≡ c) × (w' ≡ w) × (a' ≡ a)
   unfolding softAnswer
   soft-refused-early x h = (
-    done .answer ∙ ap (λ (y : Admission). whenAccepted y (softCore P X L ts B limit least)) h,
-    done .counts ∙ left-untouched 0 0 3006 softChecked c x h,
-    done .weights ∙ left-untouched nan zeroF 3006 softChecked w x h,
-    done .sums ∙ left-untouched (pos 0) (pos 0) 5010 softChecked a x h,
+    done .answer ∙ ap (λ (y : Admission). whenAccepted y (softCore call)) h,
+    done .counts ∙ left-untouched 0 0 (tablesRoom (call .hard .board)) softChecked c x h,
+    done .weights ∙ left-untouched nan zeroF (tablesRoom (call .hard .board)) softChecked w x h,
+    done .sums ∙ left-untouched (pos 0) (pos 0) (sumsRoom (call .hard .board)) softChecked a x h,
   )
 
-  taken : softChecked ≡ admission.Accepted → SoftAccepted P (X .matches) (X .mismatches) L ts B limit least (length c) (length w) (length a)
-  taken h = soft-accepted P (X .matches) (X .mismatches) L ts B limit least (length c) (length w) (length a) h
+  taken : softChecked ≡ admission.Accepted → SoftAccepted call (length c) (length w) (length a)
+  taken h = soft-accepted call (length c) (length w) (length a) h
 
   -- every other call: the first 3,006, 3,006 and 5,010 places are zero, the surplus as it was
-  pub soft-room-zero : softChecked ≡ admission.Accepted → Emptied 0 0 3006 c c' × Emptied nan zeroF 3006 w w' × Emptied (pos 0) (pos 0) 5010 a a'
-  soft-room-zero h = (
-    subst (λ (l : List ℕ). Emptied 0 0 3006 c l) (sym (done .counts)) (left-emptied 0 0 3006 softChecked c h (taken h .room .0)),
-    subst (λ (l : List Float). Emptied nan zeroF 3006 w l) (sym (done .weights)) (left-emptied nan zeroF 3006 softChecked w h (taken h .room .1)),
-    subst (λ (l : List ℤ). Emptied (pos 0) (pos 0) 5010 a l) (sym (done .sums)) (left-emptied (pos 0) (pos 0) 5010 softChecked a h (taken h .room .2)),
-  )
+  pub soft-room-zero : softChecked ≡ admission.Accepted → Emptied 0 0 flatTables c c' × Emptied nan zeroF flatTables w w' × Emptied (pos 0) (pos 0) flatSums a a'
+  soft-room-zero h =
+      let A = taken h in
+      let u = flat-room (call .hard .board) (A .hard .periods) in (
+        left-zero 0 0 (tablesRoom (call .hard .board)) flatTables softChecked c c' (u .0) h (A .hard .room .0) (done .counts),
+        left-zero nan zeroF (tablesRoom (call .hard .board)) flatTables softChecked w w' (u .0) h (A .hard .room .1) (done .weights),
+        left-zero (pos 0) (pos 0) (sumsRoom (call .hard .board)) flatSums softChecked a a' (u .1) h (A .room) (done .sums),
+      )
 
   -- DEMAND 2: the answer is document 01's
-  pub soft-by-the-rules : r ≡ softAnswer P X L ts B limit least (length c) (length w) (length a)
+  pub soft-by-the-rules : r ≡ softAnswer call (length c) (length w) (length a)
   soft-by-the-rules = done .answer
 
   -- DEMAND 3, found means true: its own best placing clears the margin and leads on the logical list
-  pub soft-found : (d : Decoded) → r ≡ Found d → SoftAnswered P X L ts B limit least d
+  pub soft-found : (d : Decoded) → r ≡ Found d → SoftAnswered call d
   unfolding softAnswer
   soft-found d e =
-      let f = found-only softChecked (softCore P X L ts B limit least) d (sym e ∙ done .answer) in
-      soft-sound P X L ts B limit least (length c) (length w) (length a) (taken (f .0)) d (f .1)
+      let f = found-only softChecked (softCore call) d (sym e ∙ done .answer) in
+      soft-sound call (length c) (length w) (length a) (taken (f .0)) d (f .1)
 
   -- DEMAND 3, a true square is found, and it is the one that the answer names
-  pub soft-finds : softChecked ≡ admission.Accepted → noConfidence P ≡ false → noConfidence L ≡ false → (Q R : Placing) → BestByLikelihood B P X ts Q R
-      → belowMargin (marginOf B P X ts Q R) least ≡ false → Leads B L ts limit Q → (d : Decoded) × (r ≡ Found d) × Names ts Q (d .square)
+  pub soft-finds : softChecked ≡ admission.Accepted → noConfidence (call .hard .physical) ≡ false → noConfidence (call .hard .logical) ≡ false → (Q R : Placing) → BestByLikelihood (call .hard .board) (call .hard .physical) (call .likelihoods) (call .hard .transforms) Q R
+      → belowMargin (marginOf (call .hard .board) (call .hard .physical) (call .likelihoods) (call .hard .transforms) Q R) (call .soft-margin) ≡ false → Leads (call .hard .board) (call .hard .logical) (call .hard .transforms) (call .hard .error-limit) Q → (d : Decoded) × (r ≡ Found d) × Names (call .hard .transforms) Q (d .square)
   unfolding softAnswer
   soft-finds h k g Q R b m l =
-      let f = soft-complete P X L ts B limit least (length c) (length w) (length a) (taken h) k g Q R b m l in
-      let s = soft-sound P X L ts B limit least (length c) (length w) (length a) (taken h) (f .0) (f .1) in
-      (f .0, done .answer ∙ ap (λ (y : Admission). whenAccepted y (softCore P X L ts B limit least)) h ∙ f .1, leader-named B L ts limit Q (s .square) (f .0 .square) l (s .leads) (s .names))
+      let f = soft-complete call (length c) (length w) (length a) (taken h) k g Q R b m l in
+      let s = soft-sound call (length c) (length w) (length a) (taken h) (f .0) (f .1) in
+      (f .0, done .answer ∙ ap (λ (y : Admission). whenAccepted y (softCore call)) h ∙ f .1, leader-named (call .hard .board) (call .hard .logical) (call .hard .transforms) (call .hard .error-limit) Q (s .square) (f .0 .square) l (s .leads) (s .names))
 
 -- ---- MATCH STATISTICS
 module _ (E : EdgeList) (t row col : ℕ) (B : Board) (r : StatsAnswer) (done : r ≡ statsAnswer E t row col B) where

@@ -10,14 +10,14 @@ use lib.IntN.{ℤ}
 use lib.Ieee.{Float}
 use Rattle.laws.specs.Weights.{oneF}
 use Rattle.board.specs.Hits.{EdgeList, Board, size}
-use Rattle.sums.specs.Sums.{Likelihoods}
 use Rattle.refusals.specs.declared.Refusal.{Refusal}
 use Rattle.refusals.specs.declared.Admission.{Admission}
 use Rattle.refusals.specs.declared.Admission.the-variants as admission
 use Rattle.refusals.specs.Numbers.{numbered}
 use Rattle.refusals.specs.Numbers as why
-use Rattle.checks.specs.Checks.{inRange, marginTop, lengthsDiffer, sizeBad, confidenceBad, likelihoodsDiffer, likelihoodBad, transformsBad, originBad}
-use Rattle.admission.specs.Refusals.{fieldsBad, tablesBad, roomShort, softRoomShort, hardAdmission, softAdmission, statsAdmission}
+use Rattle.checks.specs.Checks.{inRange, lengthsDiffer, sizeBad, confidenceBad, transformsBad, originBad}
+use Rattle.admission.specs.Calls.{HardCall, SoftCall}
+use Rattle.admission.specs.Refusals.{fieldsBad, tablesBad, roomShort, softRoomShort, softLengthsDiffer, softLikelihoodBad, softSettingsBad, hardAdmission, softAdmission, statsAdmission}
 use Rattle.scan.specs.declared.scan.Choice.{Choice}
 use Rattle.scan.specs.declared.scan.Choice.the-variants as choice
 use Rattle.scan.specs.declared.scan.Candidate.{Candidate}
@@ -74,31 +74,31 @@ not-accepted : (r : Refusal) → admission.Accepted ≡ admission.Refused r → 
 not-accepted r h = let z : _≡_ {A = ℕ} 0 1 = cc in omega arith
 
 -- the checks refuse by such numbers alone
-hard-numbered : (L P : EdgeList) (ts : List ℕ) (B : Board) (limit : Float) (m n : ℕ) → Numbered (hardAdmission L P ts B limit m n)
+hard-numbered : (call : HardCall) (m n : ℕ) → Numbered (hardAdmission call m n)
 unfolding hardAdmission
-hard-numbered L P ts B limit m n r h z =
+hard-numbered call m n r h z =
     let n1 = later (roomShort m n) why.roomTooShort _ r (λ q. omega arith) z h in
-    let n2 = later (lengthsDiffer L || lengthsDiffer P) why.lengthsDiffer _ r (λ q. omega arith) z n1 in
-    let n3 = later (sizeBad 1 (size L) || sizeBad 1 (size P)) why.listSize _ r (λ q. omega arith) z n2 in
-    let n4 = later (fieldsBad L || fieldsBad P) why.edgeOutOfRange _ r (λ q. omega arith) z n3 in
-    let n5 = later (confidenceBad (L .confidences) || confidenceBad (P .confidences)) why.badConfidence _ r (λ q. omega arith) z n4 in
-    let n6 = later (transformsBad ts) why.badTransform _ r (λ q. omega arith) z n5 in
-    let n7 = later (tablesBad B) why.badTable _ r (λ q. omega arith) z n6 in
-    let n8 = later (not (inRange oneF limit)) why.badSetting _ r (λ q. omega arith) z n7 in
+    let n2 = later (lengthsDiffer (call .logical) || lengthsDiffer (call .physical)) why.lengthsDiffer _ r (λ q. omega arith) z n1 in
+    let n3 = later (sizeBad 1 (size (call .logical)) || sizeBad 1 (size (call .physical))) why.listSize _ r (λ q. omega arith) z n2 in
+    let n4 = later (fieldsBad (call .logical) || fieldsBad (call .physical)) why.edgeOutOfRange _ r (λ q. omega arith) z n3 in
+    let n5 = later (confidenceBad (call .logical .confidences) || confidenceBad (call .physical .confidences)) why.badConfidence _ r (λ q. omega arith) z n4 in
+    let n6 = later (transformsBad (call .transforms)) why.badTransform _ r (λ q. omega arith) z n5 in
+    let n7 = later (tablesBad (call .board)) why.badTable _ r (λ q. omega arith) z n6 in
+    let n8 = later (not (inRange oneF (call .error-limit))) why.badSetting _ r (λ q. omega arith) z n7 in
     not-accepted r n8
 
-soft-numbered : (P : EdgeList) (ms us : List Float) (L : EdgeList) (ts : List ℕ) (B : Board) (limit least : Float) (m n k : ℕ) → Numbered (softAdmission P ms us L ts B limit least m n k)
+soft-numbered : (call : SoftCall) (m n k : ℕ) → Numbered (softAdmission call m n k)
 unfolding softAdmission
-soft-numbered P ms us L ts B limit least m n k r h z =
+soft-numbered call m n k r h z =
     let n1 = later (softRoomShort m n k) why.roomTooShort _ r (λ q. omega arith) z h in
-    let n2 = later ((lengthsDiffer P || lengthsDiffer L) || likelihoodsDiffer (size P) ms us) why.lengthsDiffer _ r (λ q. omega arith) z n1 in
-    let n3 = later (sizeBad 1 (size P) || sizeBad 1 (size L)) why.listSize _ r (λ q. omega arith) z n2 in
-    let n4 = later (fieldsBad P || fieldsBad L) why.edgeOutOfRange _ r (λ q. omega arith) z n3 in
-    let n5 = later (confidenceBad (P .confidences) || confidenceBad (L .confidences)) why.badConfidence _ r (λ q. omega arith) z n4 in
-    let n6 = later (likelihoodBad ms us) why.badLikelihood _ r (λ q. omega arith) z n5 in
-    let n7 = later (transformsBad ts) why.badTransform _ r (λ q. omega arith) z n6 in
-    let n8 = later (tablesBad B) why.badTable _ r (λ q. omega arith) z n7 in
-    let n9 = later (not (inRange oneF limit) || not (inRange marginTop least)) why.badSetting _ r (λ q. omega arith) z n8 in
+    let n2 = later ((lengthsDiffer (call .hard .logical) || lengthsDiffer (call .hard .physical)) || softLengthsDiffer call) why.lengthsDiffer _ r (λ q. omega arith) z n1 in
+    let n3 = later (sizeBad 1 (size (call .hard .logical)) || sizeBad 1 (size (call .hard .physical))) why.listSize _ r (λ q. omega arith) z n2 in
+    let n4 = later (fieldsBad (call .hard .logical) || fieldsBad (call .hard .physical)) why.edgeOutOfRange _ r (λ q. omega arith) z n3 in
+    let n5 = later (confidenceBad (call .hard .logical .confidences) || confidenceBad (call .hard .physical .confidences)) why.badConfidence _ r (λ q. omega arith) z n4 in
+    let n6 = later (softLikelihoodBad call) why.badLikelihood _ r (λ q. omega arith) z n5 in
+    let n7 = later (transformsBad (call .hard .transforms)) why.badTransform _ r (λ q. omega arith) z n6 in
+    let n8 = later (tablesBad (call .hard .board)) why.badTable _ r (λ q. omega arith) z n7 in
+    let n9 = later (softSettingsBad call) why.badSetting _ r (λ q. omega arith) z n8 in
     not-accepted r n9
 
 stats-numbered : (E : EdgeList) (t row col : ℕ) (B : Board) → Numbered (statsAdmission E t row col B)
@@ -130,22 +130,22 @@ tells-physical L ts w next true c = tells-refused _ (λ z. omega arith)
 tells-physical L ts w next false choice.Nothing = tells-refused _ (λ z. omega arith)
 tells-physical L ts w next false (choice.Chosen p other) = tells-judged _ w next _ p _
 
-tells-logical : (L P : EdgeList) (ts : List ℕ) (B : Board) (b : Bool) (c : Choice) → Tells (afterLogical L P ts B (orRefused b c))
+tells-logical : (call : HardCall) (b : Bool) (c : Choice) → Tells (afterLogical call (orRefused b c))
 unfolding selection
-tells-logical L P ts B true c = tells-refused _ (λ z. omega arith)
-tells-logical L P ts B false choice.Nothing = tells-refused _ (λ z. omega arith)
-tells-logical L P ts B false (choice.Chosen w next) = tells-physical L ts w next (noConfidence P) (chosen (scanOf B P ts oneF (length ts)))
+tells-logical call true c = tells-refused _ (λ z. omega arith)
+tells-logical call false choice.Nothing = tells-refused _ (λ z. omega arith)
+tells-logical call false (choice.Chosen w next) = tells-physical (call .logical) (call .transforms) w next (noConfidence (call .physical)) (chosen (scanOf (call .board) (call .physical) (call .transforms) oneF (length (call .transforms))))
 
-tells-hard : (L P : EdgeList) (ts : List ℕ) (B : Board) (limit : Float) (m n : ℕ) → Tells (hardAnswer L P ts B limit m n)
+tells-hard : (call : HardCall) (m n : ℕ) → Tells (hardAnswer call m n)
 unfolding hardAnswer hardCore selection
-tells-hard L P ts B limit m n =
-    tells-or (hardAdmission L P ts B limit m n) _ (hard-numbered L P ts B limit m n) (tells-logical L P ts B (noConfidence L) (chosen (scanOf B L ts limit (length ts))))
+tells-hard call m n =
+    tells-or (hardAdmission call m n) _ (hard-numbered call m n) (tells-logical call (noConfidence (call .logical)) (chosen (scanOf (call .board) (call .logical) (call .transforms) (call .error-limit) (length (call .transforms)))))
 
 -- HARD: the number is 0 only where the library found
-pub hard-zero-found : (L P : EdgeList) (ts : List ℕ) (B : Board) (limit : Float) (c c' : List ℕ) (w w' : List Float) (r : FlatAnswer) → (h : HardFlat L P ts B limit c c' w w' r) → r .refusal ≡ notRefused
+pub hard-zero-found : (call : HardCall) (c c' : List ℕ) (w w' : List Float) (r : FlatAnswer) → (h : HardFlat call c c' w w' r) → r .refusal ≡ notRefused
     → (d : Decoded) × (h .told ≡ Found d)
-hard-zero-found L P ts B limit c c' w w' r h e =
-    subst Tells (sym (h .done .answer)) (tells-hard L P ts B limit (length c) (length w)) (ap (λ (x : FlatAnswer). x .refusal) (sym (h .shown)) ∙ e)
+hard-zero-found call c c' w w' r h e =
+    subst Tells (sym (h .done .answer)) (tells-hard call (length c) (length w)) (ap (λ (x : FlatAnswer). x .refusal) (sym (h .shown)) ∙ e)
 
 -- ---- soft decode
 verdict-numbered : (t : ℕ) (first : SoftCandidate) (s : ℕ) (w : Candidate) (next : RunnerUp) (edges : ℕ) → Numbered (softVerdict t first s w next edges)
@@ -157,32 +157,32 @@ verdict-numbered t first s w next edges r h z = go (eqb t s && (eqb (first .row)
     go true false e = not-accepted r (later true why.notFarAhead _ r (λ q. omega arith) z e)
     go false b e = not-accepted r (later true why.softHardDisagree _ r (λ q. omega arith) z e)
 
-tells-hard-too : (P L : EdgeList) (ts : List ℕ) (B : Board) (limit : Float) (best : SoftBest) (b : Bool) (c : Choice) → Tells (afterHard P L ts B limit best (orRefused b c))
+tells-hard-too : (call : HardCall) (best : SoftBest) (b : Bool) (c : Choice) → Tells (afterHard call best (orRefused b c))
 unfolding softJudged
-tells-hard-too P L ts B limit best true c = tells-refused _ (λ z. omega arith)
-tells-hard-too P L ts B limit best false choice.Nothing = tells-refused _ (λ z. omega arith)
-tells-hard-too P L ts B limit best false (choice.Chosen w next) =
-    let t = getD ts (best .first .listed) 0 in
-    tells-or (softVerdict t (best .first) (getD ts (w .listed) 0) w next (size L)) (Found (softDecodedOf t best (figuresOf B P t (best .first .row) (best .first .col)) (size P) next)) (verdict-numbered t (best .first) (getD ts (w .listed) 0) w next (size L)) (tells-found _)
+tells-hard-too call best true c = tells-refused _ (λ z. omega arith)
+tells-hard-too call best false choice.Nothing = tells-refused _ (λ z. omega arith)
+tells-hard-too call best false (choice.Chosen w next) =
+    let t = getD (call .transforms) (best .first .listed) 0 in
+    tells-or (softVerdict t (best .first) (getD (call .transforms) (w .listed) 0) w next (size (call .logical))) (Found (softDecodedOf t best (figuresOf (call .board) (call .physical) t (best .first .row) (best .first .col)) (size (call .physical)) next)) (verdict-numbered t (best .first) (getD (call .transforms) (w .listed) 0) w next (size (call .logical))) (tells-found _)
 
-tells-after-soft : (P L : EdgeList) (ts : List ℕ) (B : Board) (limit least : Float) (c : SoftChoice) → Tells (afterSoft P L ts B limit least c)
+tells-after-soft : (call : HardCall) (least : Float) (c : SoftChoice) → Tells (afterSoft call least c)
 unfolding selection
-tells-after-soft P L ts B limit least soft.Nothing = tells-refused _ (λ z. omega arith)
-tells-after-soft P L ts B limit least (soft.Chosen first second) =
-    tells-pick (belowMargin (softMargin first second (size P)) least) _ _ (tells-refused _ (λ z. omega arith))
-    (tells-hard-too P L ts B limit (bestOf first second (size P)) (noConfidence L) (chosen (scanOf B L ts limit (length ts))))
+tells-after-soft call least soft.Nothing = tells-refused _ (λ z. omega arith)
+tells-after-soft call least (soft.Chosen first second) =
+    tells-pick (belowMargin (softMargin first second (size (call .physical))) least) _ _ (tells-refused _ (λ z. omega arith))
+    (tells-hard-too call (bestOf first second (size (call .physical))) (noConfidence (call .logical)) (chosen (scanOf (call .board) (call .logical) (call .transforms) (call .error-limit) (length (call .transforms)))))
 
-tells-soft : (P : EdgeList) (X : Likelihoods) (L : EdgeList) (ts : List ℕ) (B : Board) (limit least : Float) (m n k : ℕ) → Tells (softAnswer P X L ts B limit least m n k)
+tells-soft : (call : SoftCall) (m n k : ℕ) → Tells (softAnswer call m n k)
 unfolding softAnswer softCore
-tells-soft P X L ts B limit least m n k =
-    tells-or (softAdmission P (X .matches) (X .mismatches) L ts B limit least m n k) _ (soft-numbered P (X .matches) (X .mismatches) L ts B limit least m n k)
-    (tells-pick (noConfidence P) _ _ (tells-refused _ (λ z. omega arith)) (tells-after-soft P L ts B limit least (softSelection B P X ts)))
+tells-soft call m n k =
+    tells-or (softAdmission call m n k) _ (soft-numbered call m n k)
+    (tells-pick (noConfidence (call .hard .physical)) _ _ (tells-refused _ (λ z. omega arith)) (tells-after-soft (call .hard) (call .soft-margin) (softSelection (call .hard .board) (call .hard .physical) (call .likelihoods) (call .hard .transforms))))
 
 -- SOFT: the same
-pub soft-zero-found : (P : EdgeList) (X : Likelihoods) (L : EdgeList) (ts : List ℕ) (B : Board) (limit least : Float) (c c' : List ℕ) (w w' : List Float) (a a' : List ℤ) (r : FlatAnswer)
-    → (h : SoftFlat P X L ts B limit least c c' w w' a a' r) → r .refusal ≡ notRefused → (d : Decoded) × (h .told ≡ Found d)
-soft-zero-found P X L ts B limit least c c' w w' a a' r h e =
-    subst Tells (sym (h .done .answer)) (tells-soft P X L ts B limit least (length c) (length w) (length a)) (ap (λ (x : FlatAnswer). x .refusal) (sym (h .shown)) ∙ e)
+pub soft-zero-found : (call : SoftCall) (c c' : List ℕ) (w w' : List Float) (a a' : List ℤ) (r : FlatAnswer)
+    → (h : SoftFlat call c c' w w' a a' r) → r .refusal ≡ notRefused → (d : Decoded) × (h .told ≡ Found d)
+soft-zero-found call c c' w w' a a' r h e =
+    subst Tells (sym (h .done .answer)) (tells-soft call (length c) (length w) (length a)) (ap (λ (x : FlatAnswer). x .refusal) (sym (h .shown)) ∙ e)
 
 -- ---- MATCH STATISTICS: the same
 pub stats-zero-counted : (E : EdgeList) (t row col : ℕ) (B : Board) → flatStats (statsAnswer E t row col B) .refusal ≡ notRefused → (s : MatchStats) × (statsAnswer E t row col B ≡ stats.Counted s)

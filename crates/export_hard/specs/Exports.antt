@@ -3,14 +3,14 @@ use mathlib.Core.Path.{_≡_}
 use mathlib.Core.List.{List}
 use Prim.Native.Nat.{ℕ}
 use lib.Ieee.{Float}
-use Rattle.board.specs.Hits.{EdgeList, Board}
+use Rattle.admission.specs.Calls.{HardCall}
 use Rattle.answer.specs.declared.Answer.{Answer}
 use Rattle.puzzleboard.specs.Hard.{HardDone}
 use Rattle.flat.specs.declared.flat.FlatAnswer.{FlatAnswer}
 use Rattle.flat.specs.Flat.{flat}
 
 -- hard decode: r is the struct of what `decode_hard` promises to tell, and both room slices are what it promises to leave
-pub record HardFlat (L P : EdgeList) (ts : List ℕ) (B : Board) (limit : Float) (c c' : List ℕ) (w w' : List Float) (r : FlatAnswer) : Type 0 where
+pub record HardFlat (call : HardCall) (c c' : List ℕ) (w w' : List Float) (r : FlatAnswer) : Type 0 where
   pub told : Answer
-  pub done : HardDone L P ts B limit c c' w w' told
+  pub done : HardDone call c c' w w' told
   pub shown : r ≡ flat told

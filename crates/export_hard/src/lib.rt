@@ -1,5 +1,6 @@
 // Hard decode for C and Rust programs: each slice is a pointer and then its length.
 ghost use Rattle.board.specs.Hits.{edges, tables};
+ghost use Rattle.admission.specs.Calls.{hardCall};
 ghost use Rattle.export_hard.specs.Exports.{HardFlat};
 use flat::flat::FlatAnswer;
 
@@ -24,9 +25,10 @@ pub extern "C" fn samburext_decode_hard<'a>(
     weights: &mut [f32],
 ) -> FlatAnswer
     ensures { λ r. ⌜ HardFlat
+        (hardCall
         (edges (now (lrows .entry)) (now (lcols .entry)) (now (lorientations .entry)) (now (lbits .entry)) (now (lconfidences .entry)))
         (edges (now (prows .entry)) (now (pcols .entry)) (now (porientations .entry)) (now (pbits .entry)) (now (pconfidences .entry)))
-        (now (transforms .entry)) (tables (now (h .entry)) (now (v .entry))) limit
+        (now (transforms .entry)) (tables (now (h .entry)) (now (v .entry))) limit)
         (now (counts .entry)) (now (counts .exit)) (now (weights .entry)) (now (weights .exit)) r ⌝ }
 {
     let answer = puzzleboard::hard_decode::decode_hard(

@@ -4,16 +4,15 @@ use mathlib.Core.List.{List}
 use Prim.Native.Nat.{ℕ}
 use lib.IntN.{ℤ}
 use lib.Ieee.{Float}
-use Rattle.board.specs.Hits.{EdgeList, Board}
-use Rattle.sums.specs.Sums.{Likelihoods}
+use Rattle.admission.specs.Calls.{SoftCall}
 use Rattle.puzzleboard.specs.SoftLaws.{soft-unique}
 use Rattle.flat.specs.declared.flat.FlatAnswer.{FlatAnswer}
 use Rattle.flat.specs.Flat.{flat}
 use Rattle.export_soft.specs.Exports.{SoftFlat}
 
 -- any two results that the contract of soft decode allows are equal
-pub soft-flat-unique : (P : EdgeList) (X : Likelihoods) (L : EdgeList) (ts : List ℕ) (B : Board) (limit least : Float) (c c' d' : List ℕ) (w w' x' : List Float) (a a' b' : List ℤ) (r s : FlatAnswer)
-    → SoftFlat P X L ts B limit least c c' w w' a a' r → SoftFlat P X L ts B limit least c d' w x' a b' s → (r ≡ s) × (c' ≡ d') × (w' ≡ x') × (a' ≡ b')
-soft-flat-unique P X L ts B limit least c c' d' w w' x' a a' b' r s p q =
-    let u = soft-unique P X L ts B limit least c w a c' d' w' x' a' b' (p .told) (q .told) (p .done) (q .done) in
+pub soft-flat-unique : (call : SoftCall) (c c' d' : List ℕ) (w w' x' : List Float) (a a' b' : List ℤ) (r s : FlatAnswer)
+    → SoftFlat call c c' w w' a a' r → SoftFlat call c d' w x' a b' s → (r ≡ s) × (c' ≡ d') × (w' ≡ x') × (a' ≡ b')
+soft-flat-unique call c c' d' w w' x' a a' b' r s p q =
+    let u = soft-unique call c w a c' d' w' x' a' b' (p .told) (q .told) (p .done) (q .done) in
     (p .shown ∙ ap flat (u .0) ∙ sym (q .shown), u .1, u .2, u .3)

@@ -4,15 +4,14 @@ use mathlib.Core.List.{List}
 use Prim.Native.Nat.{ℕ}
 use lib.IntN.{ℤ}
 use lib.Ieee.{Float}
-use Rattle.board.specs.Hits.{EdgeList, Board}
-use Rattle.sums.specs.Sums.{Likelihoods}
+use Rattle.admission.specs.Calls.{SoftCall}
 use Rattle.answer.specs.declared.Answer.{Answer}
 use Rattle.puzzleboard.specs.Soft.{SoftDone}
 use Rattle.flat.specs.declared.flat.FlatAnswer.{FlatAnswer}
 use Rattle.flat.specs.Flat.{flat}
 
 -- r is the struct of what `decode_soft` promises to tell, and all three room slices are what it promises to leave
-pub record SoftFlat (P : EdgeList) (X : Likelihoods) (L : EdgeList) (ts : List ℕ) (B : Board) (limit least : Float) (c c' : List ℕ) (w w' : List Float) (a a' : List ℤ) (r : FlatAnswer) : Type 0 where
+pub record SoftFlat (call : SoftCall) (c c' : List ℕ) (w w' : List Float) (a a' : List ℤ) (r : FlatAnswer) : Type 0 where
   pub told : Answer
-  pub done : SoftDone P X L ts B limit least c c' w w' a a' told
+  pub done : SoftDone call c c' w w' a a' told
   pub shown : r ≡ flat told

@@ -1,12 +1,18 @@
 // Soft decode for C and Rust programs: each slice is a pointer and then its length.
 ghost use Rattle.board.specs.Hits.{edges, tables};
-ghost use Rattle.sums.specs.Sums.{likelihoods};
+ghost use Rattle.likelihood.specs.Likelihood.{likelihoods};
+ghost use Rattle.admission.specs.Calls.{softCall};
 ghost use Rattle.export_soft.specs.Exports.{SoftFlat};
 use flat::flat::FlatAnswer;
 
 // Soft decode: which square the camera faces by the likelihoods of the physical list, confirmed by the hits of the logical list, or a refusal.
 #[no_mangle]
 pub extern "C" fn samburext_decode_soft<'a>(
+    lrows: &[i32],
+    lcols: &[i32],
+    lorientations: &[u8],
+    lbits: &[u8],
+    lconfidences: &[f32],
     prows: &[i32],
     pcols: &[i32],
     porientations: &[u8],
@@ -14,11 +20,6 @@ pub extern "C" fn samburext_decode_soft<'a>(
     pconfidences: &[f32],
     matches: &[f32],
     mismatches: &[f32],
-    lrows: &[i32],
-    lcols: &[i32],
-    lorientations: &[u8],
-    lbits: &[u8],
-    lconfidences: &[f32],
     transforms: &[u8],
     h: &'a [u8],
     v: &'a [u8],
@@ -29,13 +30,19 @@ pub extern "C" fn samburext_decode_soft<'a>(
     sums: &mut [i64],
 ) -> FlatAnswer
     ensures { λ r. ⌜ SoftFlat
+        (softCall
+        (edges (now (lrows .entry)) (now (lcols .entry)) (now (lorientations .entry)) (now (lbits .entry)) (now (lconfidences .entry)))
         (edges (now (prows .entry)) (now (pcols .entry)) (now (porientations .entry)) (now (pbits .entry)) (now (pconfidences .entry)))
         (likelihoods (now (matches .entry)) (now (mismatches .entry)))
-        (edges (now (lrows .entry)) (now (lcols .entry)) (now (lorientations .entry)) (now (lbits .entry)) (now (lconfidences .entry)))
-        (now (transforms .entry)) (tables (now (h .entry)) (now (v .entry))) limit margin
+        (now (transforms .entry)) (tables (now (h .entry)) (now (v .entry))) limit margin)
         (now (counts .entry)) (now (counts .exit)) (now (weights .entry)) (now (weights .exit)) (now (sums .entry)) (now (sums .exit)) r ⌝ }
 {
     let answer = puzzleboard::soft_decode::decode_soft(
+        lrows,
+        lcols,
+        lorientations,
+        lbits,
+        lconfidences,
         prows,
         pcols,
         porientations,
@@ -43,11 +50,6 @@ pub extern "C" fn samburext_decode_soft<'a>(
         pconfidences,
         matches,
         mismatches,
-        lrows,
-        lcols,
-        lorientations,
-        lbits,
-        lconfidences,
         transforms,
         h,
         v,

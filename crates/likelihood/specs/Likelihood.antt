@@ -2,6 +2,7 @@
 -- A float here is its value: `fin s m e` is the number m * 2 ^ e, negative where s is true, and 2 ^ e is the fraction `up e / down e`.
 use mathlib.Core.Path.{_≡_}
 use mathlib.Core.Bool.{Bool, true, false, not, _&&_}
+use mathlib.Core.List.{List}
 use Prim.Native.Nat.{ℕ, _+_, _*_, _/_, _^_, _≤_}
 use lib.IntN.{ℤ, pos, negℤ, natAbs}
 use lib.Signed.{nonNeg}
@@ -36,3 +37,12 @@ dequantised sum = round binary32 (not (nonNeg sum)) (natAbs sum) (2 ^ 24)
 pub record Quantised (x : Float) (r : ℤ) : Type 0 where
   pub value : r ≡ quantised x
   pub size : natAbs r ≤ 2 ^ 40
+
+-- the two log likelihoods of each edge of a list
+pub record Likelihoods : Type 0 where
+  pub matches : List Float
+  pub mismatches : List Float
+
+-- two columns of likelihoods as one record
+abbrev pub likelihoods : List Float → List Float → Likelihoods
+likelihoods m u = record { matches = m; mismatches = u }

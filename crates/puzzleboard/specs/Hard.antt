@@ -11,6 +11,8 @@ use Rattle.laws.specs.Cleared.{cleared, SameBeyond}
 use Rattle.board.specs.Hits.{EdgeList, Board, size}
 use Rattle.refusals.specs.declared.Admission.{Admission}
 use Rattle.refusals.specs.declared.Admission.the-variants as admission
+use Rattle.room.specs.Room.{tablesRoom}
+use Rattle.admission.specs.Calls.{HardCall}
 use Rattle.admission.specs.Refusals.{hardAdmission}
 use Rattle.scan.specs.declared.scan.Candidate.{Candidate}
 use Rattle.scan.specs.declared.scan.RunnerUp.{RunnerUp}
@@ -29,19 +31,19 @@ abbrev pub afterPhysical : EdgeList → List ℕ → Candidate → RunnerUp → 
 afterPhysical L ts w next (sel.Refused r) = Refused r
 afterPhysical L ts w next (sel.Selected p other) = judged (getD ts (w .listed) 0) w next (getD ts (p .listed) 0) p (size L)
 
-abbrev pub afterLogical : EdgeList → EdgeList → List ℕ → Board → Selection → Answer
-afterLogical L P ts B (sel.Refused r) = Refused r
-afterLogical L P ts B (sel.Selected w next) = afterPhysical L ts w next (selection B P ts oneF)
+abbrev pub afterLogical : HardCall → Selection → Answer
+afterLogical call (sel.Refused r) = Refused r
+afterLogical call (sel.Selected w next) = afterPhysical (call .logical) (call .transforms) w next (selection (call .board) (call .physical) (call .transforms) oneF)
 
 -- what an accepted hard call answers
-unfoldable pub hardCore : EdgeList → EdgeList → List ℕ → Board → Float → Answer
+unfoldable pub hardCore : HardCall → Answer
 unfolding judged
-hardCore L P ts B limit = afterLogical L P ts B (selection B L ts limit)
+hardCore call = afterLogical call (selection (call .board) (call .logical) (call .transforms) (call .error-limit))
 
 -- the answer for all inputs: refusals 1 to 9 come first
-unfoldable pub hardAnswer : EdgeList → EdgeList → List ℕ → Board → Float → ℕ → ℕ → Answer
+unfoldable pub hardAnswer : HardCall → ℕ → ℕ → Answer
 unfolding hardCore
-hardAnswer L P ts B limit m n = whenAccepted (hardAdmission L P ts B limit m n) (hardCore L P ts B limit)
+hardAnswer call m n = whenAccepted (hardAdmission call m n) (hardCore call)
 
 -- what a room slice holds at exit, of which n places are used (demand 1): "After refusals 1 to 9 the lent room is untouched; after every other call the used room is zero"
 unfoldable pub left : {A : Type 0} → A → ℕ → Admission → List A → List A
@@ -49,13 +51,13 @@ left zero n admission.Accepted room = cleared zero n room
 left zero n (admission.Refused r) room = room
 
 -- what hard decode promises for all inputs: the answer, and both room slices at exit
-pub record HardDone (L P : EdgeList) (ts : List ℕ) (B : Board) (limit : Float) (c c' : List ℕ) (w w' : List Float) (r : Answer) : Type 0 where
-  pub answer : r ≡ hardAnswer L P ts B limit (length c) (length w)
-  pub counts : c' ≡ left 0 3006 (hardAdmission L P ts B limit (length c) (length w)) c
-  pub weights : w' ≡ left zeroF 3006 (hardAdmission L P ts B limit (length c) (length w)) w
+pub record HardDone (call : HardCall) (c c' : List ℕ) (w w' : List Float) (r : Answer) : Type 0 where
+  pub answer : r ≡ hardAnswer call (length c) (length w)
+  pub counts : c' ≡ left 0 (tablesRoom (call .board)) (hardAdmission call (length c) (length w)) c
+  pub weights : w' ≡ left zeroF (tablesRoom (call .board)) (hardAdmission call (length c) (length w)) w
 
 -- what the core leaves to be cleared
-pub record CoreDone (L P : EdgeList) (ts : List ℕ) (B : Board) (limit : Float) (c c' : List ℕ) (w w' : List Float) (r : Answer) : Type 0 where
-  pub answer : r ≡ hardCore L P ts B limit
-  pub counts : SameBeyond 0 3006 c c'
-  pub weights : SameBeyond nan 3006 w w'
+pub record CoreDone (call : HardCall) (c c' : List ℕ) (w w' : List Float) (r : Answer) : Type 0 where
+  pub answer : r ≡ hardCore call
+  pub counts : SameBeyond 0 (tablesRoom (call .board)) c c'
+  pub weights : SameBeyond nan (tablesRoom (call .board)) w w'

@@ -3,6 +3,7 @@ use mathlib.Core.Path.{_≡_, refl, sym, ap, ap₂, _∙_}
 use mathlib.Core.Bool.{Bool, true, false, not, _&&_, cond}
 use mathlib.Core.List.{List, [], _∷_}
 use Prim.Native.Nat.{ℕ, zero, suc, _+_, _*_, _≤_, _<_}
+use native.Mathlib.Nat.{le-trans, le-of-eq}
 use native.Mathlib.Omega.{arith}
 use lib.Dec.{T, lit<}
 use lib.ListN.{getD, length}
@@ -14,10 +15,11 @@ use Rattle.board.specs.Hits.{EdgeList, Board, size}
 use Rattle.board.specs.Transform.{mat}
 use Rattle.board.specs.Sides.{periodOf}
 use Rattle.board.specs.Domain.{ListOk, BoardOk}
-use Rattle.room.specs.Room.{used}
+use Rattle.room.specs.Room.{tablesRoom}
 use Rattle.refusals.specs.declared.Refusal.{Refusal}
 use Rattle.refusals.specs.declared.Admission.{Admission}
 use Rattle.refusals.specs.declared.Admission.the-variants as admission
+use Rattle.admission.specs.Calls.{HardCall}
 use Rattle.admission.specs.Refusals.{hardAdmission}
 use Rattle.admission.specs.Accepted.{TransformsOk, HardAccepted}
 use Rattle.scan.specs.declared.scan.Candidate.{Candidate}
@@ -61,91 +63,88 @@ pub matrix-tells : (t s : ℕ) → t < 8 → s < 8 → ((i j : ℕ) → mat t i 
 matrix-tells t s h k e = sym (number-told t h) ∙ (λ i. numberOf (e 0 0 i) (e 0 1 i) (e 1 0 i) (e 1 1 i)) ∙ number-told s k
 
 -- ---- what a selection asks
--- the used room of the flat board
-pub used-flat : (B : Board) (m : ℕ) → (length (B .h) ≡ 167) × (length (B .v) ≡ 167) → used (periodOf B) m ≡ 1002 + m * 2004
-used-flat B m p = ap₂ (λ (x y : ℕ). 3 * x + 3 * y + m * ((x + y) * 6)) (p .0) (p .1)
-
-pub ready : (B : Board) (E : EdgeList) (ts : List ℕ) (c : List ℕ) (w : List Float) → ListOk E → 0 < size E → BoardOk B → (length (B .h) ≡ 167) × (length (B .v) ≡ 167) → TransformsOk ts → 3006 ≤ length c → 3006 ≤ length w → SelectReady B E ts c w
-ready B E ts c w list some board periods t rc rw = record {
+pub ready : (B : Board) (E : EdgeList) (ts : List ℕ) (c : List ℕ) (w : List Float) → ListOk E → 0 < size E → BoardOk B → TransformsOk ts → tablesRoom B ≤ length c → tablesRoom B ≤ length w → SelectReady B E ts c w
+ready B E ts c w list some board t rc rw = record {
   list = list;
   some = some;
   board = board;
   transforms = (t .some, t .few);
   small = t .small;
-  room = (omega (arith, used-flat B 1 periods), omega (arith, used-flat B 1 periods));
+  room = (rc, rw);
 }
 
-module _ (L P : EdgeList) (ts : List ℕ) (B : Board) (limit : Float) (c : List ℕ) (w : List Float) (A : HardAccepted L P ts B limit (length c) (length w)) where
-  pub ready-logical : SelectReady B L ts c w
-  ready-logical = ready B L ts c w (A .logical) (A .some-logical) (A .board) (A .periods) (A .transforms) (A .room .0) (A .room .1)
+module _ (call : HardCall) (c : List ℕ) (w : List Float) (A : HardAccepted call (length c) (length w)) where
+  pub ready-logical : SelectReady (call .board) (call .logical) (call .transforms) c w
+  ready-logical = ready (call .board) (call .logical) (call .transforms) c w (A .logical) (A .some-logical) (A .board) (A .transforms) (A .room .0) (A .room .1)
 
-  pub ready-physical : (c' : List ℕ) (w' : List Float) → length c' ≡ length c → length w' ≡ length w → SelectReady B P ts c' w'
-  ready-physical c' w' e d = ready B P ts c' w' (A .physical) (A .some-physical) (A .board) (A .periods) (A .transforms) (omega (arith, A .room .0)) (omega (arith, A .room .1))
+  pub ready-physical : (c' : List ℕ) (w' : List Float) → length c' ≡ length c → length w' ≡ length w → SelectReady (call .board) (call .physical) (call .transforms) c' w'
+  ready-physical c' w' e d = ready (call .board) (call .physical) (call .transforms) c' w' (A .physical) (A .some-physical) (A .board) (A .transforms) (le-trans (A .room .0) (le-of-eq (sym e))) (le-trans (A .room .1) (le-of-eq (sym d)))
 
   -- ---- what the winners are known for
-  pub logical-winner : (r : Selection) (x : Candidate) (next : RunnerUp) → r ≡ selection B L ts limit → r ≡ sel.Selected x next → (x .listed < length ts) × (x .hits ≤ size L) × (next .hits ≤ size L)
+  pub logical-winner : (r : Selection) (x : Candidate) (next : RunnerUp) → r ≡ selection (call .board) (call .logical) (call .transforms) (call .error-limit) → r ≡ sel.Selected x next → (x .listed < length (call .transforms)) × (x .hits ≤ size (call .logical)) × (next .hits ≤ size (call .logical))
   logical-winner r x next e k =
-      let i = selected-in-range B L ts limit (A .board) (A .logical) (A .transforms .few) x next (sym e ∙ k) in (i .listed, i .hits, i .next-hits)
+      let i = selected-in-range (call .board) (call .logical) (call .transforms) (call .error-limit) (A .board) (A .logical) (A .transforms .few) x next (sym e ∙ k) in (i .listed, i .hits, i .next-hits)
 
-  pub physical-winner : (r : Selection) (x : Candidate) (next : RunnerUp) → r ≡ selection B P ts oneF → r ≡ sel.Selected x next → x .listed < length ts
-  physical-winner r x next e k = selected-in-range B P ts oneF (A .board) (A .physical) (A .transforms .few) x next (sym e ∙ k) .listed
+  pub physical-winner : (r : Selection) (x : Candidate) (next : RunnerUp) → r ≡ selection (call .board) (call .physical) (call .transforms) oneF → r ≡ sel.Selected x next → x .listed < length (call .transforms)
+  physical-winner r x next e k = selected-in-range (call .board) (call .physical) (call .transforms) oneF (A .board) (A .physical) (A .transforms .few) x next (sym e ∙ k) .listed
 
   -- ---- the rooms
-  pub beyond : (E : EdgeList) (limit' : Float) (d d' : List ℕ) (x x' : List Float) (r : Selection) → SelectReady B E ts d x → SelectDone B E ts limit' d d' x x' r → SameBeyond 0 3006 d d' × SameBeyond nan 3006 x x'
-  beyond E limit' d d' x x' r R D =
-      let s = select-beyond B E ts limit' d x R d' x' r D in
-      let u = used-flat B 1 (A .periods) in
-      (record { len = s .0 .len; same = λ k h. s .0 .same k (omega arith) }, record { len = s .1 .len; same = λ k h. s .1 .same k (omega arith) })
+  pub beyond : (E : EdgeList) (limit' : Float) (d d' : List ℕ) (x x' : List Float) (r : Selection) → SelectReady (call .board) E (call .transforms) d x → SelectDone (call .board) E (call .transforms) limit' d d' x x' r → SameBeyond 0 (tablesRoom (call .board)) d d' × SameBeyond nan (tablesRoom (call .board)) x x'
+  beyond E limit' d d' x x' r R D = select-beyond (call .board) E (call .transforms) limit' d x R d' x' r D
 
   -- ---- the three ways in which the core ends
-  module _ (c' : List ℕ) (w' : List Float) (r : Selection) (D : SelectDone B L ts limit c c' w w' r) where
-    pub core-refused : (n : Refusal) → r ≡ sel.Refused n → CoreDone L P ts B limit c c' w w' (Refused n)
+  module _ (c' : List ℕ) (w' : List Float) (r : Selection) (D : SelectDone (call .board) (call .logical) (call .transforms) (call .error-limit) c c' w w' r) where
+    pub core-refused : (n : Refusal) → r ≡ sel.Refused n → CoreDone call c c' w w' (Refused n)
     unfolding hardCore
     core-refused n k =
-        let s = beyond L limit c c' w w' r ready-logical D in
-        record { answer = ap (afterLogical L P ts B) (sym k ∙ D .answer); counts = s .0; weights = s .1 }
+        let s = beyond (call .logical) (call .error-limit) c c' w w' r ready-logical D in
+        record { answer = ap (afterLogical call) (sym k ∙ D .answer); counts = s .0; weights = s .1 }
 
-    module _ (x : Candidate) (next : RunnerUp) (k : r ≡ sel.Selected x next) (c'' : List ℕ) (w'' : List Float) (q : Selection) (F : SelectDone B P ts oneF c' c'' w' w'' q) where
-      both : SameBeyond 0 3006 c c'' × SameBeyond nan 3006 w w''
+    module _ (x : Candidate) (next : RunnerUp) (k : r ≡ sel.Selected x next) (c'' : List ℕ) (w'' : List Float) (q : Selection) (F : SelectDone (call .board) (call .physical) (call .transforms) oneF c' c'' w' w'' q) where
+      both : SameBeyond 0 (tablesRoom (call .board)) c c'' × SameBeyond nan (tablesRoom (call .board)) w w''
       both =
-          let s = beyond L limit c c' w w' r ready-logical D in
-          let t = beyond P oneF c' c'' w' w'' q (ready-physical c' w' (s .0 .len) (s .1 .len)) F in
-          (beyond-trans 0 3006 c c' c'' (s .0) (t .0), beyond-trans nan 3006 w w' w'' (s .1) (t .1))
+          let s = beyond (call .logical) (call .error-limit) c c' w w' r ready-logical D in
+          let t = beyond (call .physical) oneF c' c'' w' w'' q (ready-physical c' w' (s .0 .len) (s .1 .len)) F in
+          (beyond-trans 0 (tablesRoom (call .board)) c c' c'' (s .0) (t .0), beyond-trans nan (tablesRoom (call .board)) w w' w'' (s .1) (t .1))
 
-      core-answer : afterPhysical L ts x next q ≡ hardCore L P ts B limit
+      core-answer : afterPhysical (call .logical) (call .transforms) x next q ≡ hardCore call
       unfolding hardCore
-      core-answer = ap (afterPhysical L ts x next) (F .answer) ∙ ap (afterLogical L P ts B) (sym k ∙ D .answer)
+      core-answer = ap (afterPhysical (call .logical) (call .transforms) x next) (F .answer) ∙ ap (afterLogical call) (sym k ∙ D .answer)
 
-      pub core-physical-refused : (n : Refusal) → q ≡ sel.Refused n → CoreDone L P ts B limit c c'' w w'' (Refused n)
-      core-physical-refused n g = record { answer = ap (afterPhysical L ts x next) (sym g) ∙ core-answer; counts = both .0; weights = both .1 }
+      pub core-physical-refused : (n : Refusal) → q ≡ sel.Refused n → CoreDone call c c'' w w'' (Refused n)
+      core-physical-refused n g = record { answer = ap (afterPhysical (call .logical) (call .transforms) x next) (sym g) ∙ core-answer; counts = both .0; weights = both .1 }
 
-      pub core-judged : (p : Candidate) (other : RunnerUp) (a : Answer) → q ≡ sel.Selected p other → a ≡ judged (getD ts (x .listed) 0) x next (getD ts (p .listed) 0) p (size L) → CoreDone L P ts B limit c c'' w w'' a
-      core-judged p other a g e = record { answer = e ∙ ap (afterPhysical L ts x next) (sym g) ∙ core-answer; counts = both .0; weights = both .1 }
+      pub core-judged : (p : Candidate) (other : RunnerUp) (a : Answer) → q ≡ sel.Selected p other → a ≡ judged (getD (call .transforms) (x .listed) 0) x next (getD (call .transforms) (p .listed) 0) p (size (call .logical)) → CoreDone call c c'' w w'' a
+      core-judged p other a g e = record { answer = e ∙ ap (afterPhysical (call .logical) (call .transforms) x next) (sym g) ∙ core-answer; counts = both .0; weights = both .1 }
+
+-- as many places cleared as were counted to be used
+pub cleared-used : {A : Type 0} (a : A) (n m : ℕ) (old new : List A) → n ≡ m → new ≡ cleared a n old → new ≡ cleared a m old
+cleared-used a n m old new e h = h ∙ ap (λ (k : ℕ). cleared a k old) e
 
 -- ---- the two ways in which hard decode ends
-module _ (L P : EdgeList) (ts : List ℕ) (B : Board) (limit : Float) (c : List ℕ) (w : List Float) where
-  module _ (a : Admission) (e : a ≡ hardAdmission L P ts B limit (length c) (length w)) where
-    pub hard-refused : (x : Refusal) → a ≡ admission.Refused x → HardDone L P ts B limit c c w w (Refused x)
+module _ (call : HardCall) (c : List ℕ) (w : List Float) where
+  module _ (a : Admission) (e : a ≡ hardAdmission call (length c) (length w)) where
+    pub hard-refused : (x : Refusal) → a ≡ admission.Refused x → HardDone call c c w w (Refused x)
     unfolding hardAnswer left
     hard-refused x n =
         let f = sym n ∙ e in
         record {
-          answer = ap (λ (y : Admission). whenAccepted y (hardCore L P ts B limit)) f;
-          counts = ap (λ (y : Admission). left 0 3006 y c) f;
-          weights = ap (λ (y : Admission). left zeroF 3006 y w) f;
+          answer = ap (λ (y : Admission). whenAccepted y (hardCore call)) f;
+          counts = ap (λ (y : Admission). left 0 (tablesRoom (call .board)) y c) f;
+          weights = ap (λ (y : Admission). left zeroF (tablesRoom (call .board)) y w) f;
         }
 
-    pub hard-done : (c' c'' : List ℕ) (w' w'' : List Float) (r : Answer) → a ≡ admission.Accepted → HardAccepted L P ts B limit (length c) (length w) → CoreDone L P ts B limit c c' w w' r
-        → c'' ≡ cleared 0 3006 c' → w'' ≡ cleared zeroF 3006 w' → HardDone L P ts B limit c c'' w w'' r
+    pub hard-done : (c' c'' : List ℕ) (w' w'' : List Float) (r : Answer) → a ≡ admission.Accepted → HardAccepted call (length c) (length w) → CoreDone call c c' w w' r
+        → c'' ≡ cleared 0 (tablesRoom (call .board)) c' → w'' ≡ cleared zeroF (tablesRoom (call .board)) w' → HardDone call c c'' w w'' r
     unfolding hardAnswer left
     hard-done c' c'' w' w'' r z A D u v =
         let f = sym z ∙ e in
         record {
-          answer = D .answer ∙ ap (λ (y : Admission). whenAccepted y (hardCore L P ts B limit)) f;
-          counts = u ∙ cleared-forgets 0 3006 0 c c' (A .room .0) (D .counts) ∙ ap (λ (y : Admission). left 0 3006 y c) f;
-          weights = v ∙ cleared-forgets nan 3006 zeroF w w' (A .room .1) (D .weights) ∙ ap (λ (y : Admission). left zeroF 3006 y w) f;
+          answer = D .answer ∙ ap (λ (y : Admission). whenAccepted y (hardCore call)) f;
+          counts = u ∙ cleared-forgets 0 (tablesRoom (call .board)) 0 c c' (A .room .0) (D .counts) ∙ ap (λ (y : Admission). left 0 (tablesRoom (call .board)) y c) f;
+          weights = v ∙ cleared-forgets nan (tablesRoom (call .board)) zeroF w w' (A .room .1) (D .weights) ∙ ap (λ (y : Admission). left zeroF (tablesRoom (call .board)) y w) f;
         }
 
   -- any two results that the promise allows are equal
-  pub hard-unique : (c' d' : List ℕ) (w' x' : List Float) (r s : Answer) → HardDone L P ts B limit c c' w w' r → HardDone L P ts B limit c d' w x' s → (r ≡ s) × (c' ≡ d') × (w' ≡ x')
+  pub hard-unique : (c' d' : List ℕ) (w' x' : List Float) (r s : Answer) → HardDone call c c' w w' r → HardDone call c d' w x' s → (r ≡ s) × (c' ≡ d') × (w' ≡ x')
   hard-unique c' d' w' x' r s p q = (p .answer ∙ sym (q .answer), p .counts ∙ sym (q .counts), p .weights ∙ sym (q .weights))

@@ -15,6 +15,7 @@ use Rattle.laws.specs.Weights.{oneF}
 use Rattle.board.specs.declared.edge.Placing.{Placing}
 use Rattle.board.specs.Hits.{EdgeList, Board, size, hitsAt}
 use Rattle.board.specs.Sides.{periodOf}
+use Rattle.admission.specs.Calls.{HardCall}
 use Rattle.admission.specs.Accepted.{HardAccepted}
 use Rattle.figures.specs.Gate.{passed}
 use Rattle.figures.specs.Figures.{noConfidence}
@@ -40,85 +41,85 @@ use Rattle.puzzleboard.specs.Winners.{placed, nextAt, winner-on, winner-
 pub no-square : (d : Decoded) (r : Refusal) → Refused r ≡ Found d → ⊥
 no-square d r e = let z : _≡_ {A = ℕ} 0 1 = cc in omega arith
 
-module _ (L P : EdgeList) (ts : List ℕ) (B : Board) (limit : Float) (m n : ℕ) (A : HardAccepted L P ts B limit m n) where
+module _ (call : HardCall) (m n : ℕ) (A : HardAccepted call m n) where
   -- what a found hard answer says
   pub record Answered (d : Decoded) : Type 0 where
     pub square : Placing
     pub runner-up : Placing
-    pub leads : Leads B L ts limit square
-    pub agrees : AgreesPhysical B P ts square
-    pub next : RunsUp B L ts square runner-up
-    pub tells : Tells B L ts d square runner-up
+    pub leads : Leads (call .board) (call .logical) (call .transforms) (call .error-limit) square
+    pub agrees : AgreesPhysical (call .board) (call .physical) (call .transforms) square
+    pub next : RunsUp (call .board) (call .logical) (call .transforms) square runner-up
+    pub tells : Tells (call .board) (call .logical) (call .transforms) d square runner-up
 
   -- ---- found: then a placing leads and agrees, and the answer tells it
   module _ (d : Decoded) where
-    module _ (x : Candidate) (r : RunnerUp) (y : Candidate) (o : RunnerUp) (e : selection B L ts limit ≡ sel.Selected x r) (f : selection B P ts oneF ≡ sel.Selected y o) where
+    module _ (x : Candidate) (r : RunnerUp) (y : Candidate) (o : RunnerUp) (e : selection (call .board) (call .logical) (call .transforms) (call .error-limit) ≡ sel.Selected x r) (f : selection (call .board) (call .physical) (call .transforms) oneF ≡ sel.Selected y o) where
       abbrev t : ℕ
-      t = getD ts (x .listed) 0
+      t = getD (call .transforms) (x .listed) 0
 
       abbrev s : ℕ
-      s = getD ts (y .listed) 0
+      s = getD (call .transforms) (y .listed) 0
 
-      answered : agreed t x s y ≡ true → passed (size L) (x .hits) (r .hits) ≡ true → Found (decodedOf t x r (size L)) ≡ Found d → Answered d
+      answered : agreed t x s y ≡ true → passed (size (call .logical)) (x .hits) (r .hits) ≡ true → Found (decodedOf t x r (size (call .logical))) ≡ Found d → Answered d
       unfolding agreed decodedOf
       answered a g k =
-          let q : decodedOf t x r (size L) ≡ d = cc in
+          let q : decodedOf t x r (size (call .logical)) ≡ d = cc in
           let u = and-true (eqb t s) _ a in
           let v = and-true (eqb (x .row) (y .row)) (eqb (x .col) (y .col)) (u .1) in
           let l = A .logical in
           record {
             square = placed x;
-            runner-up = nextAt (named B L ts limit (A .board) l (A .transforms .few) x r e g .0) r;
-            leads = winner-leads B L ts limit (A .board) l (A .transforms .few) x r e g;
+            runner-up = nextAt (named (call .board) (call .logical) (call .transforms) (call .error-limit) (A .board) l (A .transforms .few) x r e g .0) r;
+            leads = winner-leads (call .board) (call .logical) (call .transforms) (call .error-limit) (A .board) l (A .transforms .few) x r e g;
             agrees = record { winner = y; next = o; chosen = f; transform = sym (eqb-true t s (u .0)); row = sym (eqb-true (x .row) (y .row) (v .0)); col = sym (eqb-true (x .col) (y .col) (v .1)) };
-            next = runs-up B L ts limit (A .board) l (A .transforms .few) x r e g;
-            tells = subst (λ (z : Decoded). Tells B L ts z (placed x) (nextAt (named B L ts limit (A .board) l (A .transforms .few) x r e g .0) r)) q (record {
+            next = runs-up (call .board) (call .logical) (call .transforms) (call .error-limit) (A .board) l (A .transforms .few) x r e g;
+            tells = subst (λ (z : Decoded). Tells (call .board) (call .logical) (call .transforms) z (placed x) (nextAt (named (call .board) (call .logical) (call .transforms) (call .error-limit) (A .board) l (A .transforms .few) x r e g .0) r)) q (record {
               square = (refl, refl, refl);
-              hits = winner-hits B L ts limit (A .board) l (A .transforms .few) x r e g;
+              hits = winner-hits (call .board) (call .logical) (call .transforms) (call .error-limit) (A .board) l (A .transforms .few) x r e g;
               edges = refl;
-              runner = (named B L ts limit (A .board) l (A .transforms .few) x r e g .2, refl, refl);
-              next = ap (λ (z : ℕ). ofInt binary32 (pos z)) (sym (runner-hits B L ts limit (A .board) l (A .transforms .few) x r e g));
+              runner = (named (call .board) (call .logical) (call .transforms) (call .error-limit) (A .board) l (A .transforms .few) x r e g .2, refl, refl);
+              next = ap (λ (z : ℕ). ofInt binary32 (pos z)) (sym (runner-hits (call .board) (call .logical) (call .transforms) (call .error-limit) (A .board) l (A .transforms .few) x r e g));
             });
           }
 
-      by-gate : (b : Bool) → passed (size L) (x .hits) (r .hits) ≡ b → agreed t x s y ≡ true → pick b (Found (decodedOf t x r (size L))) (refusedBy why.notFarAhead) ≡ Found d → Answered d
+      by-gate : (b : Bool) → passed (size (call .logical)) (x .hits) (r .hits) ≡ b → agreed t x s y ≡ true → pick b (Found (decodedOf t x r (size (call .logical)))) (refusedBy why.notFarAhead) ≡ Found d → Answered d
       by-gate true g a k = answered a g k
       by-gate false g a k = absurd (no-square d (numbered why.notFarAhead) k)
 
-      by-agreed : (b : Bool) → agreed t x s y ≡ b → pick b (pick (passed (size L) (x .hits) (r .hits)) (Found (decodedOf t x r (size L))) (refusedBy why.notFarAhead)) (refusedBy why.listsDisagree) ≡ Found d → Answered d
-      by-agreed true a k = by-gate (passed (size L) (x .hits) (r .hits)) refl a k
+      by-agreed : (b : Bool) → agreed t x s y ≡ b → pick b (pick (passed (size (call .logical)) (x .hits) (r .hits)) (Found (decodedOf t x r (size (call .logical)))) (refusedBy why.notFarAhead)) (refusedBy why.listsDisagree) ≡ Found d → Answered d
+      by-agreed true a k = by-gate (passed (size (call .logical)) (x .hits) (r .hits)) refl a k
       by-agreed false a k = absurd (no-square d (numbered why.listsDisagree) k)
 
-      from-judged : judged t x r s y (size L) ≡ Found d → Answered d
+      from-judged : judged t x r s y (size (call .logical)) ≡ Found d → Answered d
       unfolding judged
       from-judged h = by-agreed (agreed t x s y) refl h
 
-    from-physical : (x : Candidate) (r : RunnerUp) (q : Selection) → selection B L ts limit ≡ sel.Selected x r → selection B P ts oneF ≡ q → afterPhysical L ts x r q ≡ Found d → Answered d
+    from-physical : (x : Candidate) (r : RunnerUp) (q : Selection) → selection (call .board) (call .logical) (call .transforms) (call .error-limit) ≡ sel.Selected x r → selection (call .board) (call .physical) (call .transforms) oneF ≡ q → afterPhysical (call .logical) (call .transforms) x r q ≡ Found d → Answered d
     from-physical x r (sel.Refused k) e f h = absurd (no-square d k h)
     from-physical x r (sel.Selected y o) e f h = from-judged x r y o e f h
 
-    from-logical : (q : Selection) → selection B L ts limit ≡ q → afterLogical L P ts B q ≡ Found d → Answered d
+    from-logical : (q : Selection) → selection (call .board) (call .logical) (call .transforms) (call .error-limit) ≡ q → afterLogical call q ≡ Found d → Answered d
     from-logical (sel.Refused k) e h = absurd (no-square d k h)
-    from-logical (sel.Selected x r) e h = from-physical x r (selection B P ts oneF) e refl h
+    from-logical (sel.Selected x r) e h = from-physical x r (selection (call .board) (call .physical) (call .transforms) oneF) e refl h
 
     -- FOUND MEANS TRUE
-    pub hard-sound : hardCore L P ts B limit ≡ Found d → Answered d
+    pub hard-sound : hardCore call ≡ Found d → Answered d
     unfolding hardCore
-    hard-sound h = from-logical (selection B L ts limit) refl h
+    hard-sound h = from-logical (selection (call .board) (call .logical) (call .transforms) (call .error-limit)) refl h
 
   -- ---- a placing leads and agrees: then hard decode finds
   -- A TRUE SQUARE IS FOUND
-  pub hard-complete : noConfidence L ≡ false → (Q : Placing) → Leads B L ts limit Q → AgreesPhysical B P ts Q → (d : Decoded) × (hardCore L P ts B limit ≡ Found d)
+  pub hard-complete : noConfidence (call .logical) ≡ false → (Q : Placing) → Leads (call .board) (call .logical) (call .transforms) (call .error-limit) Q → AgreesPhysical (call .board) (call .physical) (call .transforms) Q → (d : Decoded) × (hardCore call ≡ Found d)
   unfolding hardCore judged agreed
   hard-complete h Q l a =
-      let s = sole-selected B L ts limit (A .board) (A .logical) (A .transforms .few) h (Q .listed) (keyOf B (A .board) Q) (leads-sole B (A .board) ts L limit Q l) in
+      let s = sole-selected (call .board) (call .logical) (call .transforms) (call .error-limit) (A .board) (A .logical) (A .transforms .few) h (Q .listed) (keyOf (call .board) (A .board) Q) (leads-sole (call .board) (A .board) (call .transforms) (call .logical) (call .error-limit) Q l) in
       let x = s .0 in
       let r = s .1 in
-      let k = key-same B (A .board) ts Q (placed x) (l .on-board) (winner-on B L ts limit (A .board) (A .logical) (A .transforms .few) x r (s .2)) (s .4, s .5) in
+      let k = key-same (call .board) (A .board) (call .transforms) Q (placed x) (l .on-board) (winner-on (call .board) (call .logical) (call .transforms) (call .error-limit) (A .board) (A .logical) (A .transforms .few) x r (s .2)) (s .4, s .5) in
       let y = a .winner in
-      let t = getD ts (x .listed) 0 in
-      let v = getD ts (y .listed) 0 in
-      let p1 : eqb t v ≡ true = eq-eqb t v (ap (λ (i : ℕ). getD ts i 0) (sym (k .0)) ∙ sym (a .transform)) in
+      let t = getD (call .transforms) (x .listed) 0 in
+      let v = getD (call .transforms) (y .listed) 0 in
+      let p1 : eqb t v ≡ true = eq-eqb t v (ap (λ (i : ℕ). getD (call .transforms) i 0) (sym (k .0)) ∙ sym (a .transform)) in
       let p2 : eqb (x .row) (y .row) ≡ true = eq-eqb (x .row) (y .row) (sym (k .1) ∙ sym (a .row)) in
       let p3 : eqb (x .col) (y .col) ≡ true = eq-eqb (x .col) (y .col) (sym (k .2) ∙ sym (a .col)) in
-      (decodedOf t x r (size L), rw (s .2, a .chosen, p1, p2, p3, s .3))
+      (decodedOf t x r (size (call .logical)), rw (s .2, a .chosen, p1, p2, p3, s .3))

@@ -13,6 +13,8 @@ use Rattle.board.specs.Sides.{periodOf}
 use Rattle.tables.specs.Built.{TablesBuilt}
 use Rattle.sums.specs.Sums.{Likelihoods}
 use Rattle.refusals.specs.Numbers as why
+use Rattle.room.specs.Room.{tablesRoom, sumsRoom}
+use Rattle.admission.specs.Calls.{HardCall, SoftCall}
 use Rattle.admission.specs.Refusals.{softAdmission}
 use Rattle.scan.specs.declared.scan.Candidate.{Candidate}
 use Rattle.scan.specs.declared.scan.RunnerUp.{RunnerUp}
@@ -49,13 +51,13 @@ abbrev pub figuresOf : Board → EdgeList → ℕ → ℕ → ℕ → HitsWeight
 figuresOf B E t row col = cellFigures (periodOf B true) (periodOf B false) (tablesOf B E t) row col
 
 -- ---- the answer
-module _ (P L : EdgeList) (ts : List ℕ) (B : Board) (limit : Float) where
+module _ (call : HardCall) where
   -- the two best by likelihood, where the logical list gave w with its runner-up
   unfoldable pub softJudged : SoftBest → Candidate → RunnerUp → Answer
   unfolding softDecodedOf
   softJudged best w next =
-      let t = getD ts (best .first .listed) 0 in
-      whenAccepted (softVerdict t (best .first) (getD ts (w .listed) 0) w next (size L)) (Found (softDecodedOf t best (figuresOf B P t (best .first .row) (best .first .col)) (size P) next))
+      let t = getD (call .transforms) (best .first .listed) 0 in
+      whenAccepted (softVerdict t (best .first) (getD (call .transforms) (w .listed) 0) w next (size (call .logical))) (Found (softDecodedOf t best (figuresOf (call .board) (call .physical) t (best .first .row) (best .first .col)) (size (call .physical)) next))
 
   abbrev pub afterHard : SoftBest → Selection → Answer
   afterHard best (sel.Refused r) = Refused r
@@ -65,25 +67,25 @@ module _ (P L : EdgeList) (ts : List ℕ) (B : Board) (limit : Float) where
   abbrev pub afterSoft : Float → SoftChoice → Answer
   afterSoft least Nothing = refusedBy why.softMargin
   afterSoft least (Chosen first second) =
-      pick (belowMargin (softMargin first second (size P)) least) (refusedBy why.softMargin) (afterHard (bestOf first second (size P)) (selection B L ts limit))
+      pick (belowMargin (softMargin first second (size (call .physical))) least) (refusedBy why.softMargin) (afterHard (bestOf first second (size (call .physical))) (selection (call .board) (call .logical) (call .transforms) (call .error-limit)))
 
 -- what an accepted soft call answers, with the soft margin `least`
-unfoldable pub softCore : EdgeList → Likelihoods → EdgeList → List ℕ → Board → Float → Float → Answer
+unfoldable pub softCore : SoftCall → Answer
 unfolding softJudged
-softCore P X L ts B limit least = pick (noConfidence P) (refusedBy why.noConfidence) (afterSoft P L ts B limit least (softSelection B P X ts))
+softCore call = pick (noConfidence (call .hard .physical)) (refusedBy why.noConfidence) (afterSoft (call .hard) (call .soft-margin) (softSelection (call .hard .board) (call .hard .physical) (call .likelihoods) (call .hard .transforms)))
 
 -- the answer for all inputs: refusals 1 to 9 come first
-unfoldable pub softAnswer : EdgeList → Likelihoods → EdgeList → List ℕ → Board → Float → Float → ℕ → ℕ → ℕ → Answer
+unfoldable pub softAnswer : SoftCall → ℕ → ℕ → ℕ → Answer
 unfolding softCore
-softAnswer P X L ts B limit least m n k =
-    whenAccepted (softAdmission P (X .matches) (X .mismatches) L ts B limit least m n k) (softCore P X L ts B limit least)
+softAnswer call m n k =
+    whenAccepted (softAdmission call m n k) (softCore call)
 
 -- what soft decode promises for all inputs: the answer, and the three room slices at exit
-pub record SoftDone (P : EdgeList) (X : Likelihoods) (L : EdgeList) (ts : List ℕ) (B : Board) (limit least : Float) (c c' : List ℕ) (w w' : List Float) (a a' : List ℤ) (r : Answer) : Type 0 where
-  pub answer : r ≡ softAnswer P X L ts B limit least (length c) (length w) (length a)
-  pub counts : c' ≡ left 0 3006 (softAdmission P (X .matches) (X .mismatches) L ts B limit least (length c) (length w) (length a)) c
-  pub weights : w' ≡ left zeroF 3006 (softAdmission P (X .matches) (X .mismatches) L ts B limit least (length c) (length w) (length a)) w
-  pub sums : a' ≡ left (pos 0) 5010 (softAdmission P (X .matches) (X .mismatches) L ts B limit least (length c) (length w) (length a)) a
+pub record SoftDone (call : SoftCall) (c c' : List ℕ) (w w' : List Float) (a a' : List ℤ) (r : Answer) : Type 0 where
+  pub answer : r ≡ softAnswer call (length c) (length w) (length a)
+  pub counts : c' ≡ left 0 (tablesRoom (call .hard .board)) (softAdmission call (length c) (length w) (length a)) c
+  pub weights : w' ≡ left zeroF (tablesRoom (call .hard .board)) (softAdmission call (length c) (length w) (length a)) w
+  pub sums : a' ≡ left (pos 0) (sumsRoom (call .hard .board)) (softAdmission call (length c) (length w) (length a)) a
 
 -- ---- what the steps between leave
 pub record FiguresDone (B : Board) (E : EdgeList) (t row col : ℕ) (c c' : List ℕ) (w w' : List Float) (r : HitsWeight) : Type 0 where
@@ -91,14 +93,14 @@ pub record FiguresDone (B : Board) (E : EdgeList) (t row col : ℕ) (c c' : List
   pub rooms : TablesBuilt B E t c c' w w'
 
 -- the logical list and the figures: the u32 and the f32 room are used
-pub record LogicalDone (P L : EdgeList) (ts : List ℕ) (B : Board) (limit : Float) (best : SoftBest) (c c' : List ℕ) (w w' : List Float) (r : Answer) : Type 0 where
-  pub answer : r ≡ afterHard P L ts B limit best (selection B L ts limit)
-  pub counts : SameBeyond 0 3006 c c'
-  pub weights : SameBeyond nan 3006 w w'
+pub record LogicalDone (call : HardCall) (best : SoftBest) (c c' : List ℕ) (w w' : List Float) (r : Answer) : Type 0 where
+  pub answer : r ≡ afterHard call best (selection (call .board) (call .logical) (call .transforms) (call .error-limit))
+  pub counts : SameBeyond 0 (tablesRoom (call .board)) c c'
+  pub weights : SameBeyond nan (tablesRoom (call .board)) w w'
 
 -- the whole: all three are used
-pub record SoftCoreDone (P : EdgeList) (X : Likelihoods) (L : EdgeList) (ts : List ℕ) (B : Board) (limit least : Float) (c c' : List ℕ) (w w' : List Float) (a a' : List ℤ) (r : Answer) : Type 0 where
-  pub answer : r ≡ softCore P X L ts B limit least
-  pub counts : SameBeyond 0 3006 c c'
-  pub weights : SameBeyond nan 3006 w w'
-  pub sums : SameBeyond (pos 0) 5010 a a'
+pub record SoftCoreDone (call : SoftCall) (c c' : List ℕ) (w w' : List Float) (a a' : List ℤ) (r : Answer) : Type 0 where
+  pub answer : r ≡ softCore call
+  pub counts : SameBeyond 0 (tablesRoom (call .hard .board)) c c'
+  pub weights : SameBeyond nan (tablesRoom (call .hard .board)) w w'
+  pub sums : SameBeyond (pos 0) (sumsRoom (call .hard .board)) a a'

@@ -12,6 +12,7 @@ use Rattle.board.specs.declared.edge.Placing.{Placing}
 use Rattle.board.specs.Hits.{EdgeList, Board, size, hitsAt}
 use Rattle.board.specs.Sides.{periodOf}
 use Rattle.likelihood.specs.Likelihood.{dequantised}
+use Rattle.admission.specs.Calls.{SoftCall}
 use Rattle.sums.specs.Sums.{Likelihoods, score}
 use Rattle.hard.specs.OneList.{keyAt}
 use Rattle.margin.specs.declared.slots.SoftCandidate.{SoftCandidate}
@@ -40,19 +41,19 @@ pub record BestByLikelihood (B : Board) (E : EdgeList) (X : Likelihoods) (ts : L
   pub first : FirstPlace (origins (periodOf B true) (periodOf B false)) (length ts) (scoreAtKey B E X ts) (P .listed) (keyAt (periodOf B false) (P .row) (P .col))
   pub second : SecondPlace (origins (periodOf B true) (periodOf B false)) (length ts) (scoreAtKey B E X ts) (P .listed) (keyAt (periodOf B false) (P .row) (P .col)) (Q .listed) (keyAt (periodOf B false) (Q .row) (Q .col))
 
--- what a found soft answer says: the physical list E gives the square, its figures and the margin; the logical list F gives the lead and the runner-up R
-pub record SoftAnswered (E : EdgeList) (X : Likelihoods) (F : EdgeList) (ts : List ℕ) (B : Board) (limit least : Float) (d : Decoded) : Type 0 where
+-- what a found soft answer says: the physical list gives the square, its figures and the margin; the logical list gives the lead and the runner-up
+pub record SoftAnswered (call : SoftCall) (d : Decoded) : Type 0 where
   pub square : Placing
   pub second : Placing
   pub runner-up : Placing
-  pub best : BestByLikelihood B E X ts square second
-  pub clears : belowMargin (marginOf B E X ts square second) least ≡ false
-  pub leads : Leads B F ts limit square
-  pub next-best : RunsUp B F ts square runner-up
-  pub names : Names ts square (d .square)
-  pub hits : d .hits ≡ hitsAt B E ts square
-  pub edges : d .edges ≡ size E
-  pub score : d .best ≡ total B E X ts square
-  pub margin : d .margin ≡ marginOf B E X ts square second
-  pub runner : Names ts runner-up (d .runner)
-  pub next : d .next ≡ ofInt binary32 (pos (hitsAt B F ts runner-up))
+  pub best : BestByLikelihood (call .hard .board) (call .hard .physical) (call .likelihoods) (call .hard .transforms) square second
+  pub clears : belowMargin (marginOf (call .hard .board) (call .hard .physical) (call .likelihoods) (call .hard .transforms) square second) (call .soft-margin) ≡ false
+  pub leads : Leads (call .hard .board) (call .hard .logical) (call .hard .transforms) (call .hard .error-limit) square
+  pub next-best : RunsUp (call .hard .board) (call .hard .logical) (call .hard .transforms) square runner-up
+  pub names : Names (call .hard .transforms) square (d .square)
+  pub hits : d .hits ≡ hitsAt (call .hard .board) (call .hard .physical) (call .hard .transforms) square
+  pub edges : d .edges ≡ size (call .hard .physical)
+  pub score : d .best ≡ total (call .hard .board) (call .hard .physical) (call .likelihoods) (call .hard .transforms) square
+  pub margin : d .margin ≡ marginOf (call .hard .board) (call .hard .physical) (call .likelihoods) (call .hard .transforms) square second
+  pub runner : Names (call .hard .transforms) runner-up (d .runner)
+  pub next : d .next ≡ ofInt binary32 (pos (hitsAt (call .hard .board) (call .hard .logical) (call .hard .transforms) runner-up))

@@ -3,7 +3,7 @@ use mathlib.Core.Path.{_≡_, refl, sym, ap, ap₂, subst, _∙_}
 use mathlib.Core.Bool.{Bool, true, false, not, _&&_, cond}
 use mathlib.Core.List.{List}
 use Prim.Native.Nat.{ℕ, zero, suc, _+_, _*_, _%_, _≤_, _<_}
-use native.Mathlib.Nat.{mod-lt}
+use native.Mathlib.Nat.{mod-lt, le-trans, le-of-eq}
 use native.Mathlib.Omega.{arith}
 use lib.Arith.{digits-lt}
 use lib.Dec.{T, lit<}
@@ -18,13 +18,14 @@ use Rattle.laws.specs.Cleared.{cleared, SameBeyond, beyond-refl, beyond-trans, 
 use Rattle.board.specs.Hits.{EdgeList, Board, size}
 use Rattle.board.specs.Sides.{periodOf}
 use Rattle.board.specs.Domain.{ListOk, BoardOk}
-use Rattle.room.specs.Room.{used}
+use Rattle.room.specs.Room.{tablesRoom, sumsRoom}
 use Rattle.tables.specs.Built.{TablesReady, TablesBuilt}
 use Rattle.sums.specs.Sums.{Likelihoods, LikelihoodsOk}
 use Rattle.refusals.specs.declared.Refusal.{Refusal}
 use Rattle.refusals.specs.declared.Admission.{Admission}
 use Rattle.refusals.specs.declared.Admission.the-variants as admission
 use Rattle.refusals.specs.Numbers as why
+use Rattle.admission.specs.Calls.{HardCall, SoftCall}
 use Rattle.admission.specs.Refusals.{softAdmission}
 use Rattle.admission.specs.Accepted.{HardAccepted, SoftAccepted}
 use Rattle.scan.specs.declared.scan.Candidate.{Candidate}
@@ -50,7 +51,7 @@ use Rattle.answer.specs.declared.Answer.{Answer}
 use Rattle.answer.specs.declared.Answer.the-variants.{Found, Refused}
 use Rattle.verdict.specs.Verdict.{refusedBy, whenAccepted}
 use Rattle.puzzleboard.specs.Hard.{left}
-use Rattle.puzzleboard.specs.HardLaws.{used-flat, ready-logical, beyond}
+use Rattle.puzzleboard.specs.HardLaws.{ready-logical, beyond}
 use Rattle.verdict.specs.Verdict.{softVerdict, softDecodedOf}
 use Rattle.puzzleboard.specs.Soft.{cellFigures, figuresOf, softJudged, afterHard, afterSoft, softCore, softAnswer, FiguresDone, LogicalDone, SoftCoreDone, SoftDone}
 
@@ -96,48 +97,46 @@ unfolding cellFigures
 figures-few B E t row col board list = tables-ok B E t board list .bounded _ _ (h-below (periodOf B true) (positive (period-h B board)) row col) (v-below (periodOf B false) (positive (period-v B board)) row col)
 
 -- ---- the soft winner against the logical list
-module _ (L P : EdgeList) (ts : List ℕ) (B : Board) (limit : Float) (c : List ℕ) (w : List Float) (A : HardAccepted L P ts B limit (length c) (length w)) (best : SoftBest) (c' : List ℕ) (w' : List Float) (r : Selection) (D : SelectDone B L ts limit c c' w w' r) where
-  pub logical-rooms : SameBeyond 0 3006 c c' × SameBeyond nan 3006 w w'
-  logical-rooms = beyond L P ts B limit c w A L limit c c' w w' r (ready-logical L P ts B limit c w A) D
+module _ (call : HardCall) (c : List ℕ) (w : List Float) (A : HardAccepted call (length c) (length w)) (best : SoftBest) (c' : List ℕ) (w' : List Float) (r : Selection) (D : SelectDone (call .board) (call .logical) (call .transforms) (call .error-limit) c c' w w' r) where
+  pub logical-rooms : SameBeyond 0 (tablesRoom (call .board)) c c' × SameBeyond nan (tablesRoom (call .board)) w w'
+  logical-rooms = beyond call c w A (call .logical) (call .error-limit) c c' w w' r (ready-logical call c w A) D
 
-  pub logical-refused : (n : Refusal) → r ≡ sel.Refused n → LogicalDone P L ts B limit best c c' w w' (Refused n)
+  pub logical-refused : (n : Refusal) → r ≡ sel.Refused n → LogicalDone call best c c' w w' (Refused n)
   unfolding softJudged
-  logical-refused n k = record { answer = ap (afterHard P L ts B limit best) (sym k ∙ D .answer); counts = logical-rooms .0; weights = logical-rooms .1 }
+  logical-refused n k = record { answer = ap (afterHard call best) (sym k ∙ D .answer); counts = logical-rooms .0; weights = logical-rooms .1 }
 
   -- the tables of its transform can be built
-  pub figures-ready : best .first .listed < length ts → TablesReady B P (getD ts (best .first .listed) 0) c' w'
+  pub figures-ready : best .first .listed < length (call .transforms) → TablesReady (call .board) (call .physical) (getD (call .transforms) (best .first .listed) 0) c' w'
   figures-ready h =
-      let u = used-flat B 1 (A .periods) in
       record {
         list = A .physical;
         board = A .board;
         transform = A .transforms .small (best .first .listed) h;
-        room = (omega (arith, A .room .0, logical-rooms .0 .len), omega (arith, A .room .1, logical-rooms .1 .len));
+        room = (le-trans (A .room .0) (le-of-eq (sym (logical-rooms .0 .len))), le-trans (A .room .1) (le-of-eq (sym (logical-rooms .1 .len))));
       }
 
-  module _ (x : Candidate) (next : RunnerUp) (k : r ≡ sel.Selected x next) (n : Admission) (v : n ≡ softVerdict (getD ts (best .first .listed) 0) (best .first) (getD ts (x .listed) 0) x next (size L)) where
+  module _ (x : Candidate) (next : RunnerUp) (k : r ≡ sel.Selected x next) (n : Admission) (v : n ≡ softVerdict (getD (call .transforms) (best .first .listed) 0) (best .first) (getD (call .transforms) (x .listed) 0) x next (size (call .logical))) where
     -- the answer under a verdict
     abbrev under : Admission → Answer
-    under y = let t = getD ts (best .first .listed) 0 in whenAccepted y (Found (softDecodedOf t best (figuresOf B P t (best .first .row) (best .first .col)) (size P) next))
+    under y = let t = getD (call .transforms) (best .first .listed) 0 in whenAccepted y (Found (softDecodedOf t best (figuresOf (call .board) (call .physical) t (best .first .row) (best .first .col)) (size (call .physical)) next))
 
-    logical-answer : under n ≡ afterHard P L ts B limit best (selection B L ts limit)
+    logical-answer : under n ≡ afterHard call best (selection (call .board) (call .logical) (call .transforms) (call .error-limit))
     unfolding softJudged
-    logical-answer = ap under v ∙ ap (afterHard P L ts B limit best) (sym k ∙ D .answer)
+    logical-answer = ap under v ∙ ap (afterHard call best) (sym k ∙ D .answer)
 
-    pub verdict-refused : (z : Refusal) → n ≡ admission.Refused z → LogicalDone P L ts B limit best c c' w w' (Refused z)
+    pub verdict-refused : (z : Refusal) → n ≡ admission.Refused z → LogicalDone call best c c' w w' (Refused z)
     verdict-refused z o = record { answer = ap under (sym o) ∙ logical-answer; counts = logical-rooms .0; weights = logical-rooms .1 }
 
-    module _ (c'' : List ℕ) (w'' : List Float) (own : HitsWeight) (F : FiguresDone B P (getD ts (best .first .listed) 0) (best .first .row) (best .first .col) c' c'' w' w'' own) where
-      pub own-few : own .hits ≤ size P
-      own-few = subst (λ (z : HitsWeight). z .hits ≤ size P) (sym (F .answer)) (figures-few B P (getD ts (best .first .listed) 0) (best .first .row) (best .first .col) (A .board) (A .physical))
+    module _ (c'' : List ℕ) (w'' : List Float) (own : HitsWeight) (F : FiguresDone (call .board) (call .physical) (getD (call .transforms) (best .first .listed) 0) (best .first .row) (best .first .col) c' c'' w' w'' own) where
+      pub own-few : own .hits ≤ size (call .physical)
+      own-few = subst (λ (z : HitsWeight). z .hits ≤ size (call .physical)) (sym (F .answer)) (figures-few (call .board) (call .physical) (getD (call .transforms) (best .first .listed) 0) (best .first .row) (best .first .col) (A .board) (A .physical))
 
-      pub verdict-found : (a : Decoded) → n ≡ admission.Accepted → a ≡ softDecodedOf (getD ts (best .first .listed) 0) best own (size P) next → LogicalDone P L ts B limit best c c'' w w'' (Found a)
+      pub verdict-found : (a : Decoded) → n ≡ admission.Accepted → a ≡ softDecodedOf (getD (call .transforms) (best .first .listed) 0) best own (size (call .physical)) next → LogicalDone call best c c'' w w'' (Found a)
       verdict-found a o e =
-          let u = used-flat B 1 (A .periods) in
           record {
-            answer = ap Found (e ∙ ap (λ (z : HitsWeight). softDecodedOf (getD ts (best .first .listed) 0) best z (size P) next) (F .answer)) ∙ ap under (sym o) ∙ logical-answer;
-            counts = beyond-trans 0 3006 c c' c'' (logical-rooms .0) (record { len = F .rooms .counts .len; same = λ i h. F .rooms .counts .surplus i (omega arith) });
-            weights = beyond-trans nan 3006 w w' w'' (logical-rooms .1) (record { len = F .rooms .weights .len; same = λ i h. F .rooms .weights .surplus i (omega arith) });
+            answer = ap Found (e ∙ ap (λ (z : HitsWeight). softDecodedOf (getD (call .transforms) (best .first .listed) 0) best z (size (call .physical)) next) (F .answer)) ∙ ap under (sym o) ∙ logical-answer;
+            counts = beyond-trans 0 (tablesRoom (call .board)) c c' c'' (logical-rooms .0) (record { len = F .rooms .counts .len; same = F .rooms .counts .surplus });
+            weights = beyond-trans nan (tablesRoom (call .board)) w w' w'' (logical-rooms .1) (record { len = F .rooms .weights .len; same = F .rooms .weights .surplus });
           }
 
 -- ---- the accepted call
@@ -146,109 +145,92 @@ abbrev firstPlaceOf : SoftChoice → ℕ
 firstPlaceOf Nothing = 0
 firstPlaceOf (Chosen first second) = first .listed
 
-module _ (P : EdgeList) (X : Likelihoods) (L : EdgeList) (ts : List ℕ) (B : Board) (limit least : Float) (m n o : ℕ) (A : SoftAccepted P (X .matches) (X .mismatches) L ts B limit least m n o) where
-  -- the hard part of it is accepted too
-  pub soft-hard : HardAccepted L P ts B limit m n
-  soft-hard = record {
-    room = (A .room .0, A .room .1);
-    logical = A .logical;
-    some-logical = A .some-logical;
-    physical = A .physical;
-    some-physical = A .some-physical;
-    transforms = A .transforms;
-    board = A .board;
-    periods = A .periods;
-    within-limit = A .within-limit;
-  }
-
-  pub likelihoods-ok : LikelihoodsOk P X
+module _ (call : SoftCall) (m n o : ℕ) (A : SoftAccepted call m n o) where
+  pub likelihoods-ok : LikelihoodsOk (call .hard .physical) (call .likelihoods)
   likelihoods-ok = record { matches = A .matches; mismatches = A .mismatches; match = λ i h. A .likely i h .0; mismatch = λ i h. A .likely i h .1 }
 
-  pub first-listed : (first second : SoftCandidate) → softSelection B P X ts ≡ Chosen first second → first .listed < length ts
+  pub first-listed : (first second : SoftCandidate) → softSelection (call .hard .board) (call .hard .physical) (call .likelihoods) (call .hard .transforms) ≡ Chosen first second → first .listed < length (call .hard .transforms)
   first-listed first second e =
-      let b = soft-best-edges B P X ts (A .board) (A .physical) likelihoods-ok (A .transforms .some) in
+      let b = soft-best-edges (call .hard .board) (call .hard .physical) (call .likelihoods) (call .hard .transforms) (A .hard .board) (A .hard .physical) likelihoods-ok (A .hard .transforms .some) in
       let p : first .listed ≡ b .p = ap firstPlaceOf (sym e ∙ b .chosen) in
       omega (arith, b .first .listed)
 
-module _ (P : EdgeList) (X : Likelihoods) (L : EdgeList) (ts : List ℕ) (B : Board) (limit least : Float) (c : List ℕ) (w : List Float) (a : List ℤ) (A : SoftAccepted P (X .matches) (X .mismatches) L ts B limit least (length c) (length w) (length a)) where
-  pub ready-soft : SoftReady B P X ts a
+module _ (call : SoftCall) (c : List ℕ) (w : List Float) (a : List ℤ) (A : SoftAccepted call (length c) (length w) (length a)) where
+  pub ready-soft : SoftReady (call .hard .board) (call .hard .physical) (call .likelihoods) (call .hard .transforms) a
   ready-soft = record {
-    list = A .physical;
-    likelihoods = likelihoods-ok P X L ts B limit least (length c) (length w) (length a) A;
-    board = A .board;
-    transforms = (A .transforms .some, A .transforms .few);
-    small = A .transforms .small;
-    room = omega (arith, used-flat B 2 (A .periods), A .room .2);
+    list = A .hard .physical;
+    likelihoods = likelihoods-ok call (length c) (length w) (length a) A;
+    board = A .hard .board;
+    transforms = (A .hard .transforms .some, A .hard .transforms .few);
+    small = A .hard .transforms .small;
+    room = A .room;
   }
 
   -- no confidence
-  pub core-none : (r : Answer) → eq (totalConfidence P) zeroF ≡ true → r ≡ refusedBy why.noConfidence → SoftCoreDone P X L ts B limit least c c w w a a r
+  pub core-none : (r : Answer) → eq (totalConfidence (call .hard .physical)) zeroF ≡ true → r ≡ refusedBy why.noConfidence → SoftCoreDone call c c w w a a r
   unfolding softCore noConfidence
-  core-none r h e = record { answer = e ∙ sym (rw h); counts = beyond-refl 0 3006 c; weights = beyond-refl nan 3006 w; sums = beyond-refl (pos 0) 5010 a }
+  core-none r h e = record { answer = e ∙ sym (rw h); counts = beyond-refl 0 (tablesRoom (call .hard .board)) c; weights = beyond-refl nan (tablesRoom (call .hard .board)) w; sums = beyond-refl (pos 0) (sumsRoom (call .hard .board)) a }
 
-  module _ (h : eq (totalConfidence P) zeroF ≡ false) (a' : List ℤ) (s : SoftScan) (S : SoftScanned B P X ts (length ts) a a' s) (x : SoftChoice) (g : x ≡ softChosen s) where
-    sums-beyond : SameBeyond (pos 0) 5010 a a'
-    sums-beyond =
-        let b = room-beyond B P X ts a ready-soft (length ts) a' (S .room) in
-        let u = used-flat B 2 (A .periods) in
-        record { len = b .len; same = λ k l. b .same k (omega arith) }
+  module _ (h : eq (totalConfidence (call .hard .physical)) zeroF ≡ false) (a' : List ℤ) (s : SoftScan) (S : SoftScanned (call .hard .board) (call .hard .physical) (call .likelihoods) (call .hard .transforms) (length (call .hard .transforms)) a a' s) (x : SoftChoice) (g : x ≡ softChosen s) where
+    sums-beyond : SameBeyond (pos 0) (sumsRoom (call .hard .board)) a a'
+    sums-beyond = room-beyond (call .hard .board) (call .hard .physical) (call .likelihoods) (call .hard .transforms) a ready-soft (length (call .hard .transforms)) a' (S .room)
 
-    pub choice-told : x ≡ softSelection B P X ts
+    pub choice-told : x ≡ softSelection (call .hard .board) (call .hard .physical) (call .likelihoods) (call .hard .transforms)
     choice-told = g ∙ ap softChosen (S .answer)
 
-    core-answer : (y : SoftChoice) → x ≡ y → afterSoft P L ts B limit least y ≡ softCore P X L ts B limit least
+    core-answer : (y : SoftChoice) → x ≡ y → afterSoft (call .hard) (call .soft-margin) y ≡ softCore call
     unfolding softCore noConfidence
-    core-answer y e = ap (afterSoft P L ts B limit least) (sym e ∙ choice-told) ∙ sym (rw h)
+    core-answer y e = ap (afterSoft (call .hard) (call .soft-margin)) (sym e ∙ choice-told) ∙ sym (rw h)
 
     -- no two candidates
-    pub core-nothing : (r : Answer) → x ≡ Nothing → r ≡ refusedBy why.softMargin → SoftCoreDone P X L ts B limit least c c w w a a' r
-    core-nothing r k e = record { answer = e ∙ core-answer Nothing k; counts = beyond-refl 0 3006 c; weights = beyond-refl nan 3006 w; sums = sums-beyond }
+    pub core-nothing : (r : Answer) → x ≡ Nothing → r ≡ refusedBy why.softMargin → SoftCoreDone call c c w w a a' r
+    core-nothing r k e = record { answer = e ∙ core-answer Nothing k; counts = beyond-refl 0 (tablesRoom (call .hard .board)) c; weights = beyond-refl nan (tablesRoom (call .hard .board)) w; sums = sums-beyond }
 
-    module _ (first second : SoftCandidate) (k : x ≡ Chosen first second) (m : Float) (f : m ≡ softMargin first second (size P)) where
+    module _ (first second : SoftCandidate) (k : x ≡ Chosen first second) (m : Float) (f : m ≡ softMargin first second (size (call .hard .physical))) where
       -- the margin is too small
-      pub core-below : (b : Bool) (r : Answer) → b ≡ belowMargin m least → b ≡ true → r ≡ refusedBy why.softMargin → SoftCoreDone P X L ts B limit least c c w w a a' r
+      pub core-below : (b : Bool) (r : Answer) → b ≡ belowMargin m (call .soft-margin) → b ≡ true → r ≡ refusedBy why.softMargin → SoftCoreDone call c c w w a a' r
       core-below b r d t e =
-          let q : belowMargin (softMargin first second (size P)) least ≡ true = ap (λ (z : Float). belowMargin z least) (sym f) ∙ sym d ∙ t in
-          record { answer = e ∙ sym (rw q) ∙ core-answer (Chosen first second) k; counts = beyond-refl 0 3006 c; weights = beyond-refl nan 3006 w; sums = sums-beyond }
+          let q : belowMargin (softMargin first second (size (call .hard .physical))) (call .soft-margin) ≡ true = ap (λ (z : Float). belowMargin z (call .soft-margin)) (sym f) ∙ sym d ∙ t in
+          record { answer = e ∙ sym (rw q) ∙ core-answer (Chosen first second) k; counts = beyond-refl 0 (tablesRoom (call .hard .board)) c; weights = beyond-refl nan (tablesRoom (call .hard .board)) w; sums = sums-beyond }
 
       -- else the logical list decides
-      pub core-logical : (b : Bool) (c' : List ℕ) (w' : List Float) (r : Answer) → b ≡ belowMargin m least → b ≡ false → LogicalDone P L ts B limit (record { first = first; second = second; margin = m }) c c' w w' r → SoftCoreDone P X L ts B limit least c c' w w' a a' r
+      pub core-logical : (b : Bool) (c' : List ℕ) (w' : List Float) (r : Answer) → b ≡ belowMargin m (call .soft-margin) → b ≡ false → LogicalDone (call .hard) (record { first = first; second = second; margin = m }) c c' w w' r → SoftCoreDone call c c' w w' a a' r
       core-logical b c' w' r d t D =
-          let q : belowMargin (softMargin first second (size P)) least ≡ false = ap (λ (z : Float). belowMargin z least) (sym f) ∙ sym d ∙ t in
+          let q : belowMargin (softMargin first second (size (call .hard .physical))) (call .soft-margin) ≡ false = ap (λ (z : Float). belowMargin z (call .soft-margin)) (sym f) ∙ sym d ∙ t in
           record {
-            answer = D .answer ∙ ap (λ (z : Float). afterHard P L ts B limit (record { first = first; second = second; margin = z }) (selection B L ts limit)) f ∙ sym (rw q) ∙ core-answer (Chosen first second) k;
+            answer = D .answer ∙ ap (λ (z : Float). afterHard (call .hard) (record { first = first; second = second; margin = z }) (selection (call .hard .board) (call .hard .logical) (call .hard .transforms) (call .hard .error-limit))) f ∙ sym (rw q) ∙ core-answer (Chosen first second) k;
             counts = D .counts;
             weights = D .weights;
             sums = sums-beyond;
           }
 
 -- ---- the two ways in which soft decode ends
-module _ (P : EdgeList) (X : Likelihoods) (L : EdgeList) (ts : List ℕ) (B : Board) (limit least : Float) (c : List ℕ) (w : List Float) (a : List ℤ) where
-  module _ (b : Admission) (e : b ≡ softAdmission P (X .matches) (X .mismatches) L ts B limit least (length c) (length w) (length a)) where
-    pub soft-refused : (x : Refusal) → b ≡ admission.Refused x → SoftDone P X L ts B limit least c c w w a a (Refused x)
+module _ (call : SoftCall) (c : List ℕ) (w : List Float) (a : List ℤ) where
+  module _ (b : Admission) (e : b ≡ softAdmission call (length c) (length w) (length a)) where
+    pub soft-refused : (x : Refusal) → b ≡ admission.Refused x → SoftDone call c c w w a a (Refused x)
     unfolding softAnswer left
     soft-refused x n =
         let f = sym n ∙ e in
         record {
-          answer = ap (λ (y : Admission). whenAccepted y (softCore P X L ts B limit least)) f;
-          counts = ap (λ (y : Admission). left 0 3006 y c) f;
-          weights = ap (λ (y : Admission). left zeroF 3006 y w) f;
-          sums = ap (λ (y : Admission). left (pos 0) 5010 y a) f;
+          answer = ap (λ (y : Admission). whenAccepted y (softCore call)) f;
+          counts = ap (λ (y : Admission). left 0 (tablesRoom (call .hard .board)) y c) f;
+          weights = ap (λ (y : Admission). left zeroF (tablesRoom (call .hard .board)) y w) f;
+          sums = ap (λ (y : Admission). left (pos 0) (sumsRoom (call .hard .board)) y a) f;
         }
 
     pub soft-done : (c' c'' : List ℕ) (w' w'' : List Float) (a' a'' : List ℤ) (o : Answer) → b ≡ admission.Accepted
-        → SoftAccepted P (X .matches) (X .mismatches) L ts B limit least (length c) (length w) (length a) → SoftCoreDone P X L ts B limit least c c' w w' a a' o
-        → c'' ≡ cleared 0 3006 c' → w'' ≡ cleared zeroF 3006 w' → a'' ≡ cleared (pos 0) 5010 a' → SoftDone P X L ts B limit least c c'' w w'' a a'' o
+        → SoftAccepted call (length c) (length w) (length a) → SoftCoreDone call c c' w w' a a' o
+        → c'' ≡ cleared 0 (tablesRoom (call .hard .board)) c' → w'' ≡ cleared zeroF (tablesRoom (call .hard .board)) w' → a'' ≡ cleared (pos 0) (sumsRoom (call .hard .board)) a' → SoftDone call c c'' w w'' a a'' o
     unfolding softAnswer left
     soft-done c' c'' w' w'' a' a'' o z A D u v t =
         let f = sym z ∙ e in
         record {
-          answer = D .answer ∙ ap (λ (y : Admission). whenAccepted y (softCore P X L ts B limit least)) f;
-          counts = u ∙ cleared-forgets 0 3006 0 c c' (A .room .0) (D .counts) ∙ ap (λ (y : Admission). left 0 3006 y c) f;
-          weights = v ∙ cleared-forgets nan 3006 zeroF w w' (A .room .1) (D .weights) ∙ ap (λ (y : Admission). left zeroF 3006 y w) f;
-          sums = t ∙ cleared-forgets (pos 0) 5010 (pos 0) a a' (A .room .2) (D .sums) ∙ ap (λ (y : Admission). left (pos 0) 5010 y a) f;
+          answer = D .answer ∙ ap (λ (y : Admission). whenAccepted y (softCore call)) f;
+          counts = u ∙ cleared-forgets 0 (tablesRoom (call .hard .board)) 0 c c' (A .hard .room .0) (D .counts) ∙ ap (λ (y : Admission). left 0 (tablesRoom (call .hard .board)) y c) f;
+          weights = v ∙ cleared-forgets nan (tablesRoom (call .hard .board)) zeroF w w' (A .hard .room .1) (D .weights) ∙ ap (λ (y : Admission). left zeroF (tablesRoom (call .hard .board)) y w) f;
+          sums = t ∙ cleared-forgets (pos 0) (sumsRoom (call .hard .board)) (pos 0) a a' (A .room) (D .sums) ∙ ap (λ (y : Admission). left (pos 0) (sumsRoom (call .hard .board)) y a) f;
         }
 
   -- any two results that the promise allows are equal
-  pub soft-unique : (c' d' : List ℕ) (w' x' : List Float) (a' b' : List ℤ) (r s : Answer) → SoftDone P X L ts B limit least c c' w w' a a' r → SoftDone P X L ts B limit least c d' w x' a b' s → (r ≡ s) × (c' ≡ d') × (w' ≡ x') × (a' ≡ b')
+  pub soft-unique : (c' d' : List ℕ) (w' x' : List Float) (a' b' : List ℤ) (r s : Answer) → SoftDone call c c' w w' a a' r → SoftDone call c d' w x' a b' s → (r ≡ s) × (c' ≡ d') × (w' ≡ x') × (a' ≡ b')
   soft-unique c' d' w' x' a' b' r s p q = (p .answer ∙ sym (q .answer), p .counts ∙ sym (q .counts), p .weights ∙ sym (q .weights), p .sums ∙ sym (q .sums))

@@ -16,6 +16,7 @@ use Rattle.board.specs.declared.edge.Placing.{Placing}
 use Rattle.board.specs.Hits.{EdgeList, Board, size, hits, hitsAt}
 use Rattle.board.specs.Sides.{periodOf}
 use Rattle.board.specs.Domain.{BoardOk}
+use Rattle.admission.specs.Calls.{SoftCall}
 use Rattle.admission.specs.Accepted.{SoftAccepted}
 use Rattle.likelihood.specs.Likelihood.{dequantised}
 use Rattle.sums.specs.Sums.{Likelihoods, score}
@@ -78,64 +79,64 @@ pub figures-hits : (B : Board) (E : EdgeList) (t row col : ℕ) → BoardOk B �
 unfolding cellFigures tablesOf
 figures-hits B E t row col board = sym (cell-pair-hits B E t board row col)
 
-module _ (P : EdgeList) (X : Likelihoods) (L : EdgeList) (ts : List ℕ) (B : Board) (limit least : Float) (m n o : ℕ) (A : SoftAccepted P (X .matches) (X .mismatches) L ts B limit least m n o) where
+module _ (call : SoftCall) (m n o : ℕ) (A : SoftAccepted call m n o) where
   -- ---- its own best placing
   abbrev Best : SoftChoice → Type 0
-  Best = BestTwo (periodOf B true) (periodOf B false) (length ts) (scoreAtKey B P X ts)
+  Best = BestTwo (periodOf (call .hard .board) true) (periodOf (call .hard .board) false) (length (call .hard .transforms)) (scoreAtKey (call .hard .board) (call .hard .physical) (call .likelihoods) (call .hard .transforms))
 
-  best : Best (softSelection B P X ts)
-  best = soft-best-edges B P X ts (A .board) (A .physical) (likelihoods-ok P X L ts B limit least m n o A) (A .transforms .some)
+  best : Best (softSelection (call .hard .board) (call .hard .physical) (call .likelihoods) (call .hard .transforms))
+  best = soft-best-edges (call .hard .board) (call .hard .physical) (call .likelihoods) (call .hard .transforms) (A .hard .board) (A .hard .physical) (likelihoods-ok call m n o A) (A .hard .transforms .some)
 
   -- a placing by its key has the total that its row and column have
-  by-key : (Q : Placing) → OnBoard B ts Q → record { listed = Q .listed; row = keyOf B (A .board) Q / (3 * periodOf B false); col = keyOf B (A .board) Q % (3 * periodOf B false); total = dequantised (scoreAtKey B P X ts (Q .listed) (keyOf B (A .board) Q)) } ≡ candidate B P X ts Q
+  by-key : (Q : Placing) → OnBoard (call .hard .board) (call .hard .transforms) Q → record { listed = Q .listed; row = keyOf (call .hard .board) (A .hard .board) Q / (3 * periodOf (call .hard .board) false); col = keyOf (call .hard .board) (A .hard .board) Q % (3 * periodOf (call .hard .board) false); total = dequantised (scoreAtKey (call .hard .board) (call .hard .physical) (call .likelihoods) (call .hard .transforms) (Q .listed) (keyOf (call .hard .board) (A .hard .board) Q)) } ≡ candidate (call .hard .board) (call .hard .physical) (call .likelihoods) (call .hard .transforms) Q
   by-key Q u =
-      let r = row-back B (A .board) ts Q u in
-      let c = col-back B (A .board) ts Q u in
-      λ i. record { listed = Q .listed; row = r i; col = c i; total = dequantised (score B P X (getD ts (Q .listed) 0) (r i) (c i)) }
+      let r = row-back (call .hard .board) (A .hard .board) (call .hard .transforms) Q u in
+      let c = col-back (call .hard .board) (A .hard .board) (call .hard .transforms) Q u in
+      λ i. record { listed = Q .listed; row = r i; col = c i; total = dequantised (score (call .hard .board) (call .hard .physical) (call .likelihoods) (getD (call .hard .transforms) (Q .listed) 0) (r i) (c i)) }
 
   -- the two best by likelihood are what soft selection holds
-  pub own-best : (Q R : Placing) → BestByLikelihood B P X ts Q R → softSelection B P X ts ≡ Chosen (candidate B P X ts Q) (candidate B P X ts R)
+  pub own-best : (Q R : Placing) → BestByLikelihood (call .hard .board) (call .hard .physical) (call .likelihoods) (call .hard .transforms) Q R → softSelection (call .hard .board) (call .hard .physical) (call .likelihoods) (call .hard .transforms) ≡ Chosen (candidate (call .hard .board) (call .hard .physical) (call .likelihoods) (call .hard .transforms) Q) (candidate (call .hard .board) (call .hard .physical) (call .likelihoods) (call .hard .transforms) R)
   own-best Q R b =
-      best-two-only (periodOf B true) (periodOf B false) (length ts) (period-h B (A .board)) (period-v B (A .board)) (scoreAtKey B P X ts) (softSelection B P X ts) _ best
-      (record { p = Q .listed; k = keyOf B (A .board) Q; q = R .listed; j = keyOf B (A .board) R; chosen = refl; first = b .first; second = b .second })
+      best-two-only (periodOf (call .hard .board) true) (periodOf (call .hard .board) false) (length (call .hard .transforms)) (period-h (call .hard .board) (A .hard .board)) (period-v (call .hard .board) (A .hard .board)) (scoreAtKey (call .hard .board) (call .hard .physical) (call .likelihoods) (call .hard .transforms)) (softSelection (call .hard .board) (call .hard .physical) (call .likelihoods) (call .hard .transforms)) _ best
+      (record { p = Q .listed; k = keyOf (call .hard .board) (A .hard .board) Q; q = R .listed; j = keyOf (call .hard .board) (A .hard .board) R; chosen = refl; first = b .first; second = b .second })
       ∙ ap₂ (λ (x y : SoftCandidate). Chosen x y) (by-key Q (b .on-board)) (by-key R (b .second-on))
 
   -- and it always holds two
   pub first-placing : Placing
-  first-placing = placing B (A .board) (best .p) (best .k)
+  first-placing = placing (call .hard .board) (A .hard .board) (best .p) (best .k)
 
   pub second-placing : Placing
-  second-placing = placing B (A .board) (best .q) (best .j)
+  second-placing = placing (call .hard .board) (A .hard .board) (best .q) (best .j)
 
-  pub own-exists : BestByLikelihood B P X ts first-placing second-placing
+  pub own-exists : BestByLikelihood (call .hard .board) (call .hard .physical) (call .likelihoods) (call .hard .transforms) first-placing second-placing
   unfolding first-placing second-placing
   own-exists =
-      let e = key-back B (A .board) ts (best .p) (best .k) in
-      let f = key-back B (A .board) ts (best .q) (best .j) in
-      let G = origins (periodOf B true) (periodOf B false) in
+      let e = key-back (call .hard .board) (A .hard .board) (call .hard .transforms) (best .p) (best .k) in
+      let f = key-back (call .hard .board) (A .hard .board) (call .hard .transforms) (best .q) (best .j) in
+      let G = origins (periodOf (call .hard .board) true) (periodOf (call .hard .board) false) in
       record {
-        on-board = placing-on B (A .board) ts (best .p) (best .k) (best .first .listed) (best .first .own .key);
-        second-on = placing-on B (A .board) ts (best .q) (best .j) (best .second .listed) (best .second .key);
-        first = subst (λ (k : ℕ). FirstPlace (origins (periodOf B true) (periodOf B false)) (length ts) (scoreAtKey B P X ts) (best .p) k) (sym e) (best .first);
-        second = subst (λ (k : ℕ). SecondPlace (origins (periodOf B true) (periodOf B false)) (length ts) (scoreAtKey B P X ts) (best .p) k (best .q) (keyOf B (A .board) (placing B (A .board) (best .q) (best .j)))) (sym e)
-            (subst (λ (j : ℕ). SecondPlace (origins (periodOf B true) (periodOf B false)) (length ts) (scoreAtKey B P X ts) (best .p) (best .k) (best .q) j) (sym f) (best .second));
+        on-board = placing-on (call .hard .board) (A .hard .board) (call .hard .transforms) (best .p) (best .k) (best .first .listed) (best .first .own .key);
+        second-on = placing-on (call .hard .board) (A .hard .board) (call .hard .transforms) (best .q) (best .j) (best .second .listed) (best .second .key);
+        first = subst (λ (k : ℕ). FirstPlace (origins (periodOf (call .hard .board) true) (periodOf (call .hard .board) false)) (length (call .hard .transforms)) (scoreAtKey (call .hard .board) (call .hard .physical) (call .likelihoods) (call .hard .transforms)) (best .p) k) (sym e) (best .first);
+        second = subst (λ (k : ℕ). SecondPlace (origins (periodOf (call .hard .board) true) (periodOf (call .hard .board) false)) (length (call .hard .transforms)) (scoreAtKey (call .hard .board) (call .hard .physical) (call .likelihoods) (call .hard .transforms)) (best .p) k (best .q) (keyOf (call .hard .board) (A .hard .board) (placing (call .hard .board) (A .hard .board) (best .q) (best .j)))) (sym e)
+            (subst (λ (j : ℕ). SecondPlace (origins (periodOf (call .hard .board) true) (periodOf (call .hard .board) false)) (length (call .hard .transforms)) (scoreAtKey (call .hard .board) (call .hard .physical) (call .likelihoods) (call .hard .transforms)) (best .p) (best .k) (best .q) j) (sym f) (best .second));
       }
 
   -- ---- found: then its own best placing clears the margin and leads
-  module _ (d : Decoded) (Q R : Placing) (b : BestByLikelihood B P X ts Q R) (clear : belowMargin (marginOf B P X ts Q R) least ≡ false) where
+  module _ (d : Decoded) (Q R : Placing) (b : BestByLikelihood (call .hard .board) (call .hard .physical) (call .likelihoods) (call .hard .transforms) Q R) (clear : belowMargin (marginOf (call .hard .board) (call .hard .physical) (call .likelihoods) (call .hard .transforms) Q R) (call .soft-margin) ≡ false) where
     abbrev t : ℕ
-    t = getD ts (Q .listed) 0
+    t = getD (call .hard .transforms) (Q .listed) 0
 
     abbrev answer : RunnerUp → Decoded
-    answer r = softDecodedOf t (bestOf (candidate B P X ts Q) (candidate B P X ts R) (size P)) (figuresOf B P t (Q .row) (Q .col)) (size P) r
+    answer r = softDecodedOf t (bestOf (candidate (call .hard .board) (call .hard .physical) (call .likelihoods) (call .hard .transforms) Q) (candidate (call .hard .board) (call .hard .physical) (call .likelihoods) (call .hard .transforms) R) (size (call .hard .physical))) (figuresOf (call .hard .board) (call .hard .physical) t (Q .row) (Q .col)) (size (call .hard .physical)) r
 
-    module _ (x : Candidate) (r : RunnerUp) (e : selection B L ts limit ≡ sel.Selected x r) (p : (t ≡ getD ts (x .listed) 0) × (Q .row ≡ x .row) × (Q .col ≡ x .col) × (passed (size L) (x .hits) (r .hits) ≡ true)) where
-      lead : Leads B L ts limit (placed x)
-      lead = winner-leads B L ts limit (A .board) (A .logical) (A .transforms .few) x r e (p .3)
+    module _ (x : Candidate) (r : RunnerUp) (e : selection (call .hard .board) (call .hard .logical) (call .hard .transforms) (call .hard .error-limit) ≡ sel.Selected x r) (p : (t ≡ getD (call .hard .transforms) (x .listed) 0) × (Q .row ≡ x .row) × (Q .col ≡ x .col) × (passed (size (call .hard .logical)) (x .hits) (r .hits) ≡ true)) where
+      lead : Leads (call .hard .board) (call .hard .logical) (call .hard .transforms) (call .hard .error-limit) (placed x)
+      lead = winner-leads (call .hard .board) (call .hard .logical) (call .hard .transforms) (call .hard .error-limit) (A .hard .board) (A .hard .logical) (A .hard .transforms .few) x r e (p .3)
 
       -- the same transform and origin, so as many hits: were it at another place of the list, neither would lead
-      same-hits : hitsAt B L ts Q ≡ hitsAt B L ts (placed x)
-      same-hits = λ i. hits B L (p .0 i) (p .1 i) (p .2 i)
+      same-hits : hitsAt (call .hard .board) (call .hard .logical) (call .hard .transforms) Q ≡ hitsAt (call .hard .board) (call .hard .logical) (call .hard .transforms) (placed x)
+      same-hits = λ i. hits (call .hard .board) (call .hard .logical) (p .0 i) (p .1 i) (p .2 i)
 
       same-place : (e : Bool) → eqb (Q .listed) (x .listed) ≡ e → Q .listed ≡ x .listed
       same-place true h = eqb-true (Q .listed) (x .listed) h
@@ -144,69 +145,69 @@ module _ (P : EdgeList) (X : Likelihoods) (L : EdgeList) (ts : List ℕ) (B : Bo
       same-one : placed x ≡ Q
       same-one = let q = same-place (eqb (Q .listed) (x .listed)) refl in λ i. record { listed = sym q i; row = sym (p .1) i; col = sym (p .2) i }
 
-      soft-answered : Found (answer r) ≡ Found d → SoftAnswered P X L ts B limit least d
+      soft-answered : Found (answer r) ≡ Found d → SoftAnswered call d
       unfolding softDecodedOf
       soft-answered k =
           let q : answer r ≡ d = cc in
-          let l = named B L ts limit (A .board) (A .logical) (A .transforms .few) x r e (p .3) in
-          subst (λ (z : Decoded). SoftAnswered P X L ts B limit least z) q (record {
+          let l = named (call .hard .board) (call .hard .logical) (call .hard .transforms) (call .hard .error-limit) (A .hard .board) (A .hard .logical) (A .hard .transforms .few) x r e (p .3) in
+          subst (λ (z : Decoded). SoftAnswered call z) q (record {
             square = Q;
             second = R;
             runner-up = nextAt (l .0) r;
             best = b;
             clears = clear;
-            leads = subst (λ (z : Placing). Leads B L ts limit z) same-one lead;
-            next-best = subst (λ (z : Placing). RunsUp B L ts z (nextAt (l .0) r)) same-one (runs-up B L ts limit (A .board) (A .logical) (A .transforms .few) x r e (p .3));
+            leads = subst (λ (z : Placing). Leads (call .hard .board) (call .hard .logical) (call .hard .transforms) (call .hard .error-limit) z) same-one lead;
+            next-best = subst (λ (z : Placing). RunsUp (call .hard .board) (call .hard .logical) (call .hard .transforms) z (nextAt (l .0) r)) same-one (runs-up (call .hard .board) (call .hard .logical) (call .hard .transforms) (call .hard .error-limit) (A .hard .board) (A .hard .logical) (A .hard .transforms .few) x r e (p .3));
             names = (refl, refl, refl);
-            hits = figures-hits B P t (Q .row) (Q .col) (A .board);
+            hits = figures-hits (call .hard .board) (call .hard .physical) t (Q .row) (Q .col) (A .hard .board);
             edges = refl;
             score = refl;
             margin = refl;
             runner = (l .2, refl, refl);
-            next = ap (λ (z : ℕ). ofInt binary32 (pos z)) (sym (runner-hits B L ts limit (A .board) (A .logical) (A .transforms .few) x r e (p .3)));
+            next = ap (λ (z : ℕ). ofInt binary32 (pos z)) (sym (runner-hits (call .hard .board) (call .hard .logical) (call .hard .transforms) (call .hard .error-limit) (A .hard .board) (A .hard .logical) (A .hard .transforms .few) x r e (p .3)));
           })
 
     abbrev verdict : Candidate → RunnerUp → Admission
-    verdict x r = softVerdict t (candidate B P X ts Q) (getD ts (x .listed) 0) x r (size L)
+    verdict x r = softVerdict t (candidate (call .hard .board) (call .hard .physical) (call .likelihoods) (call .hard .transforms) Q) (getD (call .hard .transforms) (x .listed) 0) x r (size (call .hard .logical))
 
-    by-verdict : (x : Candidate) (r : RunnerUp) (v : Admission) → selection B L ts limit ≡ sel.Selected x r → verdict x r ≡ v → whenAccepted v (Found (answer r)) ≡ Found d → SoftAnswered P X L ts B limit least d
-    by-verdict x r admission.Accepted e h k = soft-answered x r e (verdict-passed t (candidate B P X ts Q) (getD ts (x .listed) 0) x r (size L) h) k
+    by-verdict : (x : Candidate) (r : RunnerUp) (v : Admission) → selection (call .hard .board) (call .hard .logical) (call .hard .transforms) (call .hard .error-limit) ≡ sel.Selected x r → verdict x r ≡ v → whenAccepted v (Found (answer r)) ≡ Found d → SoftAnswered call d
+    by-verdict x r admission.Accepted e h k = soft-answered x r e (verdict-passed t (candidate (call .hard .board) (call .hard .physical) (call .likelihoods) (call .hard .transforms) Q) (getD (call .hard .transforms) (x .listed) 0) x r (size (call .hard .logical)) h) k
     by-verdict x r (admission.Refused j) e h k = absurd (no-square d j k)
 
-    by-logical : (q : Selection) → selection B L ts limit ≡ q → afterHard P L ts B limit (bestOf (candidate B P X ts Q) (candidate B P X ts R) (size P)) q ≡ Found d → SoftAnswered P X L ts B limit least d
+    by-logical : (q : Selection) → selection (call .hard .board) (call .hard .logical) (call .hard .transforms) (call .hard .error-limit) ≡ q → afterHard (call .hard) (bestOf (candidate (call .hard .board) (call .hard .physical) (call .likelihoods) (call .hard .transforms) Q) (candidate (call .hard .board) (call .hard .physical) (call .likelihoods) (call .hard .transforms) R) (size (call .hard .physical))) q ≡ Found d → SoftAnswered call d
     unfolding softJudged
     by-logical (sel.Refused j) e h = absurd (no-square d j h)
     by-logical (sel.Selected x r) e h = by-verdict x r (verdict x r) e refl h
 
-  by-margin : (d : Decoded) (Q R : Placing) → BestByLikelihood B P X ts Q R → (v : Bool) → belowMargin (marginOf B P X ts Q R) least ≡ v
-      → pick v (refusedBy why.softMargin) (afterHard P L ts B limit (bestOf (candidate B P X ts Q) (candidate B P X ts R) (size P)) (selection B L ts limit)) ≡ Found d → SoftAnswered P X L ts B limit least d
+  by-margin : (d : Decoded) (Q R : Placing) → BestByLikelihood (call .hard .board) (call .hard .physical) (call .likelihoods) (call .hard .transforms) Q R → (v : Bool) → belowMargin (marginOf (call .hard .board) (call .hard .physical) (call .likelihoods) (call .hard .transforms) Q R) (call .soft-margin) ≡ v
+      → pick v (refusedBy why.softMargin) (afterHard (call .hard) (bestOf (candidate (call .hard .board) (call .hard .physical) (call .likelihoods) (call .hard .transforms) Q) (candidate (call .hard .board) (call .hard .physical) (call .likelihoods) (call .hard .transforms) R) (size (call .hard .physical))) (selection (call .hard .board) (call .hard .logical) (call .hard .transforms) (call .hard .error-limit))) ≡ Found d → SoftAnswered call d
   by-margin d Q R b true e h = absurd (no-square d (numbered why.softMargin) h)
-  by-margin d Q R b false e h = by-logical d Q R b e (selection B L ts limit) refl h
+  by-margin d Q R b false e h = by-logical d Q R b e (selection (call .hard .board) (call .hard .logical) (call .hard .transforms) (call .hard .error-limit)) refl h
 
-  by-confidence : (d : Decoded) (v : Bool) → pick v (refusedBy why.noConfidence) (afterSoft P L ts B limit least (softSelection B P X ts)) ≡ Found d → SoftAnswered P X L ts B limit least d
+  by-confidence : (d : Decoded) (v : Bool) → pick v (refusedBy why.noConfidence) (afterSoft (call .hard) (call .soft-margin) (softSelection (call .hard .board) (call .hard .physical) (call .likelihoods) (call .hard .transforms))) ≡ Found d → SoftAnswered call d
   by-confidence d true h = absurd (no-square d (numbered why.noConfidence) h)
   by-confidence d false h =
       let Q = first-placing in
       let R = second-placing in
-      by-margin d Q R own-exists (belowMargin (marginOf B P X ts Q R) least) refl (ap (afterSoft P L ts B limit least) (sym (own-best Q R own-exists)) ∙ h)
+      by-margin d Q R own-exists (belowMargin (marginOf (call .hard .board) (call .hard .physical) (call .likelihoods) (call .hard .transforms) Q R) (call .soft-margin)) refl (ap (afterSoft (call .hard) (call .soft-margin)) (sym (own-best Q R own-exists)) ∙ h)
 
   -- FOUND MEANS TRUE
-  pub soft-sound : (d : Decoded) → softCore P X L ts B limit least ≡ Found d → SoftAnswered P X L ts B limit least d
+  pub soft-sound : (d : Decoded) → softCore call ≡ Found d → SoftAnswered call d
   unfolding softCore
-  soft-sound d h = by-confidence d (noConfidence P) h
+  soft-sound d h = by-confidence d (noConfidence (call .hard .physical)) h
 
   -- ---- its own best placing clears the margin and leads: then soft decode finds
   -- A TRUE SQUARE IS FOUND
-  pub soft-complete : noConfidence P ≡ false → noConfidence L ≡ false → (Q R : Placing) → BestByLikelihood B P X ts Q R → belowMargin (marginOf B P X ts Q R) least ≡ false → Leads B L ts limit Q
-      → (d : Decoded) × (softCore P X L ts B limit least ≡ Found d)
+  pub soft-complete : noConfidence (call .hard .physical) ≡ false → noConfidence (call .hard .logical) ≡ false → (Q R : Placing) → BestByLikelihood (call .hard .board) (call .hard .physical) (call .likelihoods) (call .hard .transforms) Q R → belowMargin (marginOf (call .hard .board) (call .hard .physical) (call .likelihoods) (call .hard .transforms) Q R) (call .soft-margin) ≡ false → Leads (call .hard .board) (call .hard .logical) (call .hard .transforms) (call .hard .error-limit) Q
+      → (d : Decoded) × (softCore call ≡ Found d)
   unfolding softCore softJudged softVerdict
   soft-complete h g Q R b clear l =
-      let s = sole-selected B L ts limit (A .board) (A .logical) (A .transforms .few) g (Q .listed) (keyOf B (A .board) Q) (leads-sole B (A .board) ts L limit Q l) in
+      let s = sole-selected (call .hard .board) (call .hard .logical) (call .hard .transforms) (call .hard .error-limit) (A .hard .board) (A .hard .logical) (A .hard .transforms .few) g (Q .listed) (keyOf (call .hard .board) (A .hard .board) Q) (leads-sole (call .hard .board) (A .hard .board) (call .hard .transforms) (call .hard .logical) (call .hard .error-limit) Q l) in
       let x = s .0 in
       let r = s .1 in
-      let k = key-same B (A .board) ts Q (placed x) (l .on-board) (winner-on B L ts limit (A .board) (A .logical) (A .transforms .few) x r (s .2)) (s .4, s .5) in
-      let t = getD ts (Q .listed) 0 in
-      let p1 : eqb t (getD ts (x .listed) 0) ≡ true = eq-eqb t (getD ts (x .listed) 0) (ap (λ (i : ℕ). getD ts i 0) (k .0)) in
+      let k = key-same (call .hard .board) (A .hard .board) (call .hard .transforms) Q (placed x) (l .on-board) (winner-on (call .hard .board) (call .hard .logical) (call .hard .transforms) (call .hard .error-limit) (A .hard .board) (A .hard .logical) (A .hard .transforms .few) x r (s .2)) (s .4, s .5) in
+      let t = getD (call .hard .transforms) (Q .listed) 0 in
+      let p1 : eqb t (getD (call .hard .transforms) (x .listed) 0) ≡ true = eq-eqb t (getD (call .hard .transforms) (x .listed) 0) (ap (λ (i : ℕ). getD (call .hard .transforms) i 0) (k .0)) in
       let p2 : eqb (Q .row) (x .row) ≡ true = eq-eqb (Q .row) (x .row) (k .1) in
       let p3 : eqb (Q .col) (x .col) ≡ true = eq-eqb (Q .col) (x .col) (k .2) in
-      (softDecodedOf t (bestOf (candidate B P X ts Q) (candidate B P X ts R) (size P)) (figuresOf B P t (Q .row) (Q .col)) (size P) r, rw (h, own-best Q R b, clear, s .2, p1, p2, p3, s .3))
+      (softDecodedOf t (bestOf (candidate (call .hard .board) (call .hard .physical) (call .likelihoods) (call .hard .transforms) Q) (candidate (call .hard .board) (call .hard .physical) (call .likelihoods) (call .hard .transforms) R) (size (call .hard .physical))) (figuresOf (call .hard .board) (call .hard .physical) t (Q .row) (Q .col)) (size (call .hard .physical)) r, rw (h, own-best Q R b, clear, s .2, p1, p2, p3, s .3))

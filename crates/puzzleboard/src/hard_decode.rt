@@ -3,10 +3,12 @@ ghost use mathlib.Core.Path.{_≡_};
 ghost use Prim.Native.Nat.{_≤_, _<_};
 ghost use lib.ListN.{length};
 ghost use Rattle.board.specs.Hits.{edges, tables};
+ghost use Rattle.admission.specs.Calls.{hardCall};
 ghost use Rattle.admission.specs.Accepted.{HardAccepted};
 ghost use Rattle.puzzleboard.specs.Hard.{CoreDone, HardDone};
 use answer::Answer;
 use hard::select::Selection;
+use laws::Periods;
 use refusals::Admission;
 use verdict::verdict::judge;
 
@@ -30,13 +32,15 @@ fn hard_core<'a>(
     weights: &mut [f32],
 ) -> Answer
     requires { ⌜ HardAccepted
+        (hardCall
         (edges (now lrows) (now lcols) (now lorientations) (now lbits) (now lconfidences))
         (edges (now prows) (now pcols) (now porientations) (now pbits) (now pconfidences))
-        (now transforms) (tables (now h) (now v)) limit (length (now counts)) (length (now weights)) ⌝ }
+        (now transforms) (tables (now h) (now v)) limit) (length (now counts)) (length (now weights)) ⌝ }
     ensures { λ r. ⌜ CoreDone
+        (hardCall
         (edges (now (lrows .entry)) (now (lcols .entry)) (now (lorientations .entry)) (now (lbits .entry)) (now (lconfidences .entry)))
         (edges (now (prows .entry)) (now (pcols .entry)) (now (porientations .entry)) (now (pbits .entry)) (now (pconfidences .entry)))
-        (now (transforms .entry)) (tables (now (h .entry)) (now (v .entry))) limit
+        (now (transforms .entry)) (tables (now (h .entry)) (now (v .entry))) limit)
         (now (counts .entry)) (now (counts .exit)) (now (weights .entry)) (now (weights .exit)) r ⌝ }
 {
     let logical = hard::select::select(
@@ -88,7 +92,7 @@ fn hard_core<'a>(
 }
 
 // Which square the camera faces by its two edge lists, or a refusal, for all inputs. After refusals 1 to 9 the lent room is untouched; after every other call
-// its first 3,006 places are zero.
+// what was used of it is zero: 3,006 u32 and 3,006 f32.
 pub fn decode_hard<'a>(
     lrows: &[i32],
     lcols: &[i32],
@@ -108,9 +112,10 @@ pub fn decode_hard<'a>(
     weights: &mut [f32],
 ) -> Answer
     ensures { λ r. ⌜ HardDone
+        (hardCall
         (edges (now (lrows .entry)) (now (lcols .entry)) (now (lorientations .entry)) (now (lbits .entry)) (now (lconfidences .entry)))
         (edges (now (prows .entry)) (now (pcols .entry)) (now (porientations .entry)) (now (pbits .entry)) (now (pconfidences .entry)))
-        (now (transforms .entry)) (tables (now (h .entry)) (now (v .entry))) limit
+        (now (transforms .entry)) (tables (now (h .entry)) (now (v .entry))) limit)
         (now (counts .entry)) (now (counts .exit)) (now (weights .entry)) (now (weights .exit)) r ⌝ }
 {
     let admitted = admission::refusal::hard_admission(
@@ -152,8 +157,12 @@ pub fn decode_hard<'a>(
                 counts,
                 weights,
             );
-            room::clear_u32(counts, 3006);
-            room::clear_f32(weights, 3006);
+            let used = room::used_by_tables(Periods {
+                h: h.len(),
+                v: v.len(),
+            });
+            room::clear_u32(counts, used);
+            room::clear_f32(weights, used);
             answer
         }
     }

@@ -6,11 +6,13 @@ ghost use Rattle.board.specs.Hits.{edges, tables};
 ghost use Rattle.sums.specs.Sums.{likelihoods};
 ghost use Rattle.tables.specs.Built.{TablesReady};
 ghost use Rattle.hard.specs.SelectLaws.{RoomReady, roomCells};
+ghost use Rattle.admission.specs.Calls.{hardCall, softCall};
 ghost use Rattle.admission.specs.Accepted.{HardAccepted, SoftAccepted};
 ghost use Rattle.verdict.specs.Verdict.{softVerdict, softDecodedOf};
 ghost use Rattle.puzzleboard.specs.Soft.{cellFigures, FiguresDone, LogicalDone, SoftCoreDone, SoftDone};
 use answer::Answer;
 use hard::select::Selection;
+use laws::Periods;
 use margin::slots::SoftCandidate;
 use margin::slots::SoftChoice;
 use refusals::Admission;
@@ -89,16 +91,16 @@ fn figures<'a>(
 // The soft winner with its margin, against hard selection on the logical list: refused by that, the winners differ, not far ahead, or found. The room is left as it was used.
 fn soft_logical<'a>(
     best: SoftBest,
-    prows: &[i32],
-    pcols: &[i32],
-    porientations: &[u8],
-    pbits: &[u8],
-    pconfidences: &[f32],
     lrows: &[i32],
     lcols: &[i32],
     lorientations: &[u8],
     lbits: &[u8],
     lconfidences: &[f32],
+    prows: &[i32],
+    pcols: &[i32],
+    porientations: &[u8],
+    pbits: &[u8],
+    pconfidences: &[f32],
     transforms: &[u8],
     h: &'a [u8],
     v: &'a [u8],
@@ -107,14 +109,16 @@ fn soft_logical<'a>(
     weights: &mut [f32],
 ) -> Answer
     requires { ⌜ HardAccepted
+        (hardCall
         (edges (now lrows) (now lcols) (now lorientations) (now lbits) (now lconfidences))
         (edges (now prows) (now pcols) (now porientations) (now pbits) (now pconfidences))
-        (now transforms) (tables (now h) (now v)) limit (length (now counts)) (length (now weights)) ⌝ }
+        (now transforms) (tables (now h) (now v)) limit) (length (now counts)) (length (now weights)) ⌝ }
     requires { ⌜ best .first .listed < length (now transforms) ⌝ }
     ensures { λ r. ⌜ LogicalDone
-        (edges (now (prows .entry)) (now (pcols .entry)) (now (porientations .entry)) (now (pbits .entry)) (now (pconfidences .entry)))
+        (hardCall
         (edges (now (lrows .entry)) (now (lcols .entry)) (now (lorientations .entry)) (now (lbits .entry)) (now (lconfidences .entry)))
-        (now (transforms .entry)) (tables (now (h .entry)) (now (v .entry))) limit best
+        (edges (now (prows .entry)) (now (pcols .entry)) (now (porientations .entry)) (now (pbits .entry)) (now (pconfidences .entry)))
+        (now (transforms .entry)) (tables (now (h .entry)) (now (v .entry))) limit) best
         (now (counts .entry)) (now (counts .exit)) (now (weights .entry)) (now (weights .exit)) r ⌝ }
 {
     let logical = hard::select::select(
@@ -164,6 +168,11 @@ fn soft_logical<'a>(
 
 // What an accepted soft call answers: the physical list's best two by likelihood, their margin, then the logical list. The room is left as it was used.
 fn soft_core<'a>(
+    lrows: &[i32],
+    lcols: &[i32],
+    lorientations: &[u8],
+    lbits: &[u8],
+    lconfidences: &[f32],
     prows: &[i32],
     pcols: &[i32],
     porientations: &[u8],
@@ -171,11 +180,6 @@ fn soft_core<'a>(
     pconfidences: &[f32],
     matches: &[f32],
     mismatches: &[f32],
-    lrows: &[i32],
-    lcols: &[i32],
-    lorientations: &[u8],
-    lbits: &[u8],
-    lconfidences: &[f32],
     transforms: &[u8],
     h: &'a [u8],
     v: &'a [u8],
@@ -186,15 +190,17 @@ fn soft_core<'a>(
     sums: &mut [i64],
 ) -> Answer
     requires { ⌜ SoftAccepted
-        (edges (now prows) (now pcols) (now porientations) (now pbits) (now pconfidences))
-        (now matches) (now mismatches)
+        (softCall
         (edges (now lrows) (now lcols) (now lorientations) (now lbits) (now lconfidences))
-        (now transforms) (tables (now h) (now v)) limit margin (length (now counts)) (length (now weights)) (length (now sums)) ⌝ }
+        (edges (now prows) (now pcols) (now porientations) (now pbits) (now pconfidences))
+        (likelihoods (now matches) (now mismatches))
+        (now transforms) (tables (now h) (now v)) limit margin) (length (now counts)) (length (now weights)) (length (now sums)) ⌝ }
     ensures { λ r. ⌜ SoftCoreDone
+        (softCall
+        (edges (now (lrows .entry)) (now (lcols .entry)) (now (lorientations .entry)) (now (lbits .entry)) (now (lconfidences .entry)))
         (edges (now (prows .entry)) (now (pcols .entry)) (now (porientations .entry)) (now (pbits .entry)) (now (pconfidences .entry)))
         (likelihoods (now (matches .entry)) (now (mismatches .entry)))
-        (edges (now (lrows .entry)) (now (lcols .entry)) (now (lorientations .entry)) (now (lbits .entry)) (now (lconfidences .entry)))
-        (now (transforms .entry)) (tables (now (h .entry)) (now (v .entry))) limit margin
+        (now (transforms .entry)) (tables (now (h .entry)) (now (v .entry))) limit margin)
         (now (counts .entry)) (now (counts .exit)) (now (weights .entry)) (now (weights .exit)) (now (sums .entry)) (now (sums .exit)) r ⌝ }
 {
     let conf = figures::total_confidence(pconfidences);
@@ -228,16 +234,16 @@ fn soft_core<'a>(
             };
             soft_logical(
                 best,
-                prows,
-                pcols,
-                porientations,
-                pbits,
-                pconfidences,
                 lrows,
                 lcols,
                 lorientations,
                 lbits,
                 lconfidences,
+                prows,
+                pcols,
+                porientations,
+                pbits,
+                pconfidences,
                 transforms,
                 h,
                 v,
@@ -250,8 +256,13 @@ fn soft_core<'a>(
 }
 
 // Which square the camera faces by the likelihoods of the physical list, confirmed by the hits of the logical list, or a refusal, for all inputs. After
-// refusals 1 to 9 the lent room is untouched; after every other call its first 3,006, 3,006 and 5,010 places are zero.
+// refusals 1 to 9 the lent room is untouched; after every other call what was used of it is zero: 3,006 u32, 3,006 f32 and 5,010 i64.
 pub fn decode_soft<'a>(
+    lrows: &[i32],
+    lcols: &[i32],
+    lorientations: &[u8],
+    lbits: &[u8],
+    lconfidences: &[f32],
     prows: &[i32],
     pcols: &[i32],
     porientations: &[u8],
@@ -259,11 +270,6 @@ pub fn decode_soft<'a>(
     pconfidences: &[f32],
     matches: &[f32],
     mismatches: &[f32],
-    lrows: &[i32],
-    lcols: &[i32],
-    lorientations: &[u8],
-    lbits: &[u8],
-    lconfidences: &[f32],
     transforms: &[u8],
     h: &'a [u8],
     v: &'a [u8],
@@ -274,13 +280,19 @@ pub fn decode_soft<'a>(
     sums: &mut [i64],
 ) -> Answer
     ensures { λ r. ⌜ SoftDone
+        (softCall
+        (edges (now (lrows .entry)) (now (lcols .entry)) (now (lorientations .entry)) (now (lbits .entry)) (now (lconfidences .entry)))
         (edges (now (prows .entry)) (now (pcols .entry)) (now (porientations .entry)) (now (pbits .entry)) (now (pconfidences .entry)))
         (likelihoods (now (matches .entry)) (now (mismatches .entry)))
-        (edges (now (lrows .entry)) (now (lcols .entry)) (now (lorientations .entry)) (now (lbits .entry)) (now (lconfidences .entry)))
-        (now (transforms .entry)) (tables (now (h .entry)) (now (v .entry))) limit margin
+        (now (transforms .entry)) (tables (now (h .entry)) (now (v .entry))) limit margin)
         (now (counts .entry)) (now (counts .exit)) (now (weights .entry)) (now (weights .exit)) (now (sums .entry)) (now (sums .exit)) r ⌝ }
 {
     let admitted = admission::refusal::soft_admission(
+        lrows,
+        lcols,
+        lorientations,
+        lbits,
+        lconfidences,
         prows,
         pcols,
         porientations,
@@ -288,11 +300,6 @@ pub fn decode_soft<'a>(
         pconfidences,
         matches,
         mismatches,
-        lrows,
-        lcols,
-        lorientations,
-        lbits,
-        lconfidences,
         transforms,
         h,
         v,
@@ -306,6 +313,11 @@ pub fn decode_soft<'a>(
         Admission::Refused(refusal) => Answer::Refused(refusal),
         Admission::Accepted => {
             let answer = soft_core(
+                lrows,
+                lcols,
+                lorientations,
+                lbits,
+                lconfidences,
                 prows,
                 pcols,
                 porientations,
@@ -313,11 +325,6 @@ pub fn decode_soft<'a>(
                 pconfidences,
                 matches,
                 mismatches,
-                lrows,
-                lcols,
-                lorientations,
-                lbits,
-                lconfidences,
                 transforms,
                 h,
                 v,
@@ -327,9 +334,14 @@ pub fn decode_soft<'a>(
                 weights,
                 sums,
             );
-            room::clear_u32(counts, 3006);
-            room::clear_f32(weights, 3006);
-            room::clear_i64(sums, 5010);
+            let periods = Periods {
+                h: h.len(),
+                v: v.len(),
+            };
+            let used = room::used_by_tables(periods);
+            room::clear_u32(counts, used);
+            room::clear_f32(weights, used);
+            room::clear_i64(sums, room::used_by_sums(periods));
             answer
         }
     }

@@ -1,10 +1,12 @@
 -- Document 01, 'Numbers that bound the domain' (room): where cells and groups stand in lent room, and how much of it is used. P gives the period of each side.
-use mathlib.Core.Path.{_≡_, refl}
+use mathlib.Core.Path.{_≡_, refl, ap₂}
 use mathlib.Core.Bool.{Bool, true, false, cond}
 use mathlib.Core.List.{List}
 use Prim.Native.Nat.{ℕ, _+_, _*_, _≤_, _<_}
 use lib.ListN.{length, getD}
 use Rattle.laws.specs.declared.Periods.{Periods}
+use Rattle.board.specs.Hits.{Board}
+use Rattle.board.specs.Sides.{periodOf}
 
 -- the period of each side
 abbrev pub bySide : Periods → Bool → ℕ
@@ -42,6 +44,26 @@ module _ {A : Type 0} (d : A) (P : Bool → ℕ) (m : ℕ) (C : Bool → ℕ →
     pub groups : (i : ℕ) → i < m → (s : Bool) (k : ℕ) → k < P s * 6 → getD new (groupsAt P i s + k) d ≡ G i s k
     pub surplus : (k : ℕ) → used P m ≤ k → getD new k d ≡ getD old k d
 
--- "Room: 3,006 u32 and 3,006 f32; soft also 5,010 i64": what is used at two periods of 167
-pub rooms : (used (λ s. 167) 1 ≡ 3006) × (used (λ s. 167) 2 ≡ 5010)
+-- what a board's tables use of the u32 and of the f32 room, and its sums of the i64 room
+abbrev pub tablesRoom : Board → ℕ
+tablesRoom B = used (periodOf B) 1
+
+abbrev pub sumsRoom : Board → ℕ
+sumsRoom B = used (periodOf B) 2
+
+-- "Room: 3,006 u32 and 3,006 f32; soft also 5,010 i64": what a call must lend
+abbrev pub flatTables : ℕ
+flatTables = 3006
+
+abbrev pub flatSums : ℕ
+flatSums = 5010
+
+-- it is what two periods of 167 use
+pub rooms : (used (λ s. 167) 1 ≡ flatTables) × (used (λ s. 167) 2 ≡ flatSums)
 rooms = (refl, refl)
+
+pub flat-room : (B : Board) → (length (B .h) ≡ 167) × (length (B .v) ≡ 167) → (tablesRoom B ≡ flatTables) × (sumsRoom B ≡ flatSums)
+flat-room B p = (used-flat 1, used-flat 2)
+  where
+    used-flat : (m : ℕ) → used (periodOf B) m ≡ 1002 + m * 2004
+    used-flat m = ap₂ (λ (x y : ℕ). 3 * x + 3 * y + m * ((x + y) * 6)) (p .0) (p .1)

@@ -8,6 +8,11 @@ ghost use Rattle.laws.specs.Weights.{zeroF};
 ghost use Rattle.room.specs.Room.{bySide, used, PeriodsOk};
 use laws::Periods;
 
+// What a call must lend of the u32 and of the f32 room, and of the i64 room: what two periods of 167 use.
+pub const FLAT_TABLES: usize = 3006;
+
+pub const FLAT_SUMS: usize = 5010;
+
 // How many places of the u32 and of the f32 room are used: the cells of both sides and one row of groups. 3,006 for two periods of 167.
 pub fn used_by_tables(p: Periods) -> usize
     requires { ⌜ PeriodsOk p ⌝ }

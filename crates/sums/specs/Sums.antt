@@ -11,17 +11,9 @@ use Rattle.laws.specs.Fold.{fold, all}
 use Rattle.board.specs.Hits.{EdgeList, Board, size, hit}
 use Rattle.board.specs.Sides.{onSide, periodOf}
 use Rattle.likelihood.specs.Likelihood.{acceptable, quantised}
+pub use Rattle.likelihood.specs.Likelihood.{Likelihoods, likelihoods}
 use Rattle.cells.specs.Listed.{listed}
 use Rattle.cells.specs.Cells.{width}
-
--- the two log likelihoods of each edge of a list
-pub record Likelihoods : Type 0 where
-  pub matches : List Float
-  pub mismatches : List Float
-
--- two columns of likelihoods as one record
-abbrev pub likelihoods : List Float → List Float → Likelihoods
-likelihoods m u = record { matches = m; mismatches = u }
 
 -- of edge i, as whole numbers
 abbrev pub matchAt : Likelihoods → ℕ → ℤ

@@ -50,7 +50,7 @@ returns c =
     (c .before .first-of2 .ensures
     ∙ ap₂ earlier (c .before .before .first-of .ensures ∙ ap₂ earlier (c .before .before .before .before .before .before .before .before .list-admission .ensures) (c .before .before .before .before .before .before .before .list-admission2 .ensures))
     (c .before .before .before .settings-admission .ensures ∙ (λ i. settingsAdmission (c .before .before .before .before .before .before .transforms-bad .ensures i) (c .before .before .before .before .before .tables-bad .ensures i) (not (c .before .before .before .before .in-range .ensures i)))))
-    ∙ hard-parts _ _ _ _ _ _ _
+    ∙ hard-parts _ _ _
 
 pub hard-admission-spec : {M : Type 1} → statement M
 hard-admission-spec = tie.close (tie.spec room-short-requires refused-if-requires list-admission-requires list-admission-requires-2 transforms-bad-requires tables-bad-requires in-range-requires settings-admission-requires first-of-requires first-of-requires-2 first-of-requires-3 returns)

@@ -54,7 +54,7 @@ returns c =
     (c .before .first-of3 .ensures
     ∙ ap₂ earlier (c .before .before .first-of2 .ensures ∙ ap₂ earlier (c .before .before .before .first-of .ensures ∙ ap₂ earlier (c .before .before .before .before .before .before .before .before .before .before .list-admission .ensures) (c .before .before .before .before .before .before .before .before .before .list-admission2 .ensures)) (c .before .before .before .before .before .before .before .before .likelihood-admission .ensures))
     (c .before .before .before .before .settings-admission .ensures ∙ (λ i. settingsAdmission (c .before .before .before .before .before .before .before .transforms-bad .ensures i) (c .before .before .before .before .before .before .tables-bad .ensures i) (c .before .before .before .before .before .limits-bad .ensures i))))
-    ∙ soft-parts _ _ _ _ _ _ _ _ _ _ _
+    ∙ soft-parts _ _ _ _
 
 pub soft-admission-spec : {M : Type 1} → statement M
 soft-admission-spec = tie.close (tie.spec soft-room-short-requires refused-if-requires list-admission-requires list-admission-requires-2 likelihood-admission-requires transforms-bad-requires tables-bad-requires limits-bad-requires settings-admission-requires first-of-requires first-of-requires-2 first-of-requires-3 first-of-requires-4 returns)

@@ -5,7 +5,8 @@ use native.Mathlib.Omega.{arith}
 use denote.Ref.{now}
 use lib.ListN.{length}
 use lib.Ieee.{ofBits}
-use Rattle.board.specs.Hits.{EdgeList, Board, edges, tables, size}
+use Rattle.board.specs.Hits.{edges, tables, size}
+use Rattle.admission.specs.Calls.{HardCall, hardCall}
 use Rattle.admission.specs.Accepted.{HardAccepted}
 use Rattle.hard.specs.SelectLaws.{select-beyond}
 use Rattle.puzzleboard.specs.HardLaws.{ready-logical, ready-physical, logical-winner, physical-winner, core-refused, core-physical-refused, core-judged}
@@ -15,28 +16,22 @@ use Rattle.puzzleboard.proofs.hard_decode.hard_core.Tie as tie
 
 -- what the function was given
 module _ (s : tie.Start) where
-  abbrev L : EdgeList
-  L = let a = s .args in edges (now (a .lrows)) (now (a .lcols)) (now (a .lorientations)) (now (a .lbits)) (now (a .lconfidences))
-
-  abbrev P : EdgeList
-  P = let a = s .args in edges (now (a .prows)) (now (a .pcols)) (now (a .porientations)) (now (a .pbits)) (now (a .pconfidences))
-
-  abbrev B : Board
-  B = tables (now (s .args .h)) (now (s .args .v))
-
-  abbrev ts : List ℕ
-  ts = now (s .args .transforms)
+  abbrev call : HardCall
+  call =
+      let a = s .args in
+      hardCall (edges (now (a .lrows)) (now (a .lcols)) (now (a .lorientations)) (now (a .lbits)) (now (a .lconfidences)))
+      (edges (now (a .prows)) (now (a .pcols)) (now (a .porientations)) (now (a .pbits)) (now (a .pconfidences))) (now (a .transforms)) (tables (now (a .h)) (now (a .v))) (a .limit)
 
 -- the start, seen from the first selection
 abbrev st : tie.After-select → tie.Start
 st c = c .before .before .before .before .before .before .before .before .before .before .before .before .before .before
 
 -- the logical winner and its runner-up, where both selections gave one
-winner : (c : tie.After-logical2) → let d = c .before .before .before .before .before .before in let x = c .logical2 .given .0 .0 in let r = c .logical2 .given .0 .1 .0 in (x .listed < length (ts (st d))) × (x .hits ≤ size (L (st d))) × (r .hits ≤ size (L (st d)))
-winner c = let d = c .before .before .before .before .before .before in let s = st d in logical-winner (L s) (P s) (ts s) (B s) (s .args .limit) (now (s .args .counts)) (now (s .args .weights)) (s .pre) (d .select .result) _ _ (d .select .ensures .answer) (c .logical2 .given .1)
+winner : (c : tie.After-logical2) → let d = c .before .before .before .before .before .before in let x = c .logical2 .given .0 .0 in let r = c .logical2 .given .0 .1 .0 in (x .listed < length (call (st d) .transforms)) × (x .hits ≤ size (call (st d) .logical)) × (r .hits ≤ size (call (st d) .logical))
+winner c = let d = c .before .before .before .before .before .before in let s = st d in logical-winner (call s) (now (s .args .counts)) (now (s .args .weights)) (s .pre) (d .select .result) _ _ (d .select .ensures .answer) (c .logical2 .given .1)
 
 select-requires : tie.Need-select-requires
-select-requires c κs = let s = c .before .before .before .before .before .before .before .before .before .before .before .before .before in ready-logical (L s) (P s) (ts s) (B s) (s .args .limit) _ _ (s .pre)
+select-requires c κs = let s = c .before .before .before .before .before .before .before .before .before .before .before .before .before in ready-logical (call s) _ _ (s .pre)
 
 enum-known-logical : tie.Need-enum-known-logical
 enum-known-logical c = search needs
@@ -49,9 +44,9 @@ unfolding ofBits
 select-requires-2 c κs =
     let d = c .before .before .before .before .before .before .before .before .before in
     let s = st d in
-    let l = ready-logical (L s) (P s) (ts s) (B s) (s .args .limit) _ _ (s .pre) in
-    let b = select-beyond (B s) (L s) (ts s) (s .args .limit) _ _ l _ _ _ (d .select .ensures) in
-    ready-physical (L s) (P s) (ts s) (B s) (s .args .limit) (now (s .args .counts)) (now (s .args .weights)) (s .pre) _ _ (b .0 .len) (b .1 .len)
+    let l = ready-logical (call s) _ _ (s .pre) in
+    let b = select-beyond (call s .board) (call s .logical) (call s .transforms) (s .args .limit) _ _ l _ _ _ (d .select .ensures) in
+    ready-physical (call s) (now (s .args .counts)) (now (s .args .weights)) (s .pre) _ _ (b .0 .len) (b .1 .len)
 
 enum-known-physical : tie.Need-enum-known-physical
 enum-known-physical c = search needs
@@ -66,7 +61,7 @@ shared-slice-read-judge-2 : tie.Need-shared-slice-read-judge-2
 unfolding ofBits
 shared-slice-read-judge-2 c =
     let s = st (c .before .before .before .before .before .before .before .before .before .before .before .before .before .before .before .before .before .before .before) in
-    physical-winner (L s) (P s) (ts s) (B s) (s .args .limit) (now (s .args .counts)) (now (s .args .weights)) (s .pre) (c .before .before .before .before .before .before .before .before .before .select2 .result) _ _ (c .before .before .before .before .before .before .before .before .before .select2 .ensures .answer) (c .before .before .before .physical2 .given .1)
+    physical-winner (call s) (now (s .args .counts)) (now (s .args .weights)) (s .pre) (c .before .before .before .before .before .before .before .before .before .select2 .result) _ _ (c .before .before .before .before .before .before .before .before .before .select2 .ensures .answer) (c .before .before .before .physical2 .given .1)
 
 cast-judge : tie.Need-cast-judge
 cast-judge c = let s = st (c .before .before .before .before .before .before .before .before .before .before .before .before .before .before .before .before .before .before .before) in omega (arith, s .pre .logical .few)
@@ -85,7 +80,7 @@ unfolding ofBits
 returns c =
     let d = c .before .before .before .before .before .before .before in
     let s = st d in
-    core-refused (L s) (P s) (ts s) (B s) (s .args .limit) _ _ (s .pre) _ _ (d .select .result) (d .select .ensures) (c .before .logical .given .0 .0) (c .before .logical .given .1)
+    core-refused (call s) _ _ (s .pre) _ _ (d .select .result) (d .select .ensures) (c .before .logical .given .0 .0) (c .before .logical .given .1)
 
 same-length-3 : tie.Need-same-length-3
 same-length-3 c = search needs
@@ -100,7 +95,7 @@ returns-2 c =
     let s = st d in
     let l = c .before .before .before .before .before .before .before .before .before .before .before .logical2 .given in
     let f = c .before .before .before .before .before .before .before .select2 in
-    core-physical-refused (L s) (P s) (ts s) (B s) (s .args .limit) _ _ (s .pre) _ _ (d .select .result) (d .select .ensures) (l .0 .0) (l .0 .1 .0) (l .1) _ _ (f .result) (f .ensures) (c .before .physical .given .0 .0) (c .before .physical .given .1)
+    core-physical-refused (call s) _ _ (s .pre) _ _ (d .select .result) (d .select .ensures) (l .0 .0) (l .0 .1 .0) (l .1) _ _ (f .result) (f .ensures) (c .before .physical .given .0 .0) (c .before .physical .given .1)
 
 returns-3 : tie.Need-returns-3
 unfolding ofBits
@@ -110,7 +105,7 @@ returns-3 c =
     let l = c .before .before .before .before .before .before .before .before .before .before .before .before .before .before .logical2 .given in
     let f = c .before .before .before .before .before .before .before .before .before .before .select2 in
     let p = c .before .before .before .before .physical2 .given in
-    core-judged (L s) (P s) (ts s) (B s) (s .args .limit) _ _ (s .pre) _ _ (d .select .result) (d .select .ensures) (l .0 .0) (l .0 .1 .0) (l .1) _ _ (f .result) (f .ensures) (p .0 .0) (p .0 .1 .0) _ (p .1) (c .judge .ensures)
+    core-judged (call s) _ _ (s .pre) _ _ (d .select .result) (d .select .ensures) (l .0 .0) (l .0 .1 .0) (l .1) _ _ (f .result) (f .ensures) (p .0 .0) (p .0 .1 .0) _ (p .1) (c .judge .ensures)
 
 same-length-5 : tie.Need-same-length-5
 same-length-5 c = returns-3 c .counts .len

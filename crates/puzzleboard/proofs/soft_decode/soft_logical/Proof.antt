@@ -4,7 +4,8 @@ use Prim.Native.Nat.{ℕ, _≤_, _<_}
 use native.Mathlib.Omega.{arith}
 use denote.Ref.{now}
 use lib.ListN.{length}
-use Rattle.board.specs.Hits.{EdgeList, Board, edges, tables, size}
+use Rattle.board.specs.Hits.{edges, tables, size}
+use Rattle.admission.specs.Calls.{HardCall, hardCall}
 use Rattle.puzzleboard.specs.HardLaws.{ready-logical, logical-winner}
 use Rattle.puzzleboard.specs.SoftLaws.{logical-refused, figures-ready, verdict-refused, own-few, verdict-found}
 use borrow.Author.Needs.{needs}
@@ -13,28 +14,22 @@ use Rattle.puzzleboard.proofs.soft_decode.soft_logical.Tie as tie
 
 -- what the function was given
 module _ (s : tie.Start) where
-  abbrev L : EdgeList
-  L = let a = s .args in edges (now (a .lrows)) (now (a .lcols)) (now (a .lorientations)) (now (a .lbits)) (now (a .lconfidences))
-
-  abbrev P : EdgeList
-  P = let a = s .args in edges (now (a .prows)) (now (a .pcols)) (now (a .porientations)) (now (a .pbits)) (now (a .pconfidences))
-
-  abbrev B : Board
-  B = tables (now (s .args .h)) (now (s .args .v))
-
-  abbrev ts : List ℕ
-  ts = now (s .args .transforms)
+  abbrev call : HardCall
+  call =
+      let a = s .args in
+      hardCall (edges (now (a .lrows)) (now (a .lcols)) (now (a .lorientations)) (now (a .lbits)) (now (a .lconfidences)))
+      (edges (now (a .prows)) (now (a .pcols)) (now (a .porientations)) (now (a .pbits)) (now (a .pconfidences))) (now (a .transforms)) (tables (now (a .h)) (now (a .v))) (a .limit)
 
 -- the start, seen from the selection
 abbrev st : tie.After-select → tie.Start
 st c = c .before .before .before .before .before .before .before .before .before .before .before .before .before .before
 
 -- the hard winner of the logical list and its runner-up
-winner : (c : tie.After-logical2) → let d = c .before .before .before .before .before .before in let x = c .logical2 .given .0 .0 in let r = c .logical2 .given .0 .1 .0 in (x .listed < length (ts (st d))) × (x .hits ≤ size (L (st d))) × (r .hits ≤ size (L (st d)))
-winner c = let d = c .before .before .before .before .before .before in let s = st d in logical-winner (L s) (P s) (ts s) (B s) (s .args .limit) (now (s .args .counts)) (now (s .args .weights)) (s .pre .0) (d .select .result) _ _ (d .select .ensures .answer) (c .logical2 .given .1)
+winner : (c : tie.After-logical2) → let d = c .before .before .before .before .before .before in let x = c .logical2 .given .0 .0 in let r = c .logical2 .given .0 .1 .0 in (x .listed < length (call (st d) .transforms)) × (x .hits ≤ size (call (st d) .logical)) × (r .hits ≤ size (call (st d) .logical))
+winner c = let d = c .before .before .before .before .before .before in let s = st d in logical-winner (call s) (now (s .args .counts)) (now (s .args .weights)) (s .pre .0) (d .select .result) _ _ (d .select .ensures .answer) (c .logical2 .given .1)
 
 select-requires : tie.Need-select-requires
-select-requires c κs = let s = c .before .before .before .before .before .before .before .before .before .before .before .before .before in ready-logical (L s) (P s) (ts s) (B s) (s .args .limit) (now (s .args .counts)) (now (s .args .weights)) (s .pre .0)
+select-requires c κs = let s = c .before .before .before .before .before .before .before .before .before .before .before .before .before in ready-logical (call s) (now (s .args .counts)) (now (s .args .weights)) (s .pre .0)
 
 enum-known-logical : tie.Need-enum-known-logical
 enum-known-logical c = search needs
@@ -67,13 +62,13 @@ same-length-2 : tie.Need-same-length-2
 same-length-2 c = search needs
 
 figures-requires : tie.Need-figures-requires
-figures-requires c κs = let d = c .before .before .before .before .before .before .before .before .before .before .before .before .before .before in let s = st d in figures-ready (L s) (P s) (ts s) (B s) (s .args .limit) (now (s .args .counts)) (now (s .args .weights)) (s .pre .0) (s .args .best) _ _ (d .select .result) (d .select .ensures) (s .pre .1)
+figures-requires c κs = let d = c .before .before .before .before .before .before .before .before .before .before .before .before .before .before in let s = st d in figures-ready (call s) (now (s .args .counts)) (now (s .args .weights)) (s .pre .0) (s .args .best) _ _ (d .select .result) (d .select .ensures) (s .pre .1)
 
 cast-soft-decoded : tie.Need-cast-soft-decoded
 cast-soft-decoded c = let d = c .before .before .before .before .before .before .before .before .before .before .before .before .before .before .before .before .before .before .before in let s = st d in omega (arith, s .pre .0 .physical .few)
 
 soft-decoded-requires : tie.Need-soft-decoded-requires
-soft-decoded-requires c κs = let d = c .before .before .before .before .before .before .before .before .before .before .before .before .before .before .before .before .before .before .before in let s = st d in let l = c .before .before .before .before .before .before .before .before .before .before .before .before .before .logical2 .given in let v = c .before .before .before .before .before .before .before .before .before .soft-verdict in let b = winner (c .before .before .before .before .before .before .before .before .before .before .before .before .before) .2 in (own-few (L s) (P s) (ts s) (B s) (s .args .limit) (now (s .args .counts)) (now (s .args .weights)) (s .pre .0) (s .args .best) _ _ (d .select .result) (d .select .ensures) (l .0 .0) (l .0 .1 .0) (l .1) (v .result) (v .ensures) _ _ _ (c .before .before .before .before .figures .ensures), s .pre .0 .physical .few, omega (arith, s .pre .0 .logical .few))
+soft-decoded-requires c κs = let d = c .before .before .before .before .before .before .before .before .before .before .before .before .before .before .before .before .before .before .before in let s = st d in let l = c .before .before .before .before .before .before .before .before .before .before .before .before .before .logical2 .given in let v = c .before .before .before .before .before .before .before .before .before .soft-verdict in let b = winner (c .before .before .before .before .before .before .before .before .before .before .before .before .before) .2 in (own-few (call s) (now (s .args .counts)) (now (s .args .weights)) (s .pre .0) (s .args .best) _ _ (d .select .result) (d .select .ensures) (l .0 .0) (l .0 .1 .0) (l .1) (v .result) (v .ensures) _ _ _ (c .before .before .before .before .figures .ensures), s .pre .0 .physical .few, omega (arith, s .pre .0 .logical .few))
 
 same-length-3 : tie.Need-same-length-3
 same-length-3 c = search needs
@@ -82,13 +77,13 @@ same-length-4 : tie.Need-same-length-4
 same-length-4 c = search needs
 
 returns : tie.Need-returns
-returns c = let d = c .before .before .before .before .before .before .before in let s = st d in let l = c .before .logical .given in logical-refused (L s) (P s) (ts s) (B s) (s .args .limit) (now (s .args .counts)) (now (s .args .weights)) (s .pre .0) (s .args .best) _ _ (d .select .result) (d .select .ensures) (l .0 .0) (l .1)
+returns c = let d = c .before .before .before .before .before .before .before in let s = st d in let l = c .before .logical .given in logical-refused (call s) (now (s .args .counts)) (now (s .args .weights)) (s .pre .0) (s .args .best) _ _ (d .select .result) (d .select .ensures) (l .0 .0) (l .1)
 
 returns-2 : tie.Need-returns-2
-returns-2 c = let d = c .before .before .before .before .before .before .before .before .before .before .before .before .before in let s = st d in let l = c .before .before .before .before .before .before .before .logical2 .given in let v = c .before .before .before .soft-verdict in verdict-refused (L s) (P s) (ts s) (B s) (s .args .limit) (now (s .args .counts)) (now (s .args .weights)) (s .pre .0) (s .args .best) _ _ (d .select .result) (d .select .ensures) (l .0 .0) (l .0 .1 .0) (l .1) (v .result) (v .ensures) (c .before .verdict .given .0 .0) (c .before .verdict .given .1)
+returns-2 c = let d = c .before .before .before .before .before .before .before .before .before .before .before .before .before in let s = st d in let l = c .before .before .before .before .before .before .before .logical2 .given in let v = c .before .before .before .soft-verdict in verdict-refused (call s) (now (s .args .counts)) (now (s .args .weights)) (s .pre .0) (s .args .best) _ _ (d .select .result) (d .select .ensures) (l .0 .0) (l .0 .1 .0) (l .1) (v .result) (v .ensures) (c .before .verdict .given .0 .0) (c .before .verdict .given .1)
 
 returns-3 : tie.Need-returns-3
-returns-3 c = let d = c .before .before .before .before .before .before .before .before .before .before .before .before .before .before .before .before .before .before .before .before in let s = st d in let l = c .before .before .before .before .before .before .before .before .before .before .before .before .before .before .logical2 .given in let v = c .before .before .before .before .before .before .before .before .before .before .soft-verdict in verdict-found (L s) (P s) (ts s) (B s) (s .args .limit) (now (s .args .counts)) (now (s .args .weights)) (s .pre .0) (s .args .best) _ _ (d .select .result) (d .select .ensures) (l .0 .0) (l .0 .1 .0) (l .1) (v .result) (v .ensures) _ _ _ (c .before .before .before .before .before .figures .ensures) _ (c .before .before .before .before .before .before .before .before .enum-told .given .1) (c .soft-decoded .ensures)
+returns-3 c = let d = c .before .before .before .before .before .before .before .before .before .before .before .before .before .before .before .before .before .before .before .before in let s = st d in let l = c .before .before .before .before .before .before .before .before .before .before .before .before .before .before .logical2 .given in let v = c .before .before .before .before .before .before .before .before .before .before .soft-verdict in verdict-found (call s) (now (s .args .counts)) (now (s .args .weights)) (s .pre .0) (s .args .best) _ _ (d .select .result) (d .select .ensures) (l .0 .0) (l .0 .1 .0) (l .1) (v .result) (v .ensures) _ _ _ (c .before .before .before .before .before .figures .ensures) _ (c .before .before .before .before .before .before .before .before .enum-told .given .1) (c .soft-decoded .ensures)
 
 same-length-5 : tie.Need-same-length-5
 same-length-5 c = returns-3 c .counts .len

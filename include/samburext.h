@@ -105,6 +105,11 @@ samburext_answer samburext_decode_hard(
 
 /* Soft decode: the square by the likelihoods of the physical list; the hits of the logical list must confirm it. */
 samburext_answer samburext_decode_soft(
+    const int32_t *logical_rows, size_t logical_rows_length,                 /* the logical list: rows */
+    const int32_t *logical_columns, size_t logical_columns_length,           /* its columns */
+    const uint8_t *logical_orientations, size_t logical_orientations_length, /* its orientations */
+    const uint8_t *logical_bits, size_t logical_bits_length,                 /* its bits */
+    const float *logical_confidences, size_t logical_confidences_length,     /* its confidences */
     const int32_t *physical_rows, size_t physical_rows_length,                 /* the physical list: rows */
     const int32_t *physical_columns, size_t physical_columns_length,           /* its columns */
     const uint8_t *physical_orientations, size_t physical_orientations_length, /* its orientations */
@@ -112,11 +117,6 @@ samburext_answer samburext_decode_soft(
     const float *physical_confidences, size_t physical_confidences_length,     /* its confidences */
     const float *match_likelihoods, size_t match_likelihoods_length,       /* each physical edge's log likelihood of a hit */
     const float *mismatch_likelihoods, size_t mismatch_likelihoods_length, /* and of a miss, -65,536 to 65,536 */
-    const int32_t *logical_rows, size_t logical_rows_length,                 /* the logical list: rows */
-    const int32_t *logical_columns, size_t logical_columns_length,           /* its columns */
-    const uint8_t *logical_orientations, size_t logical_orientations_length, /* its orientations */
-    const uint8_t *logical_bits, size_t logical_bits_length,                 /* its bits */
-    const float *logical_confidences, size_t logical_confidences_length,     /* its confidences */
     const uint8_t *transforms, size_t transforms_length, /* 1 to 8 transform numbers in search order, each 0 to 7 */
     const uint8_t *horizontal, size_t horizontal_length, /* the horizontal pattern table: 167 bytes, each 0 to 7 */
     const uint8_t *vertical, size_t vertical_length,     /* the vertical pattern table: 167 bytes, each 0 to 7 */

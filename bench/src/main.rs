@@ -80,7 +80,7 @@ impl Bench {
         let (limit, transforms) = (self.case.limit, &self.case.transforms);
         let answer = if self.soft {
             let margin = self.case.soft.margin;
-            decode_soft(&self.physical, &self.likelihoods, &self.logical, transforms, patterns, limit, margin, &mut self.room)
+            decode_soft(&self.logical, &self.physical, &self.likelihoods, transforms, patterns, limit, margin, &mut self.room)
         } else {
             decode_hard(&self.logical, &self.physical, transforms, patterns, limit, &mut self.room)
         };

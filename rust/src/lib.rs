@@ -210,24 +210,24 @@ fn decode_hard_raw(
 /// Soft decode: the square by the likelihoods of the physical list; the hits of the logical list must confirm it.
 #[allow(clippy::too_many_arguments)]
 pub fn decode_soft(
+    logical: &EdgeList,
     physical: &EdgeList,
     likelihoods: &Likelihoods,
-    logical: &EdgeList,
     transforms: &[u8],
     patterns: Patterns,
     error_limit: f32,
     soft_margin: f32,
     room: &mut Room,
 ) -> Result<Decoded, Refusal> {
-    decoded(decode_soft_raw(physical, likelihoods, logical, transforms, patterns, error_limit, soft_margin, room))
+    decoded(decode_soft_raw(logical, physical, likelihoods, transforms, patterns, error_limit, soft_margin, room))
 }
 
 // The same, with the answer as the library gives it.
 #[allow(clippy::too_many_arguments)]
 fn decode_soft_raw(
+    logical: &EdgeList,
     physical: &EdgeList,
     likelihoods: &Likelihoods,
-    logical: &EdgeList,
     transforms: &[u8],
     patterns: Patterns,
     error_limit: f32,
@@ -237,6 +237,16 @@ fn decode_soft_raw(
     // As above.
     unsafe {
         raw::samburext_decode_soft(
+            logical.rows.as_ptr(),
+            logical.rows.len(),
+            logical.cols.as_ptr(),
+            logical.cols.len(),
+            logical.orientations.as_ptr(),
+            logical.orientations.len(),
+            logical.bits.as_ptr(),
+            logical.bits.len(),
+            logical.confidences.as_ptr(),
+            logical.confidences.len(),
             physical.rows.as_ptr(),
             physical.rows.len(),
             physical.cols.as_ptr(),
@@ -251,16 +261,6 @@ fn decode_soft_raw(
             likelihoods.matches.len(),
             likelihoods.mismatches.as_ptr(),
             likelihoods.mismatches.len(),
-            logical.rows.as_ptr(),
-            logical.rows.len(),
-            logical.cols.as_ptr(),
-            logical.cols.len(),
-            logical.orientations.as_ptr(),
-            logical.orientations.len(),
-            logical.bits.as_ptr(),
-            logical.bits.len(),
-            logical.confidences.as_ptr(),
-            logical.confidences.len(),
             transforms.as_ptr(),
             transforms.len(),
             patterns.horizontal.as_ptr(),

@@ -71,9 +71,19 @@ extern "C" {
         weights_length: usize,
     ) -> Answer;
 
-    /// Soft decode: the physical list's five columns with its likelihoods, the logical list's five, transforms, tables, error
+    /// Soft decode: the logical list's five columns, the physical list's five with its likelihoods, transforms, tables, error
     /// limit, soft margin, and three rooms.
     pub fn samburext_decode_soft(
+        logical_rows: *const i32,
+        logical_rows_length: usize,
+        logical_columns: *const i32,
+        logical_columns_length: usize,
+        logical_orientations: *const u8,
+        logical_orientations_length: usize,
+        logical_bits: *const u8,
+        logical_bits_length: usize,
+        logical_confidences: *const f32,
+        logical_confidences_length: usize,
         physical_rows: *const i32,
         physical_rows_length: usize,
         physical_columns: *const i32,
@@ -88,16 +98,6 @@ extern "C" {
         match_likelihoods_length: usize,
         mismatch_likelihoods: *const f32,
         mismatch_likelihoods_length: usize,
-        logical_rows: *const i32,
-        logical_rows_length: usize,
-        logical_columns: *const i32,
-        logical_columns_length: usize,
-        logical_orientations: *const u8,
-        logical_orientations_length: usize,
-        logical_bits: *const u8,
-        logical_bits_length: usize,
-        logical_confidences: *const f32,
-        logical_confidences_length: usize,
         transforms: *const u8,
         transforms_length: usize,
         horizontal: *const u8,

@@ -67,9 +67,9 @@ impl Call {
 
     fn soft(&self, room: &mut Room) -> Result<Decoded, Refusal> {
         decode_soft(
+            &self.logical,
             &self.physical,
             &self.likelihoods,
-            &self.logical,
             &self.transforms,
             self.patterns(),
             self.limit,
@@ -84,9 +84,9 @@ impl Call {
 
     fn soft_raw(&self, room: &mut Room) -> raw::Answer {
         decode_soft_raw(
+            &self.logical,
             &self.physical,
             &self.likelihoods,
-            &self.logical,
             &self.transforms,
             self.patterns(),
             self.limit,

@@ -40,7 +40,7 @@ fn found_and_refused() {
     let hard = decode_hard(&list, &list, &[0, 1, 2, 3], patterns, 0.25, &mut room).expect("hard decode finds it");
     assert_eq!((hard.square, hard.hits, hard.edges), (square, 200, 200));
     let soft =
-        decode_soft(&list, &likelihoods, &list, &[0, 1, 2, 3], patterns, 0.25, 0.02, &mut room).expect("soft decode finds it");
+        decode_soft(&list, &list, &likelihoods, &[0, 1, 2, 3], patterns, 0.25, 0.02, &mut room).expect("soft decode finds it");
     assert_eq!((soft.square, soft.best_score), (square, -50.0));
     let fit = match_stats(&list, square, patterns).expect("the square is on the board");
     assert_eq!((fit.edges, fit.hits), (200, 200));
@@ -48,7 +48,7 @@ fn found_and_refused() {
     let refused: Refusal = decode_hard(&list, &list, &[], patterns, 0.25, &mut room).unwrap_err();
     assert_eq!((refused, refused.number()), (Refusal::BadTransform, 7));
     let words: Box<dyn std::error::Error> =
-        Box::new(decode_soft(&list, &likelihoods, &list, &[0], patterns, 0.25, -1.0, &mut room).unwrap_err());
+        Box::new(decode_soft(&list, &list, &likelihoods, &[0], patterns, 0.25, -1.0, &mut room).unwrap_err());
     assert_eq!(words.to_string(), "refused (9): the error limit, the soft margin or the given origin is out of range");
     assert_eq!(match_stats(&list, Square { row: 501, ..square }, patterns), Err(Refusal::BadSetting));
 }

@@ -54,8 +54,8 @@ samburext_answer (*const hard)(const int32_t *, size_t, const int32_t *, size_t,
                                const uint8_t *, size_t, const uint8_t *, size_t, const uint8_t *, size_t, float, uint32_t *, size_t, float *,
                                size_t) = samburext_decode_hard;
 samburext_answer (*const soft)(const int32_t *, size_t, const int32_t *, size_t, const uint8_t *, size_t, const uint8_t *, size_t, const float *, size_t,
-                               const float *, size_t, const float *, size_t, const int32_t *, size_t, const int32_t *, size_t, const uint8_t *, size_t,
-                               const uint8_t *, size_t, const float *, size_t, const uint8_t *, size_t, const uint8_t *, size_t, const uint8_t *, size_t,
+                               const int32_t *, size_t, const int32_t *, size_t, const uint8_t *, size_t, const uint8_t *, size_t, const float *, size_t,
+                               const float *, size_t, const float *, size_t, const uint8_t *, size_t, const uint8_t *, size_t, const uint8_t *, size_t,
                                float, float, uint32_t *, size_t, float *, size_t, int64_t *, size_t) = samburext_decode_soft;
 samburext_stats (*const stats)(const int32_t *, size_t, const int32_t *, size_t, const uint8_t *, size_t, const uint8_t *, size_t, const float *, size_t,
                                uint32_t, uint32_t, uint32_t, const uint8_t *, size_t, const uint8_t *, size_t) = samburext_match_stats;

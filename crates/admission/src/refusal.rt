@@ -138,7 +138,7 @@ pub fn hard_admission(
     transforms: &[u8],
     h: &[u8],
     v: &[u8],
-    limit: f32,
+    error_limit: f32,
     counts: usize,
     weights: usize,
 ) -> Admission
@@ -146,7 +146,7 @@ pub fn hard_admission(
         (hardCall
         (edges (now (lrows .entry)) (now (lcols .entry)) (now (lorientations .entry)) (now (lbits .entry)) (now (lconfidences .entry)))
         (edges (now (prows .entry)) (now (pcols .entry)) (now (porientations .entry)) (now (pbits .entry)) (now (pconfidences .entry)))
-        (now (transforms .entry)) (tables (now (h .entry)) (now (v .entry))) limit) counts weights ⌝ }
+        (now (transforms .entry)) (tables (now (h .entry)) (now (v .entry))) «error_limit») counts weights ⌝ }
 {
     let room = refused_if(room_short(counts, weights), refusals::ROOM_TOO_SHORT);
     let logical = list_admission(1, lrows, lcols, lorientations, lbits, lconfidences);
@@ -154,17 +154,17 @@ pub fn hard_admission(
     let settings = settings_admission(
         checks::check::transforms_bad(transforms),
         tables_bad(h, v),
-        !checks::check::in_range(limit, 1.0f32),
+        !checks::check::in_range(error_limit, 1.0f32),
     );
     first_of(room, first_of(first_of(logical, physical), settings))
 }
 
 // Whether the error limit or the soft margin is out of range.
-fn limits_bad(limit: f32, margin: f32) -> bool
-    ensures { λ r. ⌜ r ≡ not (inRange oneF limit) || not (inRange marginTop margin) ⌝ }
+fn limits_bad(error_limit: f32, soft_margin: f32) -> bool
+    ensures { λ r. ⌜ r ≡ not (inRange oneF «error_limit») || not (inRange marginTop «soft_margin») ⌝ }
 {
-    if checks::check::in_range(limit, 1.0f32) {
-        return !checks::check::in_range(margin, 65536.0f32);
+    if checks::check::in_range(error_limit, 1.0f32) {
+        return !checks::check::in_range(soft_margin, 65536.0f32);
     }
     true
 }
@@ -186,8 +186,8 @@ pub fn soft_admission(
     transforms: &[u8],
     h: &[u8],
     v: &[u8],
-    limit: f32,
-    margin: f32,
+    error_limit: f32,
+    soft_margin: f32,
     counts: usize,
     weights: usize,
     sums: usize,
@@ -197,7 +197,7 @@ pub fn soft_admission(
         (edges (now (lrows .entry)) (now (lcols .entry)) (now (lorientations .entry)) (now (lbits .entry)) (now (lconfidences .entry)))
         (edges (now (prows .entry)) (now (pcols .entry)) (now (porientations .entry)) (now (pbits .entry)) (now (pconfidences .entry)))
         (likelihoods (now (matches .entry)) (now (mismatches .entry)))
-        (now (transforms .entry)) (tables (now (h .entry)) (now (v .entry))) limit margin) counts weights sums ⌝ }
+        (now (transforms .entry)) (tables (now (h .entry)) (now (v .entry))) «error_limit» «soft_margin») counts weights sums ⌝ }
 {
     let room = refused_if(
         soft_room_short(counts, weights, sums),
@@ -209,7 +209,7 @@ pub fn soft_admission(
     let settings = settings_admission(
         checks::check::transforms_bad(transforms),
         tables_bad(h, v),
-        limits_bad(limit, margin),
+        limits_bad(error_limit, soft_margin),
     );
     first_of(
         room,

@@ -14,13 +14,13 @@ pub struct Decoded {
     pub square: Square,
     pub hits: u32,
     pub edges: u32,
-    pub weighted: f32,
-    pub rate: f32,
-    pub mean: f32,
-    pub best: f32,
-    pub next: f32,
+    pub weighted_score: f32,
+    pub error_rate: f32,
+    pub mean_confidence: f32,
+    pub best_score: f32,
+    pub runner_up_score: f32,
     pub margin: f32,
-    pub runner: Square,
+    pub runner_up: Square,
 }
 
 // The answer of hard and soft decode.
@@ -33,8 +33,8 @@ pub enum Answer {
 pub struct MatchStats {
     pub edges: u32,
     pub hits: u32,
-    pub rate: f32,
-    pub mean: f32,
+    pub error_rate: f32,
+    pub mean_confidence: f32,
 }
 
 // The answer of match statistics.

@@ -4,11 +4,27 @@ ghost use mathlib.Core.Bool.{_||_, not};
 ghost use Rattle.board.specs.Hits.{edges};
 ghost use Rattle.checks.specs.Checks.{far, farAt, badCoordinate, badLikelihood, inRange, unlikelyAt, firstBadCoordinate, firstBadByte, firstBadConfidence, firstBadLikelihood, lengthsDiffer, sizeBad, fieldBad, confidenceBad, transformsBad, tableBad};
 
+// The least and the largest row and column.
+const LEAST: i32 = -1000000;
+
+const LARGEST: i32 = 1000000;
+
+// How many edges a list may have.
+const MAX_EDGES: usize = 8192;
+
+// How many transforms a call may list, and the last transform and pattern by number.
+const MAX_TRANSFORMS: usize = 8;
+
+const LAST: u8 = 7;
+
+// How many patterns each table of the flat board has.
+const FLAT_PERIOD: usize = 167;
+
 // Whether a coordinate is outside -1,000,000 to 1,000,000.
 fn is_far(x: i32) -> bool
     ensures { λ r. ⌜ r ≡ far x ⌝ }
 {
-    x < -1000000 || 1000000 < x
+    x < LEAST || LARGEST < x
 }
 
 // Whether the coordinate at index i is outside; past the end there is none.
@@ -131,7 +147,7 @@ pub fn lengths_differ(
 pub fn size_bad(least: usize, n: usize) -> bool
     ensures { λ r. ⌜ r ≡ sizeBad least n ⌝ }
 {
-    n < least || 8192 < n
+    n < least || MAX_EDGES < n
 }
 
 // Whether a coordinate, an orientation code or a bit of the list is out of range.
@@ -162,18 +178,18 @@ pub fn transforms_bad(transforms: &[u8]) -> bool
     if n == 0 {
         return true;
     }
-    if 8 < n {
+    if MAX_TRANSFORMS < n {
         return true;
     }
-    first_bad_byte(transforms, 7) < n
+    first_bad_byte(transforms, LAST) < n
 }
 
 // Whether a pattern table has not 167 entries, or one above 7.
 pub fn table_bad(patterns: &[u8]) -> bool
     ensures { λ r. ⌜ r ≡ tableBad (now (patterns .entry)) ⌝ }
 {
-    if patterns.len() == 167 {
-        return first_bad_byte(patterns, 7) < 167;
+    if patterns.len() == FLAT_PERIOD {
+        return first_bad_byte(patterns, LAST) < FLAT_PERIOD;
     }
     true
 }

@@ -41,7 +41,7 @@ use Rattle.verdict.specs.Verdict.{pick, whenAccepted, agreed, judged}
 use Rattle.puzzleboard.specs.Hard.{afterPhysical, afterLogical, hardCore, hardAnswer}
 use Rattle.verdict.specs.declared.soft_verdict.SoftBest.{SoftBest}
 use Rattle.verdict.specs.Verdict.{softDecodedOf, softVerdict, bestOf}
-use Rattle.puzzleboard.specs.Soft.{figuresOf, softJudged, afterHard, afterSoft, softCore, softAnswer}
+use Rattle.puzzleboard.specs.Soft.{fitOf, softJudged, afterHard, afterSoft, softCore, softAnswer}
 use Rattle.flat.specs.declared.flat.FlatAnswer.{FlatAnswer}
 use Rattle.flat.specs.Flat.{notRefused, flat, flatStats}
 use Rattle.export_hard.specs.Exports.{HardFlat}
@@ -163,7 +163,7 @@ tells-hard-too call best true c = tells-refused _ (λ z. omega arith)
 tells-hard-too call best false choice.Nothing = tells-refused _ (λ z. omega arith)
 tells-hard-too call best false (choice.Chosen w next) =
     let t = getD (call .transforms) (best .first .listed) 0 in
-    tells-or (softVerdict t (best .first) (getD (call .transforms) (w .listed) 0) w next (size (call .logical))) (Found (softDecodedOf t best (figuresOf (call .board) (call .physical) t (best .first .row) (best .first .col)) (size (call .physical)) next)) (verdict-numbered t (best .first) (getD (call .transforms) (w .listed) 0) w next (size (call .logical))) (tells-found _)
+    tells-or (softVerdict t (best .first) (getD (call .transforms) (w .listed) 0) w next (size (call .logical))) (Found (softDecodedOf t best (fitOf (call .board) (call .physical) t (best .first .row) (best .first .col)) (size (call .physical)) next)) (verdict-numbered t (best .first) (getD (call .transforms) (w .listed) 0) w next (size (call .logical))) (tells-found _)
 
 tells-after-soft : (call : HardCall) (least : Float) (c : SoftChoice) → Tells (afterSoft call least c)
 unfolding selection

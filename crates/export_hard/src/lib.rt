@@ -20,7 +20,7 @@ pub extern "C" fn samburext_decode_hard<'a>(
     transforms: &[u8],
     h: &'a [u8],
     v: &'a [u8],
-    limit: f32,
+    error_limit: f32,
     counts: &mut [u32],
     weights: &mut [f32],
 ) -> FlatAnswer
@@ -28,7 +28,7 @@ pub extern "C" fn samburext_decode_hard<'a>(
         (hardCall
         (edges (now (lrows .entry)) (now (lcols .entry)) (now (lorientations .entry)) (now (lbits .entry)) (now (lconfidences .entry)))
         (edges (now (prows .entry)) (now (pcols .entry)) (now (porientations .entry)) (now (pbits .entry)) (now (pconfidences .entry)))
-        (now (transforms .entry)) (tables (now (h .entry)) (now (v .entry))) limit)
+        (now (transforms .entry)) (tables (now (h .entry)) (now (v .entry))) «error_limit»)
         (now (counts .entry)) (now (counts .exit)) (now (weights .entry)) (now (weights .exit)) r ⌝ }
 {
     let answer = puzzleboard::hard_decode::decode_hard(
@@ -45,7 +45,7 @@ pub extern "C" fn samburext_decode_hard<'a>(
         transforms,
         h,
         v,
-        limit,
+        error_limit,
         counts,
         weights,
     );

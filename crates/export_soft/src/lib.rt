@@ -23,8 +23,8 @@ pub extern "C" fn samburext_decode_soft<'a>(
     transforms: &[u8],
     h: &'a [u8],
     v: &'a [u8],
-    limit: f32,
-    margin: f32,
+    error_limit: f32,
+    soft_margin: f32,
     counts: &mut [u32],
     weights: &mut [f32],
     sums: &mut [i64],
@@ -34,7 +34,7 @@ pub extern "C" fn samburext_decode_soft<'a>(
         (edges (now (lrows .entry)) (now (lcols .entry)) (now (lorientations .entry)) (now (lbits .entry)) (now (lconfidences .entry)))
         (edges (now (prows .entry)) (now (pcols .entry)) (now (porientations .entry)) (now (pbits .entry)) (now (pconfidences .entry)))
         (likelihoods (now (matches .entry)) (now (mismatches .entry)))
-        (now (transforms .entry)) (tables (now (h .entry)) (now (v .entry))) limit margin)
+        (now (transforms .entry)) (tables (now (h .entry)) (now (v .entry))) «error_limit» «soft_margin»)
         (now (counts .entry)) (now (counts .exit)) (now (weights .entry)) (now (weights .exit)) (now (sums .entry)) (now (sums .exit)) r ⌝ }
 {
     let answer = puzzleboard::soft_decode::decode_soft(
@@ -53,8 +53,8 @@ pub extern "C" fn samburext_decode_soft<'a>(
         transforms,
         h,
         v,
-        limit,
-        margin,
+        error_limit,
+        soft_margin,
         counts,
         weights,
         sums,

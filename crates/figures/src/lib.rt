@@ -5,6 +5,12 @@ ghost use lib.ListN.{length};
 ghost use Rattle.figures.specs.Figures.{rateOf, meanOf, confidenceTo};
 ghost use Rattle.figures.specs.Gate.{passed};
 
+// How a placing fits a list: its hits, and the confidences of the hits added.
+pub struct Fit {
+    pub hits: u32,
+    pub weight: f32,
+}
+
 // The share of misses, by one division.
 pub fn rate(edges: u32, hits: u32) -> f32
     requires { ⌜ (hits ≤ edges) × (edges ≤ 8192) ⌝ }

@@ -29,15 +29,15 @@ flatFound d = record {
   col = d .square .col;
   hits = d .hits;
   edges = d .edges;
-  «weighted_score» = d .weighted;
-  «error_rate» = d .rate;
-  «mean_confidence» = d .mean;
-  «best_score» = d .best;
-  «runner_up_score» = d .next;
+  «weighted_score» = d .«weighted_score»;
+  «error_rate» = d .«error_rate»;
+  «mean_confidence» = d .«mean_confidence»;
+  «best_score» = d .«best_score»;
+  «runner_up_score» = d .«runner_up_score»;
   margin = d .margin;
-  «runner_up_transform» = d .runner .transform;
-  «runner_up_row» = d .runner .row;
-  «runner_up_col» = d .runner .col;
+  «runner_up_transform» = d .«runner_up» .transform;
+  «runner_up_row» = d .«runner_up» .row;
+  «runner_up_col» = d .«runner_up» .col;
 }
 
 -- a refusal: its number, 0xFFFFFFFF for every other whole number, and x for every float
@@ -71,7 +71,7 @@ flat (Refused r) = flatRefused (r .number)
 
 -- counted statistics, and refused ones
 abbrev pub flatCounted : MatchStats → FlatStats
-flatCounted s = record { refusal = notRefused; edges = s .edges; hits = s .hits; «error_rate» = s .rate; «mean_confidence» = s .mean }
+flatCounted s = record { refusal = notRefused; edges = s .edges; hits = s .hits; «error_rate» = s .«error_rate»; «mean_confidence» = s .«mean_confidence» }
 
 abbrev pub uncountedWith : ℕ → Float → FlatStats
 uncountedWith n x = record { refusal = n; edges = nothing; hits = nothing; «error_rate» = x; «mean_confidence» = x }

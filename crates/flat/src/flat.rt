@@ -43,7 +43,7 @@ fn found(d: Decoded) -> FlatAnswer
     ensures { λ r. ⌜ r ≡ flatFound d ⌝ }
 {
     let square = d.square;
-    let runner = d.runner;
+    let runner = d.runner_up;
     FlatAnswer {
         refusal: NOT_REFUSED,
         transform: square.transform,
@@ -51,11 +51,11 @@ fn found(d: Decoded) -> FlatAnswer
         col: square.col,
         hits: d.hits,
         edges: d.edges,
-        weighted_score: d.weighted,
-        error_rate: d.rate,
-        mean_confidence: d.mean,
-        best_score: d.best,
-        runner_up_score: d.next,
+        weighted_score: d.weighted_score,
+        error_rate: d.error_rate,
+        mean_confidence: d.mean_confidence,
+        best_score: d.best_score,
+        runner_up_score: d.runner_up_score,
         margin: d.margin,
         runner_up_transform: runner.transform,
         runner_up_row: runner.row,

@@ -24,8 +24,8 @@ fn counted(s: MatchStats) -> FlatStats
         refusal: NOT_REFUSED,
         edges: s.edges,
         hits: s.hits,
-        error_rate: s.rate,
-        mean_confidence: s.mean,
+        error_rate: s.error_rate,
+        mean_confidence: s.mean_confidence,
     }
 }
 

@@ -63,5 +63,5 @@ pub record Tells (B : Board) (E : EdgeList) (ts : List ℕ) (d : Decoded) (P Q :
   pub square : Names ts P (d .square)
   pub hits : d .hits ≡ hitsAt B E ts P
   pub edges : d .edges ≡ size E
-  pub runner : Names ts Q (d .runner)
-  pub next : d .next ≡ ofInt binary32 (pos (hitsAt B E ts Q))
+  pub runner-up : Names ts Q (d .«runner_up»)
+  pub runner-up-score : d .«runner_up_score» ≡ ofInt binary32 (pos (hitsAt B E ts Q))

@@ -48,7 +48,7 @@ module _ (call : HardCall) (m n : ℕ) (A : HardAccepted call m n) where
     pub runner-up : Placing
     pub leads : Leads (call .board) (call .logical) (call .transforms) (call .error-limit) square
     pub agrees : AgreesPhysical (call .board) (call .physical) (call .transforms) square
-    pub next : RunsUp (call .board) (call .logical) (call .transforms) square runner-up
+    pub runs-up : RunsUp (call .board) (call .logical) (call .transforms) square runner-up
     pub tells : Tells (call .board) (call .logical) (call .transforms) d square runner-up
 
   -- ---- found: then a placing leads and agrees, and the answer tells it
@@ -72,13 +72,13 @@ module _ (call : HardCall) (m n : ℕ) (A : HardAccepted call m n) where
             runner-up = nextAt (named (call .board) (call .logical) (call .transforms) (call .error-limit) (A .board) l (A .transforms .few) x r e g .0) r;
             leads = winner-leads (call .board) (call .logical) (call .transforms) (call .error-limit) (A .board) l (A .transforms .few) x r e g;
             agrees = record { winner = y; next = o; chosen = f; transform = sym (eqb-true t s (u .0)); row = sym (eqb-true (x .row) (y .row) (v .0)); col = sym (eqb-true (x .col) (y .col) (v .1)) };
-            next = runs-up (call .board) (call .logical) (call .transforms) (call .error-limit) (A .board) l (A .transforms .few) x r e g;
+            runs-up = runs-up (call .board) (call .logical) (call .transforms) (call .error-limit) (A .board) l (A .transforms .few) x r e g;
             tells = subst (λ (z : Decoded). Tells (call .board) (call .logical) (call .transforms) z (placed x) (nextAt (named (call .board) (call .logical) (call .transforms) (call .error-limit) (A .board) l (A .transforms .few) x r e g .0) r)) q (record {
               square = (refl, refl, refl);
               hits = winner-hits (call .board) (call .logical) (call .transforms) (call .error-limit) (A .board) l (A .transforms .few) x r e g;
               edges = refl;
-              runner = (named (call .board) (call .logical) (call .transforms) (call .error-limit) (A .board) l (A .transforms .few) x r e g .2, refl, refl);
-              next = ap (λ (z : ℕ). ofInt binary32 (pos z)) (sym (runner-hits (call .board) (call .logical) (call .transforms) (call .error-limit) (A .board) l (A .transforms .few) x r e g));
+              runner-up = (named (call .board) (call .logical) (call .transforms) (call .error-limit) (A .board) l (A .transforms .few) x r e g .2, refl, refl);
+              runner-up-score = ap (λ (z : ℕ). ofInt binary32 (pos z)) (sym (runner-hits (call .board) (call .logical) (call .transforms) (call .error-limit) (A .board) l (A .transforms .few) x r e g));
             });
           }
 

@@ -30,7 +30,7 @@ use Rattle.margin.specs.declared.slots.SoftChoice.{SoftChoice}
 use Rattle.margin.specs.declared.slots.SoftChoice.the-variants.{Nothing, Chosen}
 use Rattle.margin.specs.Margin.{softMargin, belowMargin}
 use Rattle.soft.specs.Select.{softSelection}
-use Rattle.stats.specs.declared.stats.HitsWeight.{HitsWeight}
+use Rattle.figures.specs.declared.Fit.{Fit}
 use Rattle.verdict.specs.declared.soft_verdict.SoftBest.{SoftBest}
 use Rattle.answer.specs.declared.Decoded.{Decoded}
 use Rattle.answer.specs.declared.Answer.{Answer}
@@ -40,15 +40,15 @@ use Rattle.puzzleboard.specs.Hard.{left}
 
 -- ---- the physical list's figures
 -- the two cells of an origin, added: counts, and weights rounded once
-unfoldable pub cellFigures : ℕ → ℕ → CellTables → ℕ → ℕ → HitsWeight
-cellFigures L M X row col = record {
+unfoldable pub cellFit : ℕ → ℕ → CellTables → ℕ → ℕ → Fit
+cellFit L M X row col = record {
   hits = cAt (X .hc) (row % L * 3 + col % 3) + cAt (X .vc) (row % 3 * M + col % M);
   weight = add binary32 (wAt (X .hw) (row % L * 3 + col % 3)) (wAt (X .vw) (row % 3 * M + col % M));
 }
 
 -- of the origin (row, col) under the transform t
-abbrev pub figuresOf : Board → EdgeList → ℕ → ℕ → ℕ → HitsWeight
-figuresOf B E t row col = cellFigures (periodOf B true) (periodOf B false) (tablesOf B E t) row col
+abbrev pub fitOf : Board → EdgeList → ℕ → ℕ → ℕ → Fit
+fitOf B E t row col = cellFit (periodOf B true) (periodOf B false) (tablesOf B E t) row col
 
 -- ---- the answer
 module _ (call : HardCall) where
@@ -57,7 +57,7 @@ module _ (call : HardCall) where
   unfolding softDecodedOf
   softJudged best w next =
       let t = getD (call .transforms) (best .first .listed) 0 in
-      whenAccepted (softVerdict t (best .first) (getD (call .transforms) (w .listed) 0) w next (size (call .logical))) (Found (softDecodedOf t best (figuresOf (call .board) (call .physical) t (best .first .row) (best .first .col)) (size (call .physical)) next))
+      whenAccepted (softVerdict t (best .first) (getD (call .transforms) (w .listed) 0) w next (size (call .logical))) (Found (softDecodedOf t best (fitOf (call .board) (call .physical) t (best .first .row) (best .first .col)) (size (call .physical)) next))
 
   abbrev pub afterHard : SoftBest → Selection → Answer
   afterHard best (sel.Refused r) = Refused r
@@ -88,8 +88,8 @@ pub record SoftDone (call : SoftCall) (c c' : List ℕ) (w w' : List Float) (a a
   pub sums : a' ≡ left (pos 0) (sumsRoom (call .hard .board)) (softAdmission call (length c) (length w) (length a)) a
 
 -- ---- what the steps between leave
-pub record FiguresDone (B : Board) (E : EdgeList) (t row col : ℕ) (c c' : List ℕ) (w w' : List Float) (r : HitsWeight) : Type 0 where
-  pub answer : r ≡ figuresOf B E t row col
+pub record FitDone (B : Board) (E : EdgeList) (t row col : ℕ) (c c' : List ℕ) (w w' : List Float) (r : Fit) : Type 0 where
+  pub answer : r ≡ fitOf B E t row col
   pub rooms : TablesBuilt B E t c c' w w'
 
 -- the logical list and the figures: the u32 and the f32 room are used

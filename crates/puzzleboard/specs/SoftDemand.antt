@@ -49,11 +49,11 @@ pub record SoftAnswered (call : SoftCall) (d : Decoded) : Type 0 where
   pub best : BestByLikelihood (call .hard .board) (call .hard .physical) (call .likelihoods) (call .hard .transforms) square second
   pub clears : belowMargin (marginOf (call .hard .board) (call .hard .physical) (call .likelihoods) (call .hard .transforms) square second) (call .soft-margin) ≡ false
   pub leads : Leads (call .hard .board) (call .hard .logical) (call .hard .transforms) (call .hard .error-limit) square
-  pub next-best : RunsUp (call .hard .board) (call .hard .logical) (call .hard .transforms) square runner-up
+  pub runs-up : RunsUp (call .hard .board) (call .hard .logical) (call .hard .transforms) square runner-up
   pub names : Names (call .hard .transforms) square (d .square)
   pub hits : d .hits ≡ hitsAt (call .hard .board) (call .hard .physical) (call .hard .transforms) square
   pub edges : d .edges ≡ size (call .hard .physical)
-  pub score : d .best ≡ total (call .hard .board) (call .hard .physical) (call .likelihoods) (call .hard .transforms) square
+  pub best-score : d .«best_score» ≡ total (call .hard .board) (call .hard .physical) (call .likelihoods) (call .hard .transforms) square
   pub margin : d .margin ≡ marginOf (call .hard .board) (call .hard .physical) (call .likelihoods) (call .hard .transforms) square second
-  pub runner : Names (call .hard .transforms) runner-up (d .runner)
-  pub next : d .next ≡ ofInt binary32 (pos (hitsAt (call .hard .board) (call .hard .logical) (call .hard .transforms) runner-up))
+  pub runner-up-named : Names (call .hard .transforms) runner-up (d .«runner_up»)
+  pub runner-up-score : d .«runner_up_score» ≡ ofInt binary32 (pos (hitsAt (call .hard .board) (call .hard .logical) (call .hard .transforms) runner-up))

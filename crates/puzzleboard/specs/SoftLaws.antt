@@ -44,7 +44,7 @@ use Rattle.margin.specs.Scan.{softChosen}
 use Rattle.margin.specs.Margin.{softMargin, belowMargin}
 use Rattle.soft.specs.Select.{softSelection, SoftReady, SoftScanned}
 use Rattle.soft.specs.SelectLaws.{room-beyond, soft-best-edges}
-use Rattle.stats.specs.declared.stats.HitsWeight.{HitsWeight}
+use Rattle.figures.specs.declared.Fit.{Fit}
 use Rattle.verdict.specs.declared.soft_verdict.SoftBest.{SoftBest}
 use Rattle.answer.specs.declared.Decoded.{Decoded}
 use Rattle.answer.specs.declared.Answer.{Answer}
@@ -53,7 +53,7 @@ use Rattle.verdict.specs.Verdict.{refusedBy, whenAccepted}
 use Rattle.puzzleboard.specs.Hard.{left}
 use Rattle.puzzleboard.specs.HardLaws.{ready-logical, beyond}
 use Rattle.verdict.specs.Verdict.{softVerdict, softDecodedOf}
-use Rattle.puzzleboard.specs.Soft.{cellFigures, figuresOf, softJudged, afterHard, afterSoft, softCore, softAnswer, FiguresDone, LogicalDone, SoftCoreDone, SoftDone}
+use Rattle.puzzleboard.specs.Soft.{cellFit, fitOf, softJudged, afterHard, afterSoft, softCore, softAnswer, FitDone, LogicalDone, SoftCoreDone, SoftDone}
 
 -- ---- the cells of an origin
 pub positive : {n : ℕ} → Period n → 0 < n
@@ -75,9 +75,9 @@ module _ (L M edges : ℕ) (c : List ℕ) (w : List Float) (R : RoomReady L M ed
       let y = view-at (3 * L) (3 * M) c _ 0 j in
       omega arith
 
-  pub figures-read : record { hits = getD c (row % L * 3 + col % 3) 0 + getD c (3 * L + (row % 3 * M + col % M)) 0; weight = add binary32 (getD w (row % L * 3 + col % 3) nan) (getD w (3 * L + (row % 3 * M + col % M)) nan) } ≡ cellFigures L M (roomCells L M c w) row col
-  unfolding roomCells cellFigures
-  figures-read =
+  pub fit-read : record { hits = getD c (row % L * 3 + col % 3) 0 + getD c (3 * L + (row % 3 * M + col % M)) 0; weight = add binary32 (getD w (row % L * 3 + col % 3) nan) (getD w (3 * L + (row % 3 * M + col % M)) nan) } ≡ cellFit L M (roomCells L M c w) row col
+  unfolding roomCells cellFit
+  fit-read =
       let i = h-below L (positive (R .long)) row col in
       let j = v-below M (positive (R .wide)) row col in
       let x = getD-take (3 * L) c _ 0 i in
@@ -88,13 +88,13 @@ module _ (L M edges : ℕ) (c : List ℕ) (w : List Float) (R : RoomReady L M ed
 
 -- ---- the figures of one placing
 module _ (B : Board) (E : EdgeList) (t row col : ℕ) (c c' : List ℕ) (w w' : List Float) (ready : TablesReady B E t c w) (b : TablesBuilt B E t c c' w w') where
-  pub figures-done : (r : HitsWeight) → r ≡ cellFigures (periodOf B true) (periodOf B false) (roomCells (periodOf B true) (periodOf B false) c' w') row col → FiguresDone B E t row col c c' w w' r
-  figures-done r e = record { answer = e ∙ ap (λ (X : CellTables). cellFigures (periodOf B true) (periodOf B false) X row col) (built-cells B E t c c' w w' ready b); rooms = b }
+  pub fit-done : (r : Fit) → r ≡ cellFit (periodOf B true) (periodOf B false) (roomCells (periodOf B true) (periodOf B false) c' w') row col → FitDone B E t row col c c' w w' r
+  fit-done r e = record { answer = e ∙ ap (λ (X : CellTables). cellFit (periodOf B true) (periodOf B false) X row col) (built-cells B E t c c' w w' ready b); rooms = b }
 
 -- no more hits than edges
-pub figures-few : (B : Board) (E : EdgeList) (t row col : ℕ) → BoardOk B → ListOk E → figuresOf B E t row col .hits ≤ size E
-unfolding cellFigures
-figures-few B E t row col board list = tables-ok B E t board list .bounded _ _ (h-below (periodOf B true) (positive (period-h B board)) row col) (v-below (periodOf B false) (positive (period-v B board)) row col)
+pub fit-few : (B : Board) (E : EdgeList) (t row col : ℕ) → BoardOk B → ListOk E → fitOf B E t row col .hits ≤ size E
+unfolding cellFit
+fit-few B E t row col board list = tables-ok B E t board list .bounded _ _ (h-below (periodOf B true) (positive (period-h B board)) row col) (v-below (periodOf B false) (positive (period-v B board)) row col)
 
 -- ---- the soft winner against the logical list
 module _ (call : HardCall) (c : List ℕ) (w : List Float) (A : HardAccepted call (length c) (length w)) (best : SoftBest) (c' : List ℕ) (w' : List Float) (r : Selection) (D : SelectDone (call .board) (call .logical) (call .transforms) (call .error-limit) c c' w w' r) where
@@ -106,8 +106,8 @@ module _ (call : HardCall) (c : List ℕ) (w : List Float) (A : HardAccepted cal
   logical-refused n k = record { answer = ap (afterHard call best) (sym k ∙ D .answer); counts = logical-rooms .0; weights = logical-rooms .1 }
 
   -- the tables of its transform can be built
-  pub figures-ready : best .first .listed < length (call .transforms) → TablesReady (call .board) (call .physical) (getD (call .transforms) (best .first .listed) 0) c' w'
-  figures-ready h =
+  pub fit-ready : best .first .listed < length (call .transforms) → TablesReady (call .board) (call .physical) (getD (call .transforms) (best .first .listed) 0) c' w'
+  fit-ready h =
       record {
         list = A .physical;
         board = A .board;
@@ -118,7 +118,7 @@ module _ (call : HardCall) (c : List ℕ) (w : List Float) (A : HardAccepted cal
   module _ (x : Candidate) (next : RunnerUp) (k : r ≡ sel.Selected x next) (n : Admission) (v : n ≡ softVerdict (getD (call .transforms) (best .first .listed) 0) (best .first) (getD (call .transforms) (x .listed) 0) x next (size (call .logical))) where
     -- the answer under a verdict
     abbrev under : Admission → Answer
-    under y = let t = getD (call .transforms) (best .first .listed) 0 in whenAccepted y (Found (softDecodedOf t best (figuresOf (call .board) (call .physical) t (best .first .row) (best .first .col)) (size (call .physical)) next))
+    under y = let t = getD (call .transforms) (best .first .listed) 0 in whenAccepted y (Found (softDecodedOf t best (fitOf (call .board) (call .physical) t (best .first .row) (best .first .col)) (size (call .physical)) next))
 
     logical-answer : under n ≡ afterHard call best (selection (call .board) (call .logical) (call .transforms) (call .error-limit))
     unfolding softJudged
@@ -127,14 +127,14 @@ module _ (call : HardCall) (c : List ℕ) (w : List Float) (A : HardAccepted cal
     pub verdict-refused : (z : Refusal) → n ≡ admission.Refused z → LogicalDone call best c c' w w' (Refused z)
     verdict-refused z o = record { answer = ap under (sym o) ∙ logical-answer; counts = logical-rooms .0; weights = logical-rooms .1 }
 
-    module _ (c'' : List ℕ) (w'' : List Float) (own : HitsWeight) (F : FiguresDone (call .board) (call .physical) (getD (call .transforms) (best .first .listed) 0) (best .first .row) (best .first .col) c' c'' w' w'' own) where
+    module _ (c'' : List ℕ) (w'' : List Float) (own : Fit) (F : FitDone (call .board) (call .physical) (getD (call .transforms) (best .first .listed) 0) (best .first .row) (best .first .col) c' c'' w' w'' own) where
       pub own-few : own .hits ≤ size (call .physical)
-      own-few = subst (λ (z : HitsWeight). z .hits ≤ size (call .physical)) (sym (F .answer)) (figures-few (call .board) (call .physical) (getD (call .transforms) (best .first .listed) 0) (best .first .row) (best .first .col) (A .board) (A .physical))
+      own-few = subst (λ (z : Fit). z .hits ≤ size (call .physical)) (sym (F .answer)) (fit-few (call .board) (call .physical) (getD (call .transforms) (best .first .listed) 0) (best .first .row) (best .first .col) (A .board) (A .physical))
 
       pub verdict-found : (a : Decoded) → n ≡ admission.Accepted → a ≡ softDecodedOf (getD (call .transforms) (best .first .listed) 0) best own (size (call .physical)) next → LogicalDone call best c c'' w w'' (Found a)
       verdict-found a o e =
           record {
-            answer = ap Found (e ∙ ap (λ (z : HitsWeight). softDecodedOf (getD (call .transforms) (best .first .listed) 0) best z (size (call .physical)) next) (F .answer)) ∙ ap under (sym o) ∙ logical-answer;
+            answer = ap Found (e ∙ ap (λ (z : Fit). softDecodedOf (getD (call .transforms) (best .first .listed) 0) best z (size (call .physical)) next) (F .answer)) ∙ ap under (sym o) ∙ logical-answer;
             counts = beyond-trans 0 (tablesRoom (call .board)) c c' c'' (logical-rooms .0) (record { len = F .rooms .counts .len; same = F .rooms .counts .surplus });
             weights = beyond-trans nan (tablesRoom (call .board)) w w' w'' (logical-rooms .1) (record { len = F .rooms .weights .len; same = F .rooms .weights .surplus });
           }

@@ -49,7 +49,7 @@ use Rattle.answer.specs.declared.Answer.{Answer}
 use Rattle.answer.specs.declared.Answer.the-variants.{Found, Refused}
 use Rattle.verdict.specs.Verdict.{refusedBy, pick, whenAccepted}
 use Rattle.verdict.specs.Verdict.{softVerdict, softDecodedOf, bestOf}
-use Rattle.puzzleboard.specs.Soft.{cellFigures, figuresOf, softJudged, afterHard, afterSoft, softCore}
+use Rattle.puzzleboard.specs.Soft.{cellFit, fitOf, softJudged, afterHard, afterSoft, softCore}
 use Rattle.puzzleboard.specs.SoftLaws.{likelihoods-ok}
 use Rattle.puzzleboard.specs.Demand.{OnBoard, Same, Leads, RunsUp, Names}
 use Rattle.puzzleboard.specs.DemandLaws.{keyOf, placing, placing-on, key-same, key-back, row-back, col-back, leads-sole}
@@ -75,9 +75,9 @@ verdict-passed t first s w next edges h =
     go false b e g k = let z : _≡_ {A = ℕ} 0 1 = cc in absurd (omega arith)
 
 -- the figures' hits are board's
-pub figures-hits : (B : Board) (E : EdgeList) (t row col : ℕ) → BoardOk B → figuresOf B E t row col .hits ≡ hits B E t row col
-unfolding cellFigures tablesOf
-figures-hits B E t row col board = sym (cell-pair-hits B E t board row col)
+pub fit-hits : (B : Board) (E : EdgeList) (t row col : ℕ) → BoardOk B → fitOf B E t row col .hits ≡ hits B E t row col
+unfolding cellFit tablesOf
+fit-hits B E t row col board = sym (cell-pair-hits B E t board row col)
 
 module _ (call : SoftCall) (m n o : ℕ) (A : SoftAccepted call m n o) where
   -- ---- its own best placing
@@ -128,7 +128,7 @@ module _ (call : SoftCall) (m n o : ℕ) (A : SoftAccepted call m n o) where
     t = getD (call .hard .transforms) (Q .listed) 0
 
     abbrev answer : RunnerUp → Decoded
-    answer r = softDecodedOf t (bestOf (candidate (call .hard .board) (call .hard .physical) (call .likelihoods) (call .hard .transforms) Q) (candidate (call .hard .board) (call .hard .physical) (call .likelihoods) (call .hard .transforms) R) (size (call .hard .physical))) (figuresOf (call .hard .board) (call .hard .physical) t (Q .row) (Q .col)) (size (call .hard .physical)) r
+    answer r = softDecodedOf t (bestOf (candidate (call .hard .board) (call .hard .physical) (call .likelihoods) (call .hard .transforms) Q) (candidate (call .hard .board) (call .hard .physical) (call .likelihoods) (call .hard .transforms) R) (size (call .hard .physical))) (fitOf (call .hard .board) (call .hard .physical) t (Q .row) (Q .col)) (size (call .hard .physical)) r
 
     module _ (x : Candidate) (r : RunnerUp) (e : selection (call .hard .board) (call .hard .logical) (call .hard .transforms) (call .hard .error-limit) ≡ sel.Selected x r) (p : (t ≡ getD (call .hard .transforms) (x .listed) 0) × (Q .row ≡ x .row) × (Q .col ≡ x .col) × (passed (size (call .hard .logical)) (x .hits) (r .hits) ≡ true)) where
       lead : Leads (call .hard .board) (call .hard .logical) (call .hard .transforms) (call .hard .error-limit) (placed x)
@@ -157,14 +157,14 @@ module _ (call : SoftCall) (m n o : ℕ) (A : SoftAccepted call m n o) where
             best = b;
             clears = clear;
             leads = subst (λ (z : Placing). Leads (call .hard .board) (call .hard .logical) (call .hard .transforms) (call .hard .error-limit) z) same-one lead;
-            next-best = subst (λ (z : Placing). RunsUp (call .hard .board) (call .hard .logical) (call .hard .transforms) z (nextAt (l .0) r)) same-one (runs-up (call .hard .board) (call .hard .logical) (call .hard .transforms) (call .hard .error-limit) (A .hard .board) (A .hard .logical) (A .hard .transforms .few) x r e (p .3));
+            runs-up = subst (λ (z : Placing). RunsUp (call .hard .board) (call .hard .logical) (call .hard .transforms) z (nextAt (l .0) r)) same-one (runs-up (call .hard .board) (call .hard .logical) (call .hard .transforms) (call .hard .error-limit) (A .hard .board) (A .hard .logical) (A .hard .transforms .few) x r e (p .3));
             names = (refl, refl, refl);
-            hits = figures-hits (call .hard .board) (call .hard .physical) t (Q .row) (Q .col) (A .hard .board);
+            hits = fit-hits (call .hard .board) (call .hard .physical) t (Q .row) (Q .col) (A .hard .board);
             edges = refl;
-            score = refl;
+            best-score = refl;
             margin = refl;
-            runner = (l .2, refl, refl);
-            next = ap (λ (z : ℕ). ofInt binary32 (pos z)) (sym (runner-hits (call .hard .board) (call .hard .logical) (call .hard .transforms) (call .hard .error-limit) (A .hard .board) (A .hard .logical) (A .hard .transforms .few) x r e (p .3)));
+            runner-up-named = (l .2, refl, refl);
+            runner-up-score = ap (λ (z : ℕ). ofInt binary32 (pos z)) (sym (runner-hits (call .hard .board) (call .hard .logical) (call .hard .transforms) (call .hard .error-limit) (A .hard .board) (A .hard .logical) (A .hard .transforms .few) x r e (p .3)));
           })
 
     abbrev verdict : Candidate → RunnerUp → Admission
@@ -210,4 +210,4 @@ module _ (call : SoftCall) (m n o : ℕ) (A : SoftAccepted call m n o) where
       let p1 : eqb t (getD (call .hard .transforms) (x .listed) 0) ≡ true = eq-eqb t (getD (call .hard .transforms) (x .listed) 0) (ap (λ (i : ℕ). getD (call .hard .transforms) i 0) (k .0)) in
       let p2 : eqb (Q .row) (x .row) ≡ true = eq-eqb (Q .row) (x .row) (k .1) in
       let p3 : eqb (Q .col) (x .col) ≡ true = eq-eqb (Q .col) (x .col) (k .2) in
-      (softDecodedOf t (bestOf (candidate (call .hard .board) (call .hard .physical) (call .likelihoods) (call .hard .transforms) Q) (candidate (call .hard .board) (call .hard .physical) (call .likelihoods) (call .hard .transforms) R) (size (call .hard .physical))) (figuresOf (call .hard .board) (call .hard .physical) t (Q .row) (Q .col)) (size (call .hard .physical)) r, rw (h, own-best Q R b, clear, s .2, p1, p2, p3, s .3))
+      (softDecodedOf t (bestOf (candidate (call .hard .board) (call .hard .physical) (call .likelihoods) (call .hard .transforms) Q) (candidate (call .hard .board) (call .hard .physical) (call .likelihoods) (call .hard .transforms) R) (size (call .hard .physical))) (fitOf (call .hard .board) (call .hard .physical) t (Q .row) (Q .col)) (size (call .hard .physical)) r, rw (h, own-best Q R b, clear, s .2, p1, p2, p3, s .3))

@@ -27,7 +27,7 @@ fn hard_core<'a>(
     transforms: &[u8],
     h: &'a [u8],
     v: &'a [u8],
-    limit: f32,
+    error_limit: f32,
     counts: &mut [u32],
     weights: &mut [f32],
 ) -> Answer
@@ -35,12 +35,12 @@ fn hard_core<'a>(
         (hardCall
         (edges (now lrows) (now lcols) (now lorientations) (now lbits) (now lconfidences))
         (edges (now prows) (now pcols) (now porientations) (now pbits) (now pconfidences))
-        (now transforms) (tables (now h) (now v)) limit) (length (now counts)) (length (now weights)) ⌝ }
+        (now transforms) (tables (now h) (now v)) «error_limit») (length (now counts)) (length (now weights)) ⌝ }
     ensures { λ r. ⌜ CoreDone
         (hardCall
         (edges (now (lrows .entry)) (now (lcols .entry)) (now (lorientations .entry)) (now (lbits .entry)) (now (lconfidences .entry)))
         (edges (now (prows .entry)) (now (pcols .entry)) (now (porientations .entry)) (now (pbits .entry)) (now (pconfidences .entry)))
-        (now (transforms .entry)) (tables (now (h .entry)) (now (v .entry))) limit)
+        (now (transforms .entry)) (tables (now (h .entry)) (now (v .entry))) «error_limit»)
         (now (counts .entry)) (now (counts .exit)) (now (weights .entry)) (now (weights .exit)) r ⌝ }
 {
     let logical = hard::select::select(
@@ -52,7 +52,7 @@ fn hard_core<'a>(
         transforms,
         h,
         v,
-        limit,
+        error_limit,
         counts,
         weights,
     );
@@ -107,7 +107,7 @@ pub fn decode_hard<'a>(
     transforms: &[u8],
     h: &'a [u8],
     v: &'a [u8],
-    limit: f32,
+    error_limit: f32,
     counts: &mut [u32],
     weights: &mut [f32],
 ) -> Answer
@@ -115,7 +115,7 @@ pub fn decode_hard<'a>(
         (hardCall
         (edges (now (lrows .entry)) (now (lcols .entry)) (now (lorientations .entry)) (now (lbits .entry)) (now (lconfidences .entry)))
         (edges (now (prows .entry)) (now (pcols .entry)) (now (porientations .entry)) (now (pbits .entry)) (now (pconfidences .entry)))
-        (now (transforms .entry)) (tables (now (h .entry)) (now (v .entry))) limit)
+        (now (transforms .entry)) (tables (now (h .entry)) (now (v .entry))) «error_limit»)
         (now (counts .entry)) (now (counts .exit)) (now (weights .entry)) (now (weights .exit)) r ⌝ }
 {
     let admitted = admission::refusal::hard_admission(
@@ -132,7 +132,7 @@ pub fn decode_hard<'a>(
         transforms,
         h,
         v,
-        limit,
+        error_limit,
         counts.len(),
         weights.len(),
     );
@@ -153,7 +153,7 @@ pub fn decode_hard<'a>(
                 transforms,
                 h,
                 v,
-                limit,
+                error_limit,
                 counts,
                 weights,
             );

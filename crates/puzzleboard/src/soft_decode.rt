@@ -9,8 +9,9 @@ ghost use Rattle.hard.specs.SelectLaws.{RoomReady, roomCells};
 ghost use Rattle.admission.specs.Calls.{hardCall, softCall};
 ghost use Rattle.admission.specs.Accepted.{HardAccepted, SoftAccepted};
 ghost use Rattle.verdict.specs.Verdict.{softVerdict, softDecodedOf};
-ghost use Rattle.puzzleboard.specs.Soft.{cellFigures, FiguresDone, LogicalDone, SoftCoreDone, SoftDone};
+ghost use Rattle.puzzleboard.specs.Soft.{cellFit, FitDone, LogicalDone, SoftCoreDone, SoftDone};
 use answer::Answer;
+use figures::Fit;
 use hard::select::Selection;
 use laws::Periods;
 use margin::slots::SoftCandidate;
@@ -18,14 +19,13 @@ use margin::slots::SoftChoice;
 use refusals::Admission;
 use scan::scan::Candidate;
 use scan::scan::RunnerUp;
-use stats::stats::HitsWeight;
 use verdict::soft_verdict::SoftBest;
 use verdict::soft_verdict::soft_decoded;
 use verdict::soft_verdict::soft_verdict;
 use verdict::verdict::refuse;
 
 // The hits and the weight of one origin, read off the tables in the room.
-fn figures_at(
+fn fit_at(
     counts: &[u32],
     weights: &[f32],
     long: usize,
@@ -33,22 +33,22 @@ fn figures_at(
     edges: u32,
     row: u32,
     col: u32,
-) -> HitsWeight
+) -> Fit
     requires { ⌜ RoomReady long wide edges (now counts) (now weights) ⌝ }
-    ensures { λ r. ⌜ r ≡ cellFigures long wide (roomCells long wide (now (counts .entry)) (now (weights .entry))) row col ⌝ }
+    ensures { λ r. ⌜ r ≡ cellFit long wide (roomCells long wide (now (counts .entry)) (now (weights .entry))) row col ⌝ }
 {
     let r = row as usize;
     let c = col as usize;
     let a = r % long * 3 + c % 3;
     let b = 3 * long + (r % 3 * wide + c % wide);
-    HitsWeight {
+    Fit {
         hits: counts[a] + counts[b],
         weight: weights[a] + weights[b],
     }
 }
 
 // The hits and the weight of one placing of a list: the tables of its transform are built once more, and read at its origin.
-fn figures<'a>(
+fn fit_of<'a>(
     rows: &[i32],
     cols: &[i32],
     orientations: &[u8],
@@ -61,9 +61,9 @@ fn figures<'a>(
     v: &'a [u8],
     counts: &mut [u32],
     weights: &mut [f32],
-) -> HitsWeight
+) -> Fit
     requires { ⌜ TablesReady (tables (now h) (now v)) (edges (now rows) (now cols) (now orientations) (now bits) (now confidences)) transform (now counts) (now weights) ⌝ }
-    ensures { λ r. ⌜ FiguresDone (tables (now (h .entry)) (now (v .entry))) (edges (now (rows .entry)) (now (cols .entry)) (now (orientations .entry)) (now (bits .entry)) (now (confidences .entry))) transform row col (now (counts .entry)) (now (counts .exit)) (now (weights .entry)) (now (weights .exit)) r ⌝ }
+    ensures { λ r. ⌜ FitDone (tables (now (h .entry)) (now (v .entry))) (edges (now (rows .entry)) (now (cols .entry)) (now (orientations .entry)) (now (bits .entry)) (now (confidences .entry))) transform row col (now (counts .entry)) (now (counts .exit)) (now (weights .entry)) (now (weights .exit)) r ⌝ }
 {
     tables::build::build_tables(
         rows,
@@ -77,7 +77,7 @@ fn figures<'a>(
         counts,
         weights,
     );
-    figures_at(
+    fit_at(
         counts,
         weights,
         h.len(),
@@ -104,7 +104,7 @@ fn soft_logical<'a>(
     transforms: &[u8],
     h: &'a [u8],
     v: &'a [u8],
-    limit: f32,
+    error_limit: f32,
     counts: &mut [u32],
     weights: &mut [f32],
 ) -> Answer
@@ -112,13 +112,13 @@ fn soft_logical<'a>(
         (hardCall
         (edges (now lrows) (now lcols) (now lorientations) (now lbits) (now lconfidences))
         (edges (now prows) (now pcols) (now porientations) (now pbits) (now pconfidences))
-        (now transforms) (tables (now h) (now v)) limit) (length (now counts)) (length (now weights)) ⌝ }
+        (now transforms) (tables (now h) (now v)) «error_limit») (length (now counts)) (length (now weights)) ⌝ }
     requires { ⌜ best .first .listed < length (now transforms) ⌝ }
     ensures { λ r. ⌜ LogicalDone
         (hardCall
         (edges (now (lrows .entry)) (now (lcols .entry)) (now (lorientations .entry)) (now (lbits .entry)) (now (lconfidences .entry)))
         (edges (now (prows .entry)) (now (pcols .entry)) (now (porientations .entry)) (now (pbits .entry)) (now (pconfidences .entry)))
-        (now (transforms .entry)) (tables (now (h .entry)) (now (v .entry))) limit) best
+        (now (transforms .entry)) (tables (now (h .entry)) (now (v .entry))) «error_limit») best
         (now (counts .entry)) (now (counts .exit)) (now (weights .entry)) (now (weights .exit)) r ⌝ }
 {
     let logical = hard::select::select(
@@ -130,7 +130,7 @@ fn soft_logical<'a>(
         transforms,
         h,
         v,
-        limit,
+        error_limit,
         counts,
         weights,
     );
@@ -145,7 +145,7 @@ fn soft_logical<'a>(
             match verdict {
                 Admission::Refused(refusal) => Answer::Refused(refusal),
                 Admission::Accepted => {
-                    let own = figures(
+                    let own = fit_of(
                         prows,
                         pcols,
                         porientations,
@@ -183,8 +183,8 @@ fn soft_core<'a>(
     transforms: &[u8],
     h: &'a [u8],
     v: &'a [u8],
-    limit: f32,
-    margin: f32,
+    error_limit: f32,
+    soft_margin: f32,
     counts: &mut [u32],
     weights: &mut [f32],
     sums: &mut [i64],
@@ -194,13 +194,13 @@ fn soft_core<'a>(
         (edges (now lrows) (now lcols) (now lorientations) (now lbits) (now lconfidences))
         (edges (now prows) (now pcols) (now porientations) (now pbits) (now pconfidences))
         (likelihoods (now matches) (now mismatches))
-        (now transforms) (tables (now h) (now v)) limit margin) (length (now counts)) (length (now weights)) (length (now sums)) ⌝ }
+        (now transforms) (tables (now h) (now v)) «error_limit» «soft_margin») (length (now counts)) (length (now weights)) (length (now sums)) ⌝ }
     ensures { λ r. ⌜ SoftCoreDone
         (softCall
         (edges (now (lrows .entry)) (now (lcols .entry)) (now (lorientations .entry)) (now (lbits .entry)) (now (lconfidences .entry)))
         (edges (now (prows .entry)) (now (pcols .entry)) (now (porientations .entry)) (now (pbits .entry)) (now (pconfidences .entry)))
         (likelihoods (now (matches .entry)) (now (mismatches .entry)))
-        (now (transforms .entry)) (tables (now (h .entry)) (now (v .entry))) limit margin)
+        (now (transforms .entry)) (tables (now (h .entry)) (now (v .entry))) «error_limit» «soft_margin»)
         (now (counts .entry)) (now (counts .exit)) (now (weights .entry)) (now (weights .exit)) (now (sums .entry)) (now (sums .exit)) r ⌝ }
 {
     let conf = figures::total_confidence(pconfidences);
@@ -223,14 +223,14 @@ fn soft_core<'a>(
     match margin::slots::finish(scan) {
         SoftChoice::Nothing => refuse(refusals::SOFT_MARGIN),
         SoftChoice::Chosen { first, second } => {
-            let lead = margin::margin::soft_margin(first, second, prows.len() as u32);
-            if margin::margin::below(lead, margin) {
+            let margin = margin::margin::soft_margin(first, second, prows.len() as u32);
+            if margin::margin::below(margin, soft_margin) {
                 return refuse(refusals::SOFT_MARGIN);
             }
             let best = SoftBest {
                 first,
                 second,
-                margin: lead,
+                margin,
             };
             soft_logical(
                 best,
@@ -247,7 +247,7 @@ fn soft_core<'a>(
                 transforms,
                 h,
                 v,
-                limit,
+                error_limit,
                 counts,
                 weights,
             )
@@ -273,8 +273,8 @@ pub fn decode_soft<'a>(
     transforms: &[u8],
     h: &'a [u8],
     v: &'a [u8],
-    limit: f32,
-    margin: f32,
+    error_limit: f32,
+    soft_margin: f32,
     counts: &mut [u32],
     weights: &mut [f32],
     sums: &mut [i64],
@@ -284,7 +284,7 @@ pub fn decode_soft<'a>(
         (edges (now (lrows .entry)) (now (lcols .entry)) (now (lorientations .entry)) (now (lbits .entry)) (now (lconfidences .entry)))
         (edges (now (prows .entry)) (now (pcols .entry)) (now (porientations .entry)) (now (pbits .entry)) (now (pconfidences .entry)))
         (likelihoods (now (matches .entry)) (now (mismatches .entry)))
-        (now (transforms .entry)) (tables (now (h .entry)) (now (v .entry))) limit margin)
+        (now (transforms .entry)) (tables (now (h .entry)) (now (v .entry))) «error_limit» «soft_margin»)
         (now (counts .entry)) (now (counts .exit)) (now (weights .entry)) (now (weights .exit)) (now (sums .entry)) (now (sums .exit)) r ⌝ }
 {
     let admitted = admission::refusal::soft_admission(
@@ -303,8 +303,8 @@ pub fn decode_soft<'a>(
         transforms,
         h,
         v,
-        limit,
-        margin,
+        error_limit,
+        soft_margin,
         counts.len(),
         weights.len(),
         sums.len(),
@@ -328,8 +328,8 @@ pub fn decode_soft<'a>(
                 transforms,
                 h,
                 v,
-                limit,
-                margin,
+                error_limit,
+                soft_margin,
                 counts,
                 weights,
                 sums,

@@ -14,7 +14,7 @@ use Rattle.refusals.specs.declared.Admission.the-variants as admission
 use Rattle.answer.specs.declared.MatchStats.{MatchStats}
 use Rattle.answer.specs.declared.StatsAnswer.{StatsAnswer}
 use Rattle.answer.specs.declared.StatsAnswer.the-variants.{Counted, Refused}
-use Rattle.stats.specs.declared.stats.HitsWeight.{HitsWeight}
+use Rattle.figures.specs.declared.Fit.{Fit}
 use Rattle.admission.specs.Refusals.{statsAdmission}
 
 -- hard selection's rate; no edges: 1
@@ -30,8 +30,8 @@ unfoldable pub statsOf : EdgeList → ℕ → ℕ → ℕ → Board → MatchSta
 statsOf E t row col B = record {
   edges = size E;
   hits = hits B E t row col;
-  rate = statsRate (size E) (hits B E t row col);
-  mean = meanOf (hits B E t row col) (hitWeight B E t row col (size E));
+  «error_rate» = statsRate (size E) (hits B E t row col);
+  «mean_confidence» = meanOf (hits B E t row col) (hitWeight B E t row col (size E));
 }
 
 -- an accepted call is counted
@@ -44,9 +44,9 @@ unfoldable pub statsAnswer : EdgeList → ℕ → ℕ → ℕ → Board → Stat
 statsAnswer E t row col B = orCounted (statsAdmission E t row col B) (statsOf E t row col B)
 
 -- ---- what the steps between answer
-abbrev pub added : HitsWeight → Bool → Float → HitsWeight
+abbrev pub added : Fit → Bool → Float → Fit
 added s b w = record { hits = put _+_ b (s .hits) 1; weight = put (add binary32) b (s .weight) w }
 
 -- the hits of a placing, and their confidences added in list order
-unfoldable pub hitsAndWeight : EdgeList → ℕ → ℕ → ℕ → Board → HitsWeight
+unfoldable pub hitsAndWeight : EdgeList → ℕ → ℕ → ℕ → Board → Fit
 hitsAndWeight E t row col B = record { hits = hits B E t row col; weight = hitWeight B E t row col (size E) }

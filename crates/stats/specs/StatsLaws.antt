@@ -18,30 +18,30 @@ use Rattle.refusals.specs.declared.Admission.{Admission}
 use Rattle.refusals.specs.declared.Admission.the-variants as admission
 use Rattle.answer.specs.declared.MatchStats.{MatchStats}
 use Rattle.answer.specs.declared.StatsAnswer.the-variants.{Counted, Refused}
-use Rattle.stats.specs.declared.stats.HitsWeight.{HitsWeight}
+use Rattle.figures.specs.declared.Fit.{Fit}
 use Rattle.admission.specs.Refusals.{statsAdmission}
 use Rattle.admission.specs.Accepted.{StatsAccepted}
 use Rattle.stats.specs.Stats.{statsRate, hitWeight, statsOf, statsAnswer, orCounted, added, hitsAndWeight}
 
 module _ (E : EdgeList) (t row col : ℕ) (B : Board) where
   -- after n edges
-  unfoldable pub soFar : ℕ → HitsWeight
+  unfoldable pub soFar : ℕ → Fit
   soFar n = record { hits = count n (hit B E t row col); weight = hitWeight B E t row col n }
 
   pub so-far-none : record { hits = 0; weight = zeroF } ≡ soFar 0
   unfolding soFar hitWeight
   so-far-none = sym (ap₂ pair (fold-zero _+_ 0 (hit B E t row col) one) (fold-zero (add binary32) zeroF (hit B E t row col) (λ i. getD (E .confidences) i nan)))
     where
-      pair : ℕ → Float → HitsWeight
+      pair : ℕ → Float → Fit
       pair h w = record { hits = h; weight = w }
 
-  pub so-far-more : (n : ℕ) (s r : HitsWeight) (b : Bool) → s ≡ soFar n → b ≡ hit B E t row col n → r ≡ added s b (getD (E .confidences) n nan) → r ≡ soFar (n + 1)
+  pub so-far-more : (n : ℕ) (s r : Fit) (b : Bool) → s ≡ soFar n → b ≡ hit B E t row col n → r ≡ added s b (getD (E .confidences) n nan) → r ≡ soFar (n + 1)
   unfolding soFar hitWeight
   so-far-more n s r b e h k =
-      k ∙ ap₂ (λ (x : HitsWeight) (y : Bool). added x y (getD (E .confidences) n nan)) e h
+      k ∙ ap₂ (λ (x : Fit) (y : Bool). added x y (getD (E .confidences) n nan)) e h
       ∙ sym (ap₂ pair (fold-more _+_ 0 (hit B E t row col) one n) (fold-more (add binary32) zeroF (hit B E t row col) (λ i. getD (E .confidences) i nan) n))
     where
-      pair : ℕ → Float → HitsWeight
+      pair : ℕ → Float → Fit
       pair h w = record { hits = h; weight = w }
 
   pub so-far-few : (n : ℕ) → soFar n .hits ≤ n
@@ -62,9 +62,9 @@ module _ (E : EdgeList) (t row col : ℕ) (B : Board) where
     unfolding statsAnswer
     stats-refused r n = ap (λ (x : Admission). orCounted x (statsOf E t row col B)) (sym n ∙ e)
 
-    pub stats-counted : (c : HitsWeight) (s : MatchStats) → a ≡ admission.Accepted → c ≡ hitsAndWeight E t row col B
-        → s ≡ record { edges = size E; hits = c .hits; rate = statsRate (size E) (c .hits); mean = meanOf (c .hits) (c .weight) } → Counted s ≡ statsAnswer E t row col B
+    pub stats-counted : (c : Fit) (s : MatchStats) → a ≡ admission.Accepted → c ≡ hitsAndWeight E t row col B
+        → s ≡ record { edges = size E; hits = c .hits; «error_rate» = statsRate (size E) (c .hits); «mean_confidence» = meanOf (c .hits) (c .weight) } → Counted s ≡ statsAnswer E t row col B
     unfolding statsAnswer statsOf hitsAndWeight
     stats-counted c s z k d =
-        ap Counted (d ∙ ap (λ (x : HitsWeight). record { edges = size E; hits = x .hits; rate = statsRate (size E) (x .hits); mean = meanOf (x .hits) (x .weight) }) k)
+        ap Counted (d ∙ ap (λ (x : Fit). record { edges = size E; hits = x .hits; «error_rate» = statsRate (size E) (x .hits); «mean_confidence» = meanOf (x .hits) (x .weight) }) k)
         ∙ ap (λ (x : Admission). orCounted x (statsOf E t row col B)) (sym z ∙ e)

@@ -6,21 +6,16 @@ ghost use Rattle.admission.specs.Accepted.{StatsAccepted};
 ghost use Rattle.stats.specs.Stats.{added, hitsAndWeight, statsRate, statsOf, statsAnswer};
 use answer::MatchStats;
 use answer::StatsAnswer;
+use figures::Fit;
 use refusals::Admission;
 
-// Hits so far, and the sum of their confidences.
-pub struct HitsWeight {
-    pub hits: u32,
-    pub weight: f32,
-}
-
 // One edge more: a hit adds one and its confidence.
-fn add_edge(sum: HitsWeight, hit: bool, confidence: f32) -> HitsWeight
+fn add_edge(sum: Fit, hit: bool, confidence: f32) -> Fit
     requires { ⌜ sum .hits < 8192 ⌝ }
     ensures { λ r. ⌜ r ≡ added sum hit confidence ⌝ }
 {
     if hit {
-        return HitsWeight {
+        return Fit {
             hits: sum.hits + 1,
             weight: sum.weight + confidence,
         };
@@ -40,7 +35,7 @@ fn count_hits<'a>(
     col: u32,
     h: &'a [u8],
     v: &'a [u8],
-) -> HitsWeight
+) -> Fit
     requires { ⌜ StatsAccepted
         (edges (now rows) (now cols) (now orientations) (now bits) (now confidences))
         transform row col (tables (now h) (now v)) ⌝ }
@@ -49,7 +44,7 @@ fn count_hits<'a>(
         transform row col (tables (now (h .entry)) (now (v .entry))) ⌝ }
 {
     let matrix = board::transform::matrix_of(transform);
-    let mut sum = HitsWeight {
+    let mut sum = Fit {
         hits: 0,
         weight: 0.0,
     };
@@ -131,8 +126,8 @@ pub fn match_stats<'a>(
             StatsAnswer::Counted(MatchStats {
                 edges,
                 hits,
-                rate: rate(edges, hits),
-                mean: figures::mean(hits, counted.weight),
+                error_rate: rate(edges, hits),
+                mean_confidence: figures::mean(hits, counted.weight),
             })
         }
     }

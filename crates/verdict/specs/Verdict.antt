@@ -14,7 +14,7 @@ use Rattle.figures.specs.Figures.{rateOf, meanOf}
 use Rattle.figures.specs.Gate.{passed}
 use Rattle.margin.specs.declared.slots.SoftCandidate.{SoftCandidate}
 use Rattle.margin.specs.Margin.{softMargin}
-use Rattle.stats.specs.declared.stats.HitsWeight.{HitsWeight}
+use Rattle.figures.specs.declared.Fit.{Fit}
 use Rattle.verdict.specs.declared.soft_verdict.SoftBest.{SoftBest}
 use Rattle.answer.specs.declared.Decoded.{Decoded}
 use Rattle.answer.specs.declared.Answer.{Answer}
@@ -36,17 +36,17 @@ agreed t a s b = eqb t s && (eqb (a .row) (b .row) && eqb (a .col) (b .col))
 -- "The answer holds the logical list's transform, origin, hits, edges, weighted score, rate, mean confidence, best score (= weighted score), runner-up hits
 -- as score, margin, and the runner-up's transform and origin." "margin = best minus runner-up hits, not below 0"
 unfoldable pub decodedOf : ℕ → Candidate → RunnerUp → ℕ → Decoded
-decodedOf t w next edges = record {
+decodedOf t w runner edges = record {
   square = record { transform = t; row = w .row; col = w .col };
   hits = w .hits;
   edges = edges;
-  weighted = w .score;
-  rate = rateOf edges (w .hits);
-  mean = meanOf (w .hits) (w .weight);
-  best = w .score;
-  next = ofInt binary32 (pos (next .hits));
-  margin = ofInt binary32 (pos (w .hits - next .hits));
-  runner = record { transform = next .transform; row = next .row; col = next .col };
+  «weighted_score» = w .score;
+  «error_rate» = rateOf edges (w .hits);
+  «mean_confidence» = meanOf (w .hits) (w .weight);
+  «best_score» = w .score;
+  «runner_up_score» = ofInt binary32 (pos (runner .hits));
+  margin = ofInt binary32 (pos (w .hits - runner .hits));
+  «runner_up» = record { transform = runner .transform; row = runner .row; col = runner .col };
 }
 
 abbrev pub pick : Bool → Answer → Answer → Answer
@@ -56,30 +56,30 @@ pick false a b = b
 -- refused where the winners differ, then where the gate is not passed, else found
 unfoldable pub judged : ℕ → Candidate → RunnerUp → ℕ → Candidate → ℕ → Answer
 unfolding decodedOf agreed
-judged t w next s p edges = pick (agreed t w s p) (pick (passed edges (w .hits) (next .hits)) (Found (decodedOf t w next edges)) (refusedBy why.notFarAhead)) (refusedBy why.listsDisagree)
+judged t w runner s p edges = pick (agreed t w s p) (pick (passed edges (w .hits) (runner .hits)) (Found (decodedOf t w runner edges)) (refusedBy why.notFarAhead)) (refusedBy why.listsDisagree)
 
 -- ---- soft decode
 -- "Then hard selection on the logical list must give the same origin and matrix and pass the gate"
 unfoldable pub softVerdict : ℕ → SoftCandidate → ℕ → Candidate → RunnerUp → ℕ → Admission
-softVerdict t first s w next edges =
+softVerdict t first s w runner edges =
     cond (eqb t s && (eqb (first .row) (w .row) && eqb (first .col) (w .col)))
-    (cond (passed edges (w .hits) (next .hits)) admission.Accepted (admission.Refused (numbered why.notFarAhead)))
+    (cond (passed edges (w .hits) (runner .hits)) admission.Accepted (admission.Refused (numbered why.notFarAhead)))
     (admission.Refused (numbered why.softHardDisagree))
 
 -- "the runner-up fields are replaced by the hard runner-up (score = its hits); the margin stays. Best score = f32 total, weighted score = that / edges; edges,
 -- hits, rate and mean confidence are the physical list's."
-unfoldable pub softDecodedOf : ℕ → SoftBest → HitsWeight → ℕ → RunnerUp → Decoded
-softDecodedOf t best figures edges next = record {
+unfoldable pub softDecodedOf : ℕ → SoftBest → Fit → ℕ → RunnerUp → Decoded
+softDecodedOf t best fit edges runner = record {
   square = record { transform = t; row = best .first .row; col = best .first .col };
-  hits = figures .hits;
+  hits = fit .hits;
   edges = edges;
-  weighted = div binary32 (best .first .total) (ofInt binary32 (pos edges));
-  rate = rateOf edges (figures .hits);
-  mean = meanOf (figures .hits) (figures .weight);
-  best = best .first .total;
-  next = ofInt binary32 (pos (next .hits));
+  «weighted_score» = div binary32 (best .first .total) (ofInt binary32 (pos edges));
+  «error_rate» = rateOf edges (fit .hits);
+  «mean_confidence» = meanOf (fit .hits) (fit .weight);
+  «best_score» = best .first .total;
+  «runner_up_score» = ofInt binary32 (pos (runner .hits));
   margin = best .margin;
-  runner = record { transform = next .transform; row = next .row; col = next .col };
+  «runner_up» = record { transform = runner .transform; row = runner .row; col = runner .col };
 }
 
 -- the two best candidates of a list of so many edges, with their margin

@@ -4,12 +4,12 @@ ghost use Prim.Native.Nat.{_≤_, _<_};
 ghost use Rattle.verdict.specs.Verdict.{softVerdict, softDecodedOf};
 use answer::Decoded;
 use answer::Square;
+use figures::Fit;
 use margin::slots::SoftCandidate;
 use refusals::Admission;
 use refusals::Refusal;
 use scan::scan::Candidate;
 use scan::scan::RunnerUp;
-use stats::stats::HitsWeight;
 
 // The two best placings by likelihood, and how far the first is ahead per edge: kept together until the answer is assembled.
 pub struct SoftBest {
@@ -24,15 +24,15 @@ pub fn soft_verdict(
     best: SoftBest,
     s: u8,
     w: Candidate,
-    next: RunnerUp,
+    runner: RunnerUp,
     edges: u32,
 ) -> Admission
-    ensures { λ r. ⌜ r ≡ softVerdict t (best .first) s w next edges ⌝ }
+    ensures { λ r. ⌜ r ≡ softVerdict t (best .first) s w runner edges ⌝ }
 {
     if t == s {
         if best.first.row == w.row {
             if best.first.col == w.col {
-                if figures::passes(edges, w.hits, next.hits) {
+                if figures::passes(edges, w.hits, runner.hits) {
                     return Admission::Accepted;
                 }
                 return Admission::Refused(Refusal {
@@ -46,37 +46,31 @@ pub fn soft_verdict(
     })
 }
 
-// What a found soft answer says: the soft winner with its total and margin, the physical list's figures, and the hard runner-up.
-pub fn soft_decoded(
-    t: u8,
-    best: SoftBest,
-    figures: HitsWeight,
-    edges: u32,
-    next: RunnerUp,
-) -> Decoded
-    requires { ⌜ (figures .hits ≤ edges) × (edges ≤ 8192) × (next .hits ≤ 8192) ⌝ }
-    ensures { λ r. ⌜ r ≡ softDecodedOf t best figures edges next ⌝ }
+// What a found soft answer says: the soft winner with its total and margin, the physical list's fit, and the hard runner-up.
+pub fn soft_decoded(t: u8, best: SoftBest, fit: Fit, edges: u32, runner: RunnerUp) -> Decoded
+    requires { ⌜ (fit .hits ≤ edges) × (edges ≤ 8192) × (runner .hits ≤ 8192) ⌝ }
+    ensures { λ r. ⌜ r ≡ softDecodedOf t best fit edges runner ⌝ }
 {
     let square = Square {
         transform: t as u32,
         row: best.first.row,
         col: best.first.col,
     };
-    let runner = Square {
-        transform: next.transform as u32,
-        row: next.row,
-        col: next.col,
+    let competitor = Square {
+        transform: runner.transform as u32,
+        row: runner.row,
+        col: runner.col,
     };
     Decoded {
         square,
-        hits: figures.hits,
+        hits: fit.hits,
         edges,
-        weighted: best.first.total / edges as f32,
-        rate: figures::rate(edges, figures.hits),
-        mean: figures::mean(figures.hits, figures.weight),
-        best: best.first.total,
-        next: next.hits as f32,
+        weighted_score: best.first.total / edges as f32,
+        error_rate: figures::rate(edges, fit.hits),
+        mean_confidence: figures::mean(fit.hits, fit.weight),
+        best_score: best.first.total,
+        runner_up_score: runner.hits as f32,
         margin: best.margin,
-        runner,
+        runner_up: competitor,
     }
 }

@@ -29,44 +29,44 @@ fn same_square(t: u8, a: Candidate, s: u8, b: Candidate) -> bool
 }
 
 // What a found answer says of the winner w under transform t, with its runner-up.
-fn decoded(t: u8, w: Candidate, next: RunnerUp, edges: u32) -> Decoded
-    requires { ⌜ (w .hits ≤ edges) × (next .hits ≤ edges) × (edges ≤ 8192) ⌝ }
-    ensures { λ r. ⌜ r ≡ decodedOf t w next edges ⌝ }
+fn decoded(t: u8, w: Candidate, runner: RunnerUp, edges: u32) -> Decoded
+    requires { ⌜ (w .hits ≤ edges) × (runner .hits ≤ edges) × (edges ≤ 8192) ⌝ }
+    ensures { λ r. ⌜ r ≡ decodedOf t w runner edges ⌝ }
 {
     let square = Square {
         transform: t as u32,
         row: w.row,
         col: w.col,
     };
-    let runner = Square {
-        transform: next.transform as u32,
-        row: next.row,
-        col: next.col,
+    let competitor = Square {
+        transform: runner.transform as u32,
+        row: runner.row,
+        col: runner.col,
     };
     Decoded {
         square,
         hits: w.hits,
         edges,
-        weighted: w.score,
-        rate: figures::rate(edges, w.hits),
-        mean: figures::mean(w.hits, w.weight),
-        best: w.score,
-        next: next.hits as f32,
-        margin: figures::margin(w.hits, next.hits) as f32,
-        runner,
+        weighted_score: w.score,
+        error_rate: figures::rate(edges, w.hits),
+        mean_confidence: figures::mean(w.hits, w.weight),
+        best_score: w.score,
+        runner_up_score: runner.hits as f32,
+        margin: figures::margin(w.hits, runner.hits) as f32,
+        runner_up: competitor,
     }
 }
 
 // The logical winner w under transform t, with its runner-up, judged against the physical winner p under transform s: they disagree, it is not far ahead, or found.
-pub fn judge(t: u8, w: Candidate, next: RunnerUp, s: u8, p: Candidate, edges: u32) -> Answer
-    requires { ⌜ (w .hits ≤ edges) × (next .hits ≤ edges) × (edges ≤ 8192) ⌝ }
-    ensures { λ r. ⌜ r ≡ judged t w next s p edges ⌝ }
+pub fn judge(t: u8, w: Candidate, runner: RunnerUp, s: u8, p: Candidate, edges: u32) -> Answer
+    requires { ⌜ (w .hits ≤ edges) × (runner .hits ≤ edges) × (edges ≤ 8192) ⌝ }
+    ensures { λ r. ⌜ r ≡ judged t w runner s p edges ⌝ }
 {
     if !same_square(t, w, s, p) {
         return refuse(refusals::LISTS_DISAGREE);
     }
-    if !figures::passes(edges, w.hits, next.hits) {
+    if !figures::passes(edges, w.hits, runner.hits) {
         return refuse(refusals::NOT_FAR_AHEAD);
     }
-    Answer::Found(decoded(t, w, next, edges))
+    Answer::Found(decoded(t, w, runner, edges))
 }

@@ -19,7 +19,7 @@ abbrev call : tie.Start → HardCall
 call s =
     let a = s .args in
     hardCall (edges (now (a .lrows)) (now (a .lcols)) (now (a .lorientations)) (now (a .lbits)) (now (a .lconfidences)))
-    (edges (now (a .prows)) (now (a .pcols)) (now (a .porientations)) (now (a .pbits)) (now (a .pconfidences))) (now (a .transforms)) (tables (now (a .h)) (now (a .v))) (a .limit)
+    (edges (now (a .prows)) (now (a .pcols)) (now (a .porientations)) (now (a .pbits)) (now (a .pconfidences))) (now (a .transforms)) (tables (now (a .h)) (now (a .v))) (a .error-limit)
 
 -- the call was accepted
 abbrev admitted : tie.After-enum-told → tie.After-hard-admission

@@ -20,7 +20,7 @@ module _ (s : tie.Start) where
   call =
       let a = s .args in
       hardCall (edges (now (a .lrows)) (now (a .lcols)) (now (a .lorientations)) (now (a .lbits)) (now (a .lconfidences)))
-      (edges (now (a .prows)) (now (a .pcols)) (now (a .porientations)) (now (a .pbits)) (now (a .pconfidences))) (now (a .transforms)) (tables (now (a .h)) (now (a .v))) (a .limit)
+      (edges (now (a .prows)) (now (a .pcols)) (now (a .porientations)) (now (a .pbits)) (now (a .pconfidences))) (now (a .transforms)) (tables (now (a .h)) (now (a .v))) (a .error-limit)
 
 -- the start, seen from the first selection
 abbrev st : tie.After-select → tie.Start
@@ -45,7 +45,7 @@ select-requires-2 c κs =
     let d = c .before .before .before .before .before .before .before .before .before in
     let s = st d in
     let l = ready-logical (call s) _ _ (s .pre) in
-    let b = select-beyond (call s .board) (call s .logical) (call s .transforms) (s .args .limit) _ _ l _ _ _ (d .select .ensures) in
+    let b = select-beyond (call s .board) (call s .logical) (call s .transforms) (s .args .error-limit) _ _ l _ _ _ (d .select .ensures) in
     ready-physical (call s) (now (s .args .counts)) (now (s .args .weights)) (s .pre) _ _ (b .0 .len) (b .1 .len)
 
 enum-known-physical : tie.Need-enum-known-physical

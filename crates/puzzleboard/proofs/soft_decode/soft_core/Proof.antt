@@ -23,7 +23,7 @@ module _ (s : tie.Start) where
       let a = s .args in
       softCall (edges (now (a .lrows)) (now (a .lcols)) (now (a .lorientations)) (now (a .lbits)) (now (a .lconfidences)))
       (edges (now (a .prows)) (now (a .pcols)) (now (a .porientations)) (now (a .pbits)) (now (a .pconfidences))) (likelihoods (now (a .matches)) (now (a .mismatches))) (now (a .transforms))
-      (tables (now (a .h)) (now (a .v))) (a .limit) (a .margin)
+      (tables (now (a .h)) (now (a .v))) (a .error-limit) (a .soft-margin)
 
 -- the start, seen from the total confidence
 abbrev st : tie.After-total-confidence → tie.Start

@@ -7,7 +7,7 @@ use lib.ListN.{length}
 use Rattle.board.specs.Hits.{edges, tables, size}
 use Rattle.admission.specs.Calls.{HardCall, hardCall}
 use Rattle.puzzleboard.specs.HardLaws.{ready-logical, logical-winner}
-use Rattle.puzzleboard.specs.SoftLaws.{logical-refused, figures-ready, verdict-refused, own-few, verdict-found}
+use Rattle.puzzleboard.specs.SoftLaws.{logical-refused, fit-ready, verdict-refused, own-few, verdict-found}
 use borrow.Author.Needs.{needs}
 use Rattle.puzzleboard.proofs.soft_decode.soft_logical.Statement.{statement}
 use Rattle.puzzleboard.proofs.soft_decode.soft_logical.Tie as tie
@@ -18,7 +18,7 @@ module _ (s : tie.Start) where
   call =
       let a = s .args in
       hardCall (edges (now (a .lrows)) (now (a .lcols)) (now (a .lorientations)) (now (a .lbits)) (now (a .lconfidences)))
-      (edges (now (a .prows)) (now (a .pcols)) (now (a .porientations)) (now (a .pbits)) (now (a .pconfidences))) (now (a .transforms)) (tables (now (a .h)) (now (a .v))) (a .limit)
+      (edges (now (a .prows)) (now (a .pcols)) (now (a .porientations)) (now (a .pbits)) (now (a .pconfidences))) (now (a .transforms)) (tables (now (a .h)) (now (a .v))) (a .error-limit)
 
 -- the start, seen from the selection
 abbrev st : tie.After-select → tie.Start
@@ -61,14 +61,14 @@ same-length c = search needs
 same-length-2 : tie.Need-same-length-2
 same-length-2 c = search needs
 
-figures-requires : tie.Need-figures-requires
-figures-requires c κs = let d = c .before .before .before .before .before .before .before .before .before .before .before .before .before .before in let s = st d in figures-ready (call s) (now (s .args .counts)) (now (s .args .weights)) (s .pre .0) (s .args .best) _ _ (d .select .result) (d .select .ensures) (s .pre .1)
+fit-of-requires : tie.Need-fit-of-requires
+fit-of-requires c κs = let d = c .before .before .before .before .before .before .before .before .before .before .before .before .before .before in let s = st d in fit-ready (call s) (now (s .args .counts)) (now (s .args .weights)) (s .pre .0) (s .args .best) _ _ (d .select .result) (d .select .ensures) (s .pre .1)
 
 cast-soft-decoded : tie.Need-cast-soft-decoded
 cast-soft-decoded c = let d = c .before .before .before .before .before .before .before .before .before .before .before .before .before .before .before .before .before .before .before in let s = st d in omega (arith, s .pre .0 .physical .few)
 
 soft-decoded-requires : tie.Need-soft-decoded-requires
-soft-decoded-requires c κs = let d = c .before .before .before .before .before .before .before .before .before .before .before .before .before .before .before .before .before .before .before in let s = st d in let l = c .before .before .before .before .before .before .before .before .before .before .before .before .before .logical2 .given in let v = c .before .before .before .before .before .before .before .before .before .soft-verdict in let b = winner (c .before .before .before .before .before .before .before .before .before .before .before .before .before) .2 in (own-few (call s) (now (s .args .counts)) (now (s .args .weights)) (s .pre .0) (s .args .best) _ _ (d .select .result) (d .select .ensures) (l .0 .0) (l .0 .1 .0) (l .1) (v .result) (v .ensures) _ _ _ (c .before .before .before .before .figures .ensures), s .pre .0 .physical .few, omega (arith, s .pre .0 .logical .few))
+soft-decoded-requires c κs = let d = c .before .before .before .before .before .before .before .before .before .before .before .before .before .before .before .before .before .before .before in let s = st d in let l = c .before .before .before .before .before .before .before .before .before .before .before .before .before .logical2 .given in let v = c .before .before .before .before .before .before .before .before .before .soft-verdict in let b = winner (c .before .before .before .before .before .before .before .before .before .before .before .before .before) .2 in (own-few (call s) (now (s .args .counts)) (now (s .args .weights)) (s .pre .0) (s .args .best) _ _ (d .select .result) (d .select .ensures) (l .0 .0) (l .0 .1 .0) (l .1) (v .result) (v .ensures) _ _ _ (c .before .before .before .before .fit-of .ensures), s .pre .0 .physical .few, omega (arith, s .pre .0 .logical .few))
 
 same-length-3 : tie.Need-same-length-3
 same-length-3 c = search needs
@@ -83,7 +83,7 @@ returns-2 : tie.Need-returns-2
 returns-2 c = let d = c .before .before .before .before .before .before .before .before .before .before .before .before .before in let s = st d in let l = c .before .before .before .before .before .before .before .logical2 .given in let v = c .before .before .before .soft-verdict in verdict-refused (call s) (now (s .args .counts)) (now (s .args .weights)) (s .pre .0) (s .args .best) _ _ (d .select .result) (d .select .ensures) (l .0 .0) (l .0 .1 .0) (l .1) (v .result) (v .ensures) (c .before .verdict .given .0 .0) (c .before .verdict .given .1)
 
 returns-3 : tie.Need-returns-3
-returns-3 c = let d = c .before .before .before .before .before .before .before .before .before .before .before .before .before .before .before .before .before .before .before .before in let s = st d in let l = c .before .before .before .before .before .before .before .before .before .before .before .before .before .before .logical2 .given in let v = c .before .before .before .before .before .before .before .before .before .before .soft-verdict in verdict-found (call s) (now (s .args .counts)) (now (s .args .weights)) (s .pre .0) (s .args .best) _ _ (d .select .result) (d .select .ensures) (l .0 .0) (l .0 .1 .0) (l .1) (v .result) (v .ensures) _ _ _ (c .before .before .before .before .before .figures .ensures) _ (c .before .before .before .before .before .before .before .before .enum-told .given .1) (c .soft-decoded .ensures)
+returns-3 c = let d = c .before .before .before .before .before .before .before .before .before .before .before .before .before .before .before .before .before .before .before .before in let s = st d in let l = c .before .before .before .before .before .before .before .before .before .before .before .before .before .before .logical2 .given in let v = c .before .before .before .before .before .before .before .before .before .before .soft-verdict in verdict-found (call s) (now (s .args .counts)) (now (s .args .weights)) (s .pre .0) (s .args .best) _ _ (d .select .result) (d .select .ensures) (l .0 .0) (l .0 .1 .0) (l .1) (v .result) (v .ensures) _ _ _ (c .before .before .before .before .before .fit-of .ensures) _ (c .before .before .before .before .before .before .before .before .enum-told .given .1) (c .soft-decoded .ensures)
 
 same-length-5 : tie.Need-same-length-5
 same-length-5 c = returns-3 c .counts .len
@@ -92,4 +92,4 @@ same-length-6 : tie.Need-same-length-6
 same-length-6 c = returns-3 c .weights .len
 
 pub soft-logical-spec : {M : Type 1} → statement M
-soft-logical-spec = tie.close (tie.spec select-requires enum-known-logical enum-known-logical-2 shared-slice-read-t shared-slice-read-s cast-soft-verdict soft-verdict-requires enum-known-verdict enum-told figures-requires cast-soft-decoded soft-decoded-requires same-length same-length-2 returns same-length-3 same-length-4 returns-2 same-length-5 same-length-6 returns-3)
+soft-logical-spec = tie.close (tie.spec select-requires enum-known-logical enum-known-logical-2 shared-slice-read-t shared-slice-read-s cast-soft-verdict soft-verdict-requires enum-known-verdict enum-told fit-of-requires cast-soft-decoded soft-decoded-requires same-length same-length-2 returns same-length-3 same-length-4 returns-2 same-length-5 same-length-6 returns-3)

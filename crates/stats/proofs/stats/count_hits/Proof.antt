@@ -12,7 +12,7 @@ use Rattle.laws.specs.Signed.{read, read-at}
 use Rattle.board.specs.Transform.{lookupOf}
 use Rattle.board.specs.Hits.{EdgeList, Board, edges, tables, look, predicted, hit}
 use Rattle.board.specs.Domain.{EdgeOk}
-use Rattle.stats.specs.declared.stats.HitsWeight.{HitsWeight}
+use Rattle.figures.specs.declared.Fit.{Fit}
 use Rattle.stats.specs.StatsLaws.{soFar, so-far-none, so-far-more, so-far-few, so-far-all, edge-ok}
 use Rattle.stats.proofs.stats.count_hits.Statement.{statement}
 use Rattle.stats.proofs.stats.count_hits.Tie as tie
@@ -85,7 +85,7 @@ shared-slice-read-add-edge c = let l = c .before .before .before .before .before
 add-edge-requires : tie.Need-add-edge-requires Inv-loop μ-loop
 add-edge-requires c κs =
     let l = c .before .before .before .before .before .before in
-    let e : l .before .loop .sum .hits ≡ soFar (E l) (st l .args .transform) (st l .args .row) (st l .args .col) (B l) (at l) .hits = ap (λ (s : HitsWeight). s .hits) (l .before .loop .inv .1) in
+    let e : l .before .loop .sum .hits ≡ soFar (E l) (st l .args .transform) (st l .args .row) (st l .args .col) (B l) (at l) .hits = ap (λ (s : Fit). s .hits) (l .before .loop .inv .1) in
     omega (arith, so-far-few (E l) (st l .args .transform) (st l .args .row) (st l .args .col) (B l) (at l), l .loop-test .taken, st l .pre .list .few)
 
 add-i : tie.Need-add-i Inv-loop μ-loop

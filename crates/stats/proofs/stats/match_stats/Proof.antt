@@ -6,7 +6,7 @@ use lib.Ieee.{Float}
 use Rattle.board.specs.Hits.{EdgeList, Board, edges, tables, size, hits}
 use Rattle.board.specs.HitsLaws.{hits-le}
 use Rattle.answer.specs.declared.MatchStats.{MatchStats}
-use Rattle.stats.specs.declared.stats.HitsWeight.{HitsWeight}
+use Rattle.figures.specs.declared.Fit.{Fit}
 use Rattle.admission.specs.Accepted.{StatsAccepted, stats-accepted}
 use Rattle.stats.specs.Stats.{hitsAndWeight}
 use Rattle.stats.specs.StatsLaws.{stats-refused, stats-counted}
@@ -31,7 +31,7 @@ few : (c : tie.After-count-hits) → c .count-hits .result .hits ≤ size (E (c 
 unfolding hitsAndWeight
 few c =
     let a = c .before .before .before .before .before .before .before .before .before .args in
-    omega (arith, ap (λ (s : HitsWeight). s .hits) (c .count-hits .ensures), hits-le (B (c .before)) (E (c .before)) (a .transform) (a .row) (a .col))
+    omega (arith, ap (λ (s : Fit). s .hits) (c .count-hits .ensures), hits-le (B (c .before)) (E (c .before)) (a .transform) (a .row) (a .col))
 
 stats-admission-requires : tie.Need-stats-admission-requires
 stats-admission-requires c κs = search needs
@@ -61,7 +61,7 @@ returns-2 : tie.Need-returns-2
 returns-2 c =
     let a = c .before .before .before .before .before .stats-admission in
     stats-counted _ _ _ _ _ (a .result) (a .ensures) (c .before .before .count-hits .result) _ (c .before .before .before .enum-told .given .1) (c .before .before .count-hits .ensures)
-    (ap₂ (λ (x y : Float). record { edges = size (E (c .before .before .before)); hits = c .before .before .count-hits .result .hits; rate = x; mean = y }) (c .before .rate .ensures) (c .mean .ensures))
+    (ap₂ (λ (x y : Float). record { edges = size (E (c .before .before .before)); hits = c .before .before .count-hits .result .hits; «error_rate» = x; «mean_confidence» = y }) (c .before .rate .ensures) (c .mean .ensures))
 
 pub match-stats-spec : {M : Type 1} → statement M
 match-stats-spec = tie.close (tie.spec stats-admission-requires enum-known-admitted enum-told count-hits-requires cast-edges rate-requires mean-requires returns returns-2)

@@ -24,7 +24,7 @@ mean-requires c κs = search needs
 
 int-to-float-t13 : tie.Need-int-to-float-t13
 unfolding inFloat
-int-to-float-t13 c = le→leb (c .before .before .before .before .before .before .args .next .hits) (2 ^ 24) (omega (arith, c .before .before .before .before .before .before .pre .2))
+int-to-float-t13 c = le→leb (c .before .before .before .before .before .before .args .runner .hits) (2 ^ 24) (omega (arith, c .before .before .before .before .before .before .pre .2))
 
 returns : tie.Need-returns
 unfolding softDecodedOf
@@ -32,15 +32,15 @@ returns c =
     let a = c .before .before .before .before .before .before .args in
     λ i. record {
       square = record { transform = a .t; row = a .best .first .row; col = a .best .first .col };
-      hits = a .figures .hits;
+      hits = a .fit .hits;
       edges = a .edges;
-      weighted = div binary32 (a .best .first .total) (ofInt binary32 (pos (a .edges)));
-      rate = c .before .before .rate .ensures i;
-      mean = c .before .mean .ensures i;
-      best = a .best .first .total;
-      next = ofInt binary32 (pos (a .next .hits));
+      «weighted_score» = div binary32 (a .best .first .total) (ofInt binary32 (pos (a .edges)));
+      «error_rate» = c .before .before .rate .ensures i;
+      «mean_confidence» = c .before .mean .ensures i;
+      «best_score» = a .best .first .total;
+      «runner_up_score» = ofInt binary32 (pos (a .runner .hits));
       margin = a .best .margin;
-      runner = record { transform = a .next .transform; row = a .next .row; col = a .next .col };
+      «runner_up» = record { transform = a .runner .transform; row = a .runner .row; col = a .runner .col };
     }
 
 pub soft-decoded-spec : {M : Type 1} → statement M

@@ -20,7 +20,7 @@ mean-requires c κs = search needs
 
 int-to-float-t10 : tie.Need-int-to-float-t10
 unfolding inFloat
-int-to-float-t10 c = le→leb (c .before .before .before .before .args .next .hits) (2 ^ 24) (omega arith)
+int-to-float-t10 c = le→leb (c .before .before .before .before .args .runner .hits) (2 ^ 24) (omega arith)
 
 margin-requires : tie.Need-margin-requires
 margin-requires c κs = search needs
@@ -37,13 +37,13 @@ returns c =
       square = record { transform = a .t; row = a .w .row; col = a .w .col };
       hits = a .w .hits;
       edges = a .edges;
-      weighted = a .w .score;
-      rate = c .before .before .before .before .rate .ensures i;
-      mean = c .before .before .before .mean .ensures i;
-      best = a .w .score;
-      next = ofInt binary32 (pos (a .next .hits));
+      «weighted_score» = a .w .score;
+      «error_rate» = c .before .before .before .before .rate .ensures i;
+      «mean_confidence» = c .before .before .before .mean .ensures i;
+      «best_score» = a .w .score;
+      «runner_up_score» = ofInt binary32 (pos (a .runner .hits));
       margin = ofInt binary32 (pos (c .before .margin .ensures i));
-      runner = record { transform = a .next .transform; row = a .next .row; col = a .next .col };
+      «runner_up» = record { transform = a .runner .transform; row = a .runner .row; col = a .runner .col };
     }
 
 pub decoded-spec : {M : Type 1} → statement M

@@ -2,10 +2,10 @@ use Prim.Native.Nat.{ℕ, _+_, _*_, _%_, _≤_, _<_}
 use native.Mathlib.Omega.{arith}
 use denote.Ref.{now}
 use Rattle.laws.specs.GridLaws.{h-below, v-below}
-use Rattle.puzzleboard.specs.SoftLaws.{positive, cells-few, figures-read}
+use Rattle.puzzleboard.specs.SoftLaws.{positive, cells-few, fit-read}
 use borrow.Author.Needs.{needs}
-use Rattle.puzzleboard.proofs.soft_decode.figures_at.Statement.{statement}
-use Rattle.puzzleboard.proofs.soft_decode.figures_at.Tie as tie
+use Rattle.puzzleboard.proofs.soft_decode.fit_at.Statement.{statement}
+use Rattle.puzzleboard.proofs.soft_decode.fit_at.Tie as tie
 
 -- the two cells are inside
 module _ (c : tie.Start) where
@@ -67,7 +67,7 @@ shared-slice-read-t25 : tie.Need-shared-slice-read-t25
 shared-slice-read-t25 c = omega (arith, v-cell (c .before .before .before .before), c .before .before .before .before .pre .room .1)
 
 returns : tie.Need-returns
-returns c = let s = c .before .before .before .before in figures-read (s .args .long) (s .args .wide) (s .args .edges) (now (s .args .counts)) (now (s .args .weights)) (s .pre) (s .args .row) (s .args .col)
+returns c = let s = c .before .before .before .before in fit-read (s .args .long) (s .args .wide) (s .args .edges) (now (s .args .counts)) (now (s .args .weights)) (s .pre) (s .args .row) (s .args .col)
 
-pub figures-at-spec : {M : Type 1} → statement M
-figures-at-spec = tie.close (tie.spec rem-a mul-a add-a mul-b mul-b-2 rem-b add-b add-b-2 mul-t12 shared-slice-read-t18 mul-t16 shared-slice-read-t20 add-t21 mul-t15 shared-slice-read-t23 mul-t13 shared-slice-read-t25 returns)
+pub fit-at-spec : {M : Type 1} → statement M
+fit-at-spec = tie.close (tie.spec rem-a mul-a add-a mul-b mul-b-2 rem-b add-b add-b-2 mul-t12 shared-slice-read-t18 mul-t16 shared-slice-read-t20 add-t21 mul-t15 shared-slice-read-t23 mul-t13 shared-slice-read-t25 returns)

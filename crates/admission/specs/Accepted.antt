@@ -24,7 +24,7 @@ use Rattle.refusals.specs.Numbers as why
 use Rattle.room.specs.Room.{flatTables, flatSums, tablesRoom, sumsRoom, flat-room}
 use Rattle.checks.specs.Checks.{far, farAt, badCoordinate, badByte, inRange, marginTop, badConfidence, badLikelihood, firstBadCoordinate, firstBadByte, firstBadConfidence, firstBadLikelihood, lengthsDiffer, sizeBad, fieldBad, confidenceBad, likelihoodsDiffer, likelihoodBad, transformsBad, tableBad, originBad}
 use Rattle.admission.specs.Calls.{HardCall, SoftCall}
-use Rattle.admission.specs.Refusals.{fieldsBad, tablesBad, roomShort, softRoomShort, hardAdmission, softAdmission, statsAdmission}
+use Rattle.admission.specs.Refusals.{fieldsBad, tablesBad, roomShort, softRoomShort, softLengthsDiffer, softLikelihoodBad, hardAdmission, softAdmission, statsAdmission}
 
 -- ---- lists without a bad place
 none-bad : (p : ℕ → Bool) (n k : ℕ) → ltb k n ≡ false → k ≡ Rattle.laws.specs.First.first p n → (i : ℕ) → i < n → p i ≡ false
@@ -129,9 +129,19 @@ pub record StatsAccepted (E : EdgeList) (t row col : ℕ) (B : Board) : Type 0 w
   pub board : BoardOk B
   pub origin : (row ≤ 500) × (col ≤ 500)
 
-pub stats-accepted : (E : EdgeList) (t row col : ℕ) (B : Board) → statsAdmission E t row col B ≡ Accepted → StatsAccepted E t row col B
-unfolding statsAdmission originBad
-stats-accepted E t row col B h =
+-- none of its tests holds
+pub record StatsTests (E : EdgeList) (t row col : ℕ) (B : Board) : Type 0 where
+  pub lengths : lengthsDiffer E ≡ false
+  pub sizes : sizeBad 0 (size E) ≡ false
+  pub fields : fieldsBad E ≡ false
+  pub confidences : confidenceBad (E .confidences) ≡ false
+  pub transform : ltb 7 t ≡ false
+  pub tables : tablesBad B ≡ false
+  pub origin : originBad row col ≡ false
+
+pub stats-tests-of : (E : EdgeList) (t row col : ℕ) (B : Board) → statsAdmission E t row col B ≡ Accepted → StatsTests E t row col B
+unfolding statsAdmission
+stats-tests-of E t row col B h =
     let a2 = rest _ why.lengthsDiffer _ h in
     let a3 = rest _ why.listSize _ (a2 .1) in
     let a4 = rest _ why.edgeOutOfRange _ (a3 .1) in
@@ -139,11 +149,17 @@ stats-accepted E t row col B h =
     let a7 = rest _ why.badTransform _ (a5 .1) in
     let a8 = rest _ why.badTable _ (a7 .1) in
     let a9 = rest _ why.badSetting _ (a8 .1) in
-    let o = or-false (ltb 500 row) (ltb 500 col) (a9 .0) in
+    record { lengths = a2 .0; sizes = a3 .0; fields = a4 .0; confidences = a5 .0; transform = a7 .0; tables = a8 .0; origin = a9 .0 }
+
+pub stats-accepted : (E : EdgeList) (t row col : ℕ) (B : Board) → statsAdmission E t row col B ≡ Accepted → StatsAccepted E t row col B
+unfolding originBad
+stats-accepted E t row col B h =
+    let k = stats-tests-of E t row col B h in
+    let o = or-false (ltb 500 row) (ltb 500 col) (k .origin) in
     record {
-      list = list-ok 0 E (a2 .0) (a3 .0) (a4 .0) (a5 .0);
-      transform = let l = ltb-false 7 t (a7 .0) in omega arith;
-      board = board-ok B (a8 .0);
+      list = list-ok 0 E (k .lengths) (k .sizes) (k .fields) (k .confidences);
+      transform = let l = ltb-false 7 t (k .transform) in omega arith;
+      board = board-ok B (k .tables);
       origin = (ltb-false _ _ (o .0), ltb-false _ _ (o .1));
     }
 
@@ -159,35 +175,20 @@ pub record HardAccepted (call : HardCall) (counts weights : ℕ) : Type 0 where
   pub periods : (length (call .board .h) ≡ 167) × (length (call .board .v) ≡ 167)
   pub within-limit : inRange oneF (call .error-limit) ≡ true
 
--- none of the tests that hard and soft calls share
-hard-tests : (call : HardCall) (m n : ℕ) → (ltb m flatTables || ltb n flatTables) ≡ false → (lengthsDiffer (call .logical) || lengthsDiffer (call .physical)) ≡ false
-    → (sizeBad 1 (size (call .logical)) || sizeBad 1 (size (call .physical))) ≡ false → (fieldsBad (call .logical) || fieldsBad (call .physical)) ≡ false
-    → (confidenceBad (call .logical .confidences) || confidenceBad (call .physical .confidences)) ≡ false → transformsBad (call .transforms) ≡ false → tablesBad (call .board) ≡ false
-    → not (inRange oneF (call .error-limit)) ≡ false → HardAccepted call m n
-hard-tests call m n a1 a2 a3 a4 a5 a7 a8 a9 =
-    let r = or-false (ltb m flatTables) (ltb n flatTables) a1 in
-    let d = or-false (lengthsDiffer (call .logical)) (lengthsDiffer (call .physical)) a2 in
-    let z = or-false (sizeBad 1 (size (call .logical))) (sizeBad 1 (size (call .physical))) a3 in
-    let f = or-false (fieldsBad (call .logical)) (fieldsBad (call .physical)) a4 in
-    let w = or-false (confidenceBad (call .logical .confidences)) (confidenceBad (call .physical .confidences)) a5 in
-    let t = or-false (tableBad (call .board .h)) (tableBad (call .board .v)) a8 in
-    let periods : (length (call .board .h) ≡ 167) × (length (call .board .v) ≡ 167) = (period-167 (call .board .h) (t .0), period-167 (call .board .v) (t .1)) in
-    let u = flat-room (call .board) periods .0 in
-    record {
-      room = (le-trans (le-of-eq u) (ltb-false _ _ (r .0)), le-trans (le-of-eq u) (ltb-false _ _ (r .1)));
-      logical = list-ok 1 (call .logical) (d .0) (z .0) (f .0) (w .0);
-      some-logical = size-ok 1 (size (call .logical)) (z .0);
-      physical = list-ok 1 (call .physical) (d .1) (z .1) (f .1) (w .1);
-      some-physical = size-ok 1 (size (call .physical)) (z .1);
-      transforms = transforms-ok (call .transforms) a7;
-      board = board-ok (call .board) a8;
-      periods = periods;
-      within-limit = not-false _ a9;
-    }
+-- none of its tests holds
+pub record HardTests (call : HardCall) (m n : ℕ) : Type 0 where
+  pub room : roomShort m n ≡ false
+  pub lengths : (lengthsDiffer (call .logical) || lengthsDiffer (call .physical)) ≡ false
+  pub sizes : (sizeBad 1 (size (call .logical)) || sizeBad 1 (size (call .physical))) ≡ false
+  pub fields : (fieldsBad (call .logical) || fieldsBad (call .physical)) ≡ false
+  pub confidences : (confidenceBad (call .logical .confidences) || confidenceBad (call .physical .confidences)) ≡ false
+  pub transforms : transformsBad (call .transforms) ≡ false
+  pub tables : tablesBad (call .board) ≡ false
+  pub limit : not (inRange oneF (call .error-limit)) ≡ false
 
-pub hard-accepted : (call : HardCall) (m n : ℕ) → hardAdmission call m n ≡ Accepted → HardAccepted call m n
-unfolding hardAdmission roomShort
-hard-accepted call m n h =
+pub hard-tests-of : (call : HardCall) (m n : ℕ) → hardAdmission call m n ≡ Accepted → HardTests call m n
+unfolding hardAdmission
+hard-tests-of call m n h =
     let a1 = rest _ why.roomTooShort _ h in
     let a2 = rest _ why.lengthsDiffer _ (a1 .1) in
     let a3 = rest _ why.listSize _ (a2 .1) in
@@ -196,7 +197,33 @@ hard-accepted call m n h =
     let a7 = rest _ why.badTransform _ (a5 .1) in
     let a8 = rest _ why.badTable _ (a7 .1) in
     let a9 = rest _ why.badSetting _ (a8 .1) in
-    hard-tests call m n (a1 .0) (a2 .0) (a3 .0) (a4 .0) (a5 .0) (a7 .0) (a8 .0) (a9 .0)
+    record { room = a1 .0; lengths = a2 .0; sizes = a3 .0; fields = a4 .0; confidences = a5 .0; transforms = a7 .0; tables = a8 .0; limit = a9 .0 }
+
+hard-passed : (call : HardCall) (m n : ℕ) → HardTests call m n → HardAccepted call m n
+unfolding roomShort
+hard-passed call m n k =
+    let r = or-false (ltb m flatTables) (ltb n flatTables) (k .room) in
+    let d = or-false (lengthsDiffer (call .logical)) (lengthsDiffer (call .physical)) (k .lengths) in
+    let z = or-false (sizeBad 1 (size (call .logical))) (sizeBad 1 (size (call .physical))) (k .sizes) in
+    let f = or-false (fieldsBad (call .logical)) (fieldsBad (call .physical)) (k .fields) in
+    let w = or-false (confidenceBad (call .logical .confidences)) (confidenceBad (call .physical .confidences)) (k .confidences) in
+    let t = or-false (tableBad (call .board .h)) (tableBad (call .board .v)) (k .tables) in
+    let periods : (length (call .board .h) ≡ 167) × (length (call .board .v) ≡ 167) = (period-167 (call .board .h) (t .0), period-167 (call .board .v) (t .1)) in
+    let u = flat-room (call .board) periods .0 in
+    record {
+      room = (le-trans (le-of-eq u) (ltb-false _ _ (r .0)), le-trans (le-of-eq u) (ltb-false _ _ (r .1)));
+      logical = list-ok 1 (call .logical) (d .0) (z .0) (f .0) (w .0);
+      some-logical = size-ok 1 (size (call .logical)) (z .0);
+      physical = list-ok 1 (call .physical) (d .1) (z .1) (f .1) (w .1);
+      some-physical = size-ok 1 (size (call .physical)) (z .1);
+      transforms = transforms-ok (call .transforms) (k .transforms);
+      board = board-ok (call .board) (k .tables);
+      periods = periods;
+      within-limit = not-false _ (k .limit);
+    }
+
+pub hard-accepted : (call : HardCall) (m n : ℕ) → hardAdmission call m n ≡ Accepted → HardAccepted call m n
+hard-accepted call m n h = hard-passed call m n (hard-tests-of call m n h)
 
 -- a soft call: its hard part, and besides each edge of the physical list has two acceptable likelihoods, and there is room for the sums
 pub record SoftAccepted (call : SoftCall) (counts weights sums : ℕ) : Type 0 where
@@ -207,12 +234,17 @@ pub record SoftAccepted (call : SoftCall) (counts weights sums : ℕ) : Type 0 w
   pub likely : (i : ℕ) → i < size (call .hard .physical) → (acceptable (getD (call .likelihoods .matches) i nan) ≡ true) × (acceptable (getD (call .likelihoods .mismatches) i nan) ≡ true)
   pub within-margin : inRange marginTop (call .soft-margin) ≡ true
 
-pub soft-accepted : (call : SoftCall) (m n k : ℕ) → softAdmission call m n k ≡ Accepted → SoftAccepted call m n k
-unfolding softAdmission softRoomShort roomShort likelihoodsDiffer likelihoodBad firstBadLikelihood
-soft-accepted call m n k h =
-    let ms = call .likelihoods .matches in
-    let us = call .likelihoods .mismatches in
-    let edges = size (call .hard .physical) in
+-- none of its tests holds
+pub record SoftTests (call : SoftCall) (m n k : ℕ) : Type 0 where
+  pub hard : HardTests (call .hard) m n
+  pub sums-room : ltb k flatSums ≡ false
+  pub lengths : softLengthsDiffer call ≡ false
+  pub likelihoods : softLikelihoodBad call ≡ false
+  pub margin : not (inRange marginTop (call .soft-margin)) ≡ false
+
+pub soft-tests-of : (call : SoftCall) (m n k : ℕ) → softAdmission call m n k ≡ Accepted → SoftTests call m n k
+unfolding softAdmission softRoomShort
+soft-tests-of call m n k h =
     let a1 = rest _ why.roomTooShort _ h in
     let a2 = rest _ why.lengthsDiffer _ (a1 .1) in
     let a3 = rest _ why.listSize _ (a2 .1) in
@@ -222,20 +254,35 @@ soft-accepted call m n k h =
     let a7 = rest _ why.badTransform _ (a6 .1) in
     let a8 = rest _ why.badTable _ (a7 .1) in
     let a9 = rest _ why.badSetting _ (a8 .1) in
-    let s = or-false (ltb m flatTables || ltb n flatTables) (ltb k flatSums) (a1 .0) in
-    let e = or-false (lengthsDiffer (call .hard .logical) || lengthsDiffer (call .hard .physical)) _ (a2 .0) in
-    let q = and-true (eqb edges (length ms)) (eqb edges (length us)) (not-false _ (e .1)) in
+    let s = or-false (roomShort m n) (ltb k flatSums) (a1 .0) in
+    let e = or-false (lengthsDiffer (call .hard .logical) || lengthsDiffer (call .hard .physical)) (softLengthsDiffer call) (a2 .0) in
     let g = or-false (not (inRange oneF (call .hard .error-limit))) (not (inRange marginTop (call .soft-margin))) (a9 .0) in
-    let hard = hard-tests (call .hard) m n (s .0) (e .0) (a3 .0) (a4 .0) (a5 .0) (a7 .0) (a8 .0) (g .0) in
+    record {
+      hard = record { room = s .0; lengths = e .0; sizes = a3 .0; fields = a4 .0; confidences = a5 .0; transforms = a7 .0; tables = a8 .0; limit = g .0 };
+      sums-room = s .1;
+      lengths = e .1;
+      likelihoods = a6 .0;
+      margin = g .1;
+    }
+
+pub soft-accepted : (call : SoftCall) (m n k : ℕ) → softAdmission call m n k ≡ Accepted → SoftAccepted call m n k
+unfolding likelihoodsDiffer likelihoodBad firstBadLikelihood
+soft-accepted call m n k h =
+    let ms = call .likelihoods .matches in
+    let us = call .likelihoods .mismatches in
+    let edges = size (call .hard .physical) in
+    let t = soft-tests-of call m n k h in
+    let hard = hard-passed (call .hard) m n (t .hard) in
+    let q = and-true (eqb edges (length ms)) (eqb edges (length us)) (not-false _ (t .lengths)) in
     let matches : length ms ≡ edges = sym (eqb-true _ _ (q .0)) in
     record {
       hard = hard;
-      room = le-trans (le-of-eq (flat-room (call .hard .board) (hard .periods) .1)) (ltb-false _ _ (s .1));
+      room = le-trans (le-of-eq (flat-room (call .hard .board) (hard .periods) .1)) (ltb-false _ _ (t .sums-room));
       matches = matches;
       mismatches = sym (eqb-true _ _ (q .1));
       likely = λ i l.
-          let x : i < length ms = omega arith in
-          let b = or-false (not (acceptable (getD ms i nan))) (not (acceptable (getD us i nan))) (none-bad (badLikelihood ms us) (length ms) _ (a6 .0) refl i x) in
+          let x : i < length ms = omega (arith, matches, l) in
+          let b = or-false (not (acceptable (getD ms i nan))) (not (acceptable (getD us i nan))) (none-bad (badLikelihood ms us) (length ms) _ (t .likelihoods) refl i x) in
           (not-false _ (b .0), not-false _ (b .1));
-      within-margin = not-false _ (g .1);
+      within-margin = not-false _ (t .margin);
     }

@@ -1,9 +1,9 @@
 // An answer as fifteen words: 0 or the refusal's number, transform, row, column, hits, edges, weighted score, rate, mean, best score, the runner-up's score (before
 // the gate: its hits), margin, and the runner-up's transform, row and column. A place that an answer leaves empty holds 0xffffffff.
-use crate::words::bits_of;
 use answer::Answer;
 use answer::Decoded;
 use answer::StatsAnswer;
+use console::print::bits_of;
 use hard::select::Selection;
 use scan::scan::Candidate;
 use scan::scan::RunnerUp;

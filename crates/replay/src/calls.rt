@@ -3,13 +3,13 @@ use crate::answers::words_of;
 use crate::answers::words_of_selection;
 use crate::answers::words_of_stats;
 use crate::columns::Sizes;
-use crate::part::front_f32;
-use crate::part::front_i32;
-use crate::part::front_u8;
-use crate::part::room_f32;
-use crate::part::room_i64;
-use crate::part::room_u32;
 use crate::selection::select;
+use console::part::front_f32;
+use console::part::front_i32;
+use console::part::front_u8;
+use console::part::room_f32;
+use console::part::room_i64;
+use console::part::room_u32;
 
 // How much room a call is lent.
 pub struct Room {

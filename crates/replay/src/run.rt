@@ -12,13 +12,13 @@ use crate::columns::read_answer;
 use crate::columns::read_f32;
 use crate::columns::read_list;
 use crate::columns::read_u8;
-use crate::print::print;
 use crate::tally::compare;
 use crate::tally::show;
 use crate::words::Cursor;
 use crate::words::float;
 use crate::words::next_word;
 use crate::words::octet;
+use console::print::print;
 
 // Where the file stands, and the lengths of the two tables that it gave last.
 pub struct Place {

@@ -1,8 +1,12 @@
 // What was compared, and what differs. A tally has sixteen places for each kind (place 16 · kind + refusal number, 0 for found), the first sixteen of them for sums:
 // 0 cases, 1 cases that differ, 2 cases in which the Rust does not tell 13 from 15.
-use crate::print::print;
-use crate::print::print_number;
-use crate::print::print_word;
+use console::form::put_line;
+use console::form::put_wholes;
+use console::page::blank;
+use console::page::put;
+use console::page::put_byte;
+use console::page::put_word;
+use console::page::say;
 
 // One more at a place.
 fn bump(tally: &mut [u32; 96], at: usize) {
@@ -12,47 +16,28 @@ fn bump(tally: &mut [u32; 96], at: usize) {
 }
 
 // The name of an answer's word.
-fn print_field(i: usize) {
-    match i {
-        0 => print(b"refusal"),
-        1 => print(b"transform"),
-        2 => print(b"row"),
-        3 => print(b"column"),
-        4 => print(b"hits"),
-        5 => print(b"edges"),
-        6 => print(b"weighted score"),
-        7 => print(b"rate"),
-        8 => print(b"mean"),
-        9 => print(b"best score"),
-        10 => print(b"runner-up's score"),
-        11 => print(b"margin"),
-        12 => print(b"runner-up's transform"),
-        13 => print(b"runner-up's row"),
-        _ => print(b"runner-up's column"),
-    }
-}
-
-// The name of a kind.
-fn print_kind(kind: usize) {
-    match kind {
-        1 => print(b"hard"),
-        2 => print(b"soft"),
-        3 => print(b"statistics"),
-        _ => print(b"selection"),
-    }
+fn put_field(page: &mut [u8; 32768], at: usize, i: usize) -> usize {
+    put_line(
+        page,
+        at,
+        b"refusal\ntransform\nrow\ncolumn\nhits\nedges\nweighted score\nrate\nmean\nbest score\nrunner-up's score\nmargin\n\
+        runner-up's transform\nrunner-up's row\nrunner-up's column",
+        (i % 15) as u32,
+    )
 }
 
 // A word that differs.
 fn print_difference(at: u32, i: usize, theirs: u32, ours: u32) {
-    print(b"entry ");
-    print_number(at);
-    print(b" differs in ");
-    print_field(i);
-    print(b": stored ");
-    print_word(theirs);
-    print(b", ours ");
-    print_word(ours);
-    print(b"\n");
+    let mut page = blank();
+    let entry = [at];
+    let n = put_wholes(&mut page, 0, b"entry % differs in ", &entry);
+    let n = put_field(&mut page, n, i);
+    let n = put(&mut page, n, b": stored ");
+    let n = put_word(&mut page, n, theirs);
+    let n = put(&mut page, n, b", ours ");
+    let n = put_word(&mut page, n, ours);
+    let n = put_byte(&mut page, n, b'\n');
+    say(&page, n);
 }
 
 // Whether no word differs; each that does is written.
@@ -107,40 +92,55 @@ pub(crate) fn compare(
     }
 }
 
-// How many calls of a kind were refused with each number.
-fn show_refused(tally: &[u32; 96], kind: usize) {
-    for number in 1..16 {
-        let at = kind % 5 * 16 + number;
-        if at < 96 {
-            if tally[at] != 0 {
-                print(b", ");
-                print_number(tally[at]);
-                print(b" refused with ");
-                print_number(number as u32);
-            }
-        }
-    }
+// The count at a place; 0 where there is none.
+fn count_at(tally: &[u32; 96], at: usize) -> u32 {
+    if at < 96 { tally[at] } else { 0 }
 }
 
-// One kind of call.
-fn show_kind(tally: &[u32; 96], kind: usize) {
-    print_kind(kind);
-    print(b": ");
-    print_number(tally[kind % 5 * 16]);
-    print(b" found");
-    show_refused(tally, kind);
-    print(b"\n");
+// How many calls were refused with a number, where there are any.
+fn put_refused(page: &mut [u8; 32768], at: usize, count: u32, number: u32) -> usize {
+    if count == 0 {
+        return at;
+    }
+    let wholes = [count, number];
+    put_wholes(page, at, b", % refused with %", &wholes)
+}
+
+// One kind of call: how many were found, and how many refused with each number.
+fn show_kind(tally: &[u32; 96], kind: u32) {
+    let mut page = blank();
+    let n = put_line(
+        &mut page,
+        0,
+        b"tables\nhard\nsoft\nstatistics\nselection",
+        kind,
+    );
+    let found = [count_at(tally, place_of(kind, 0))];
+    let mut n = put_wholes(&mut page, n, b": % found", &found);
+    for number in 1..16u32 {
+        n = put_refused(
+            &mut page,
+            n,
+            count_at(tally, place_of(kind, number)),
+            number,
+        );
+    }
+    n = put_byte(&mut page, n, b'\n');
+    say(&page, n);
 }
 
 // All kinds, and the sums.
 pub(crate) fn show(tally: &[u32; 96]) {
-    for kind in 1..5 {
+    for kind in 1..5u32 {
         show_kind(tally, kind);
     }
-    print_number(tally[2]);
-    print(b" cases are stored as 13 or 15\n");
-    print_number(tally[0]);
-    print(b" cases, ");
-    print_number(tally[1]);
-    print(b" differ\n");
+    let mut page = blank();
+    let wholes = [tally[2], tally[0], tally[1]];
+    let n = put_wholes(
+        &mut page,
+        0,
+        b"% cases are stored as 13 or 15\n% cases, % differ\n",
+        &wholes,
+    );
+    say(&page, n);
 }

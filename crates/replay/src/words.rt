@@ -98,8 +98,3 @@ pub(crate) fn float(x: u32) -> f32 {
 pub(crate) fn octet(x: u32) -> u8 {
     (x % 256) as u8
 }
-
-// A float's bits; every NaN gives 7fc00000.
-pub(crate) fn bits_of(x: f32) -> u32 {
-    if x == x { f32::to_bits(x) } else { 2143289344 }
-}

@@ -1,6 +1,5 @@
 // What the command was asked for.
-use crate::page::put;
-use crate::text::is_name;
+use viewtext::text::is_name;
 
 // The options, and for each file the argument that names it (0 for none). Wrong: it cannot be understood, as help beside anything else. Awaits: the next
 // argument names the picture.
@@ -12,13 +11,6 @@ pub(crate) struct Options {
     pub board: usize,
     pub view: usize,
     pub map: usize,
-}
-
-// The text of argument i.
-pub(crate) fn put_argument(page: &mut [u8; 32768], at: usize, i: usize) -> usize {
-    let mut word = io::buffer();
-    let n = os::arg(i, &mut word);
-    put(page, at, &word[..n])
 }
 
 // Whether a text is a picture's name: it ends in .svg.

@@ -1,6 +1,9 @@
 // The decoder called on what the files gave. One list serves for both where the view has only one; where the physical list has log likelihoods, decode is soft.
-use crate::view_file::View;
 use answer::Answer;
+use console::part::part_f32;
+use console::part::part_i32;
+use console::part::part_u8;
+use viewtext::view_file::View;
 
 // Which part of the columns a list takes up.
 struct Part {
@@ -10,8 +13,8 @@ struct Part {
 
 // The part of a list, or of the other where the view does not have it.
 fn part_of(view: View, physical: bool) -> Part {
-    let own = crate::view_file::list_of(view, physical);
-    let other = crate::view_file::list_of(view, !physical);
+    let own = viewtext::view_file::list_of(view, physical);
+    let other = viewtext::view_file::list_of(view, !physical);
     if own.given || !other.given {
         return Part {
             from: if physical { 8192 } else { 0 },
@@ -33,37 +36,6 @@ pub(crate) fn is_soft(view: View) -> bool {
     } else {
         logical.likely == 2
     }
-}
-
-// n elements of a column from a place on, or none where it has not so many.
-fn part_i32(xs: &[i32], from: usize, n: usize) -> &[i32] {
-    if from > xs.len() {
-        return &xs[..0];
-    }
-    if n > xs.len() - from {
-        return &xs[..0];
-    }
-    &xs[from..from + n]
-}
-
-fn part_u8(xs: &[u8], from: usize, n: usize) -> &[u8] {
-    if from > xs.len() {
-        return &xs[..0];
-    }
-    if n > xs.len() - from {
-        return &xs[..0];
-    }
-    &xs[from..from + n]
-}
-
-fn part_f32(xs: &[f32], from: usize, n: usize) -> &[f32] {
-    if from > xs.len() {
-        return &xs[..0];
-    }
-    if n > xs.len() - from {
-        return &xs[..0];
-    }
-    &xs[from..from + n]
 }
 
 // The transforms that are listed.

@@ -1,8 +1,8 @@
 // What the command says of itself.
-use crate::page::blank;
-use crate::page::put;
-use crate::page::say;
-use crate::page::write;
+use console::page::blank;
+use console::page::put;
+use console::page::say;
+use console::page::write;
 
 // How it is used, in one line.
 fn put_use(page: &mut [u8; 32768], at: usize) -> usize {
@@ -15,59 +15,35 @@ fn put_use(page: &mut [u8; 32768], at: usize) -> usize {
 
 // The files, with an example.
 fn put_files(page: &mut [u8; 32768], at: usize) -> usize {
-    let n = put(
-        page,
-        at,
-        b"\nBOARD has two lines of 167 digits from 0 to 7: the patterns of the horizontal edges, then of the\nvertical edges.\n",
-    );
-    let n = put(
-        page,
-        n,
-        b"\nVIEW has one edge a line: h or v, row, column, bit, confidence; for soft decode the log likelihoods\nof a match and of a mismatch follow. For example:\n\n",
-    );
-    let n = put(
-        page,
-        n,
-        b"    # corner of the bench, camera 2\n    transforms 0 1 2 3    # 1 to 8 numbers; 0 1 2 3 if left out\n    limit 0.2             # largest error rate; 0.3 if left out\n    margin 0.02           # soft margin; 0.02 if left out\n",
-    );
-    let n = put(
-        page,
-        n,
-        b"    logical\n    h 0 0 1 0.93\n    v 0 0 0 0.88\n    physical              # one list serves for both if only one is given\n    h 0 0 1 0.93 -0.05 -3.2\n    v 0 0 0 0.88 -0.10 -2.6\n",
-    );
     put(
         page,
-        n,
-        b"\nA file has at most 1048576 bytes (a board 65536), a list at most 8192 edges.\n",
+        at,
+        b"\n\
+        BOARD has two lines of 167 digits from 0 to 7: the patterns of the horizontal edges, then of the\n\
+        vertical edges.\n\
+        \n\
+        VIEW has one edge a line: h or v, row, column, bit, confidence; for soft decode the log likelihoods\n\
+        of a match and of a mismatch follow. For example:\n\
+        \n    # corner of the bench, camera 2\n    transforms 0 1 2 3    # 1 to 8 numbers; 0 1 2 3 if left out\n    limit 0.2             # largest error rate; 0.3 if left out\n    margin 0.02           # soft margin; 0.02 if left out\n    logical\n    h 0 0 1 0.93\n    v 0 0 0 0.88\n    physical              # one list serves for both if only one is given\n    h 0 0 1 0.93 -0.05 -3.2\n    v 0 0 0 0.88 -0.10 -2.6\n\
+        \n\
+        A file has at most 1048576 bytes (a board 65536), a list at most 8192 edges.\n",
     )
 }
 
 // What the answer says.
 fn put_meanings(page: &mut [u8; 32768], at: usize) -> usize {
-    let n = put(
-        page,
-        at,
-        b"\nThe answer is the square of the board (row and column from 0 to 500) on which row 0, column 0 of the\nview lies, and how the board appears in the view. Rows grow downwards, columns to the right.\n",
-    );
-    let n = put(
-        page,
-        n,
-        b"  0 as printed                          4 mirrored, left and right swapped\n  1 turned a quarter counter-clockwise  5 mirrored, rows and columns swapped\n",
-    );
-    let n = put(
-        page,
-        n,
-        b"  2 turned upside down                  6 mirrored, top and bottom swapped\n  3 turned a quarter clockwise          7 mirrored, rows and columns swapped, upside down\n",
-    );
-    let n = put(
-        page,
-        n,
-        b"A refusal has a number and no square.\n\n--plain    one line of key=value, for programs\n--map FILE.svg writes a picture of the board; a refusal has none, and one of that name from an\n           earlier run is removed; any other file of that name is left as it is\n",
-    );
     put(
         page,
-        n,
-        b"\nExit status: 0 found, 1 refused, 2 bad use or a file that cannot be read.\n",
+        at,
+        b"\n\
+        The answer is the square of the board (row and column from 0 to 500) on which row 0, column 0 of the\n\
+        view lies, and how the board appears in the view. Rows grow downwards, columns to the right.\n  0 as printed                          4 mirrored, left and right swapped\n  1 turned a quarter counter-clockwise  5 mirrored, rows and columns swapped\n  2 turned upside down                  6 mirrored, top and bottom swapped\n  3 turned a quarter clockwise          7 mirrored, rows and columns swapped, upside down\n\
+        A refusal has a number and no square.\n\
+        \n\
+        --plain    one line of key=value, for programs\n\
+        --map FILE.svg writes a picture of the board; a refusal has none, and one of that name from an\n           earlier run is removed; any other file of that name is left as it is\n\
+        \n\
+        Exit status: 0 found, 1 refused, 2 bad use or a file that cannot be read.\n",
     )
 }
 

@@ -1,22 +1,16 @@
 // The command: which square of a board a camera faces. A program has no exit status; the script `samburext` at the root makes one of the first word written.
-mod text; // words and lines
-mod decimal; // numbers as people write them
-mod fault; // what a file should have had
-mod edge; // one edge of a view
-mod view_file; // a view's lists and settings
-mod board_file; // a board's tables
-mod page; // text put together before it is written
-mod words; // numbers in words
-mod telling; // the answer for people and for programs
 mod decode; // the decoder called on what the files gave
 mod args; // what the command was asked for
-mod files; // the board and the view, read from their files
-mod map; // the picture
+mod map; // the picture's file
 mod help; // what the command says of itself
 
 use answer::Answer;
+use answertext::telling;
 use args::Options;
-use view_file::View;
+use console::page;
+use viewtext::files;
+use viewtext::view_file;
+use viewtext::view_file::View;
 
 // What is written where a file cannot be had: nothing but, for programs, a line that says so. The message has gone to standard error.
 fn give_up(o: Options) {
@@ -45,7 +39,7 @@ fn put_map(page: &mut [u8; 32768], at: usize, o: Options, found: bool) -> usize 
         );
     }
     let n = page::put(page, at, b"  map          ");
-    let n = args::put_argument(page, n, o.map);
+    let n = page::put_argument(page, n, o.map);
     page::put(page, n, b"\n")
 }
 

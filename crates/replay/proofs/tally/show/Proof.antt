@@ -1,14 +1,14 @@
--- `show`: the kind stays below 5.
-use Prim.Native.Nat.{_≤_, _-_}
+-- `show`: four kinds.
+use Prim.Native.Nat.{_-_, _≤_}
 use borrow.Author.Needs.{needs}
 use Rattle.replay.proofs.tally.show.Statement.{statement}
 use Rattle.replay.proofs.tally.show.Tie as tie
 
 abbrev Inv-loop : tie.InvT-loop
-Inv-loop tally kind₀ t3 t4 t5 kind = kind ≤ 5
+Inv-loop tally kind₀ t6 kind = kind ≤ 5
 
 abbrev μ-loop : tie.MeasureT-loop
-μ-loop tally kind₀ t3 t4 t5 kind = 5 - kind
+μ-loop tally kind₀ t6 kind = 5 - kind
 
 loop-holds : tie.Need-loop-holds Inv-loop μ-loop
 loop-holds c = search needs
@@ -25,41 +25,29 @@ loop-less c = search needs
 loop-again : tie.Need-loop-again Inv-loop μ-loop
 loop-again c = search needs
 
-element-copy-out-print-number : tie.Need-element-copy-out-print-number Inv-loop μ-loop
-element-copy-out-print-number c = search needs
+blank-requires : tie.Need-blank-requires Inv-loop μ-loop
+blank-requires c κs = search needs
 
-print-number-requires : tie.Need-print-number-requires Inv-loop μ-loop
-print-number-requires c κs = search needs
+element-copy-out-t12 : tie.Need-element-copy-out-t12 Inv-loop μ-loop
+element-copy-out-t12 c = search needs
 
-slice-aggregate-print : tie.Need-slice-aggregate-print Inv-loop μ-loop
-slice-aggregate-print c = search needs
+element-copy-out-t15 : tie.Need-element-copy-out-t15 Inv-loop μ-loop
+element-copy-out-t15 c = search needs
 
-print-requires : tie.Need-print-requires Inv-loop μ-loop
-print-requires c κs = search needs
+element-copy-out-t18 : tie.Need-element-copy-out-t18 Inv-loop μ-loop
+element-copy-out-t18 c = search needs
 
-element-copy-out-print-number-2 : tie.Need-element-copy-out-print-number-2 Inv-loop μ-loop
-element-copy-out-print-number-2 c = search needs
+slice-aggregate-put-wholes : tie.Need-slice-aggregate-put-wholes Inv-loop μ-loop
+slice-aggregate-put-wholes c = search needs
 
-print-number-requires-2 : tie.Need-print-number-requires-2 Inv-loop μ-loop
-print-number-requires-2 c κs = search needs
+slice-aggregate-put-wholes-2 : tie.Need-slice-aggregate-put-wholes-2 Inv-loop μ-loop
+slice-aggregate-put-wholes-2 c = search needs
 
-slice-aggregate-print-2 : tie.Need-slice-aggregate-print-2 Inv-loop μ-loop
-slice-aggregate-print-2 c = search needs
+put-wholes-requires : tie.Need-put-wholes-requires Inv-loop μ-loop
+put-wholes-requires c κs = search needs
 
-print-requires-2 : tie.Need-print-requires-2 Inv-loop μ-loop
-print-requires-2 c κs = search needs
-
-element-copy-out-print-number-3 : tie.Need-element-copy-out-print-number-3 Inv-loop μ-loop
-element-copy-out-print-number-3 c = search needs
-
-print-number-requires-3 : tie.Need-print-number-requires-3 Inv-loop μ-loop
-print-number-requires-3 c κs = search needs
-
-slice-aggregate-print-3 : tie.Need-slice-aggregate-print-3 Inv-loop μ-loop
-slice-aggregate-print-3 c = search needs
-
-print-requires-3 : tie.Need-print-requires-3 Inv-loop μ-loop
-print-requires-3 c κs = search needs
+say-requires : tie.Need-say-requires Inv-loop μ-loop
+say-requires c κs = search needs
 
 returns : tie.Need-returns Inv-loop μ-loop
 returns c = search needs
@@ -75,16 +63,12 @@ show-spec =
     add-kind
     loop-less
     loop-again
-    element-copy-out-print-number
-    print-number-requires
-    slice-aggregate-print
-    print-requires
-    element-copy-out-print-number-2
-    print-number-requires-2
-    slice-aggregate-print-2
-    print-requires-2
-    element-copy-out-print-number-3
-    print-number-requires-3
-    slice-aggregate-print-3
-    print-requires-3
+    blank-requires
+    element-copy-out-t12
+    element-copy-out-t15
+    element-copy-out-t18
+    slice-aggregate-put-wholes
+    slice-aggregate-put-wholes-2
+    put-wholes-requires
+    say-requires
     returns)

@@ -1,0 +1,4 @@
+// The answer in words and as a picture. It needs the answer's types, and no decoder.
+pub mod words; // numbers in words
+pub mod telling; // the answer for people and for programs
+pub mod picture; // the board with the square that the camera faces

@@ -1,0 +1,90 @@
+-- `show_kind`: fifteen numbers.
+use Prim.Native.Nat.{_-_, _≤_}
+use borrow.Author.Needs.{needs}
+use Rattle.replay.proofs.tally.show_kind.Statement.{statement}
+use Rattle.replay.proofs.tally.show_kind.Tie as tie
+
+abbrev Inv-loop : tie.InvT-loop
+Inv-loop tally kind page₀ n n₀ number₀ page n' number = number ≤ 16
+
+abbrev μ-loop : tie.MeasureT-loop
+μ-loop tally kind page₀ n n₀ number₀ page n' number = 16 - number
+
+blank-requires : tie.Need-blank-requires Inv-loop μ-loop
+blank-requires c κs = search needs
+
+slice-aggregate-put-line : tie.Need-slice-aggregate-put-line Inv-loop μ-loop
+slice-aggregate-put-line c = search needs
+
+put-line-requires : tie.Need-put-line-requires Inv-loop μ-loop
+put-line-requires c κs = search needs
+
+place-of-requires : tie.Need-place-of-requires Inv-loop μ-loop
+place-of-requires c κs = search needs
+
+count-at-requires : tie.Need-count-at-requires Inv-loop μ-loop
+count-at-requires c κs = search needs
+
+slice-aggregate-put-wholes : tie.Need-slice-aggregate-put-wholes Inv-loop μ-loop
+slice-aggregate-put-wholes c = search needs
+
+slice-aggregate-put-wholes-2 : tie.Need-slice-aggregate-put-wholes-2 Inv-loop μ-loop
+slice-aggregate-put-wholes-2 c = search needs
+
+put-wholes-requires : tie.Need-put-wholes-requires Inv-loop μ-loop
+put-wholes-requires c κs = search needs
+
+loop-holds : tie.Need-loop-holds Inv-loop μ-loop
+loop-holds c = search needs
+
+place-of-requires-2 : tie.Need-place-of-requires-2 Inv-loop μ-loop
+place-of-requires-2 c κs = search needs
+
+count-at-requires-2 : tie.Need-count-at-requires-2 Inv-loop μ-loop
+count-at-requires-2 c κs = search needs
+
+put-refused-requires : tie.Need-put-refused-requires Inv-loop μ-loop
+put-refused-requires c κs = search needs
+
+add-number : tie.Need-add-number Inv-loop μ-loop
+add-number c = search needs
+
+loop-less : tie.Need-loop-less Inv-loop μ-loop
+loop-less c = search needs
+
+loop-again : tie.Need-loop-again Inv-loop μ-loop
+loop-again c = search needs
+
+put-byte-requires : tie.Need-put-byte-requires Inv-loop μ-loop
+put-byte-requires c κs = search needs
+
+say-requires : tie.Need-say-requires Inv-loop μ-loop
+say-requires c κs = search needs
+
+returns : tie.Need-returns Inv-loop μ-loop
+returns c = search needs
+
+pub show-kind-spec : {M : Type 1} → statement M
+show-kind-spec =
+    tie.close
+    (tie.spec
+    Inv-loop
+    μ-loop
+    blank-requires
+    slice-aggregate-put-line
+    put-line-requires
+    place-of-requires
+    count-at-requires
+    slice-aggregate-put-wholes
+    slice-aggregate-put-wholes-2
+    put-wholes-requires
+    loop-holds
+    place-of-requires-2
+    count-at-requires-2
+    put-refused-requires
+    add-number
+    loop-less
+    loop-again
+    put-byte-requires
+    say-requires
+    returns)

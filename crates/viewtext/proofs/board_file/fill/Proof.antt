@@ -1,0 +1,54 @@
+-- `fill`: the place stays within the table.
+use Prim.Native.Nat.{_-_, _≤_}
+use borrow.Author.Needs.{needs}
+use Rattle.viewtext.proofs.board_file.fill.Statement.{statement}
+use Rattle.viewtext.proofs.board_file.fill.Tie as tie
+
+abbrev Inv-loop : tie.InvT-loop
+Inv-loop s from table₀ i₀ table i = i ≤ 167
+
+abbrev μ-loop : tie.MeasureT-loop
+μ-loop s from table₀ i₀ table i = 167 - i
+
+loop-holds : tie.Need-loop-holds Inv-loop μ-loop
+loop-holds c = search needs
+
+byte-after-requires : tie.Need-byte-after-requires Inv-loop μ-loop
+byte-after-requires c κs = search needs
+
+returns : tie.Need-returns Inv-loop μ-loop
+returns c = search needs
+
+returns-2 : tie.Need-returns-2 Inv-loop μ-loop
+returns-2 c = search needs
+
+element-write-table : tie.Need-element-write-table Inv-loop μ-loop
+element-write-table c = search needs
+
+add-i : tie.Need-add-i Inv-loop μ-loop
+add-i c = search needs
+
+loop-less : tie.Need-loop-less Inv-loop μ-loop
+loop-less c = search needs
+
+loop-again : tie.Need-loop-again Inv-loop μ-loop
+loop-again c = search needs
+
+returns-3 : tie.Need-returns-3 Inv-loop μ-loop
+returns-3 c = search needs
+
+pub fill-spec : {M : Type 1} → statement M
+fill-spec =
+    tie.close
+    (tie.spec
+    Inv-loop
+    μ-loop
+    loop-holds
+    byte-after-requires
+    returns
+    returns-2
+    element-write-table
+    add-i
+    loop-less
+    loop-again
+    returns-3)

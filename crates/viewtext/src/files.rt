@@ -1,0 +1,119 @@
+// The board and the view, read from their files. A file is read whole before any of it counts.
+ghost use mathlib.Core.Path.{_≡_};
+ghost use lib.ListN.{length};
+use crate::board_file::read_board;
+use crate::fault::report;
+use crate::fault::report_size;
+use crate::view_file::View;
+use crate::view_file::read_view;
+use crate::view_file::unread;
+
+// The file that argument i names, opened for reading, or a number below 0 after a message.
+fn open(i: usize) -> i32 {
+    let mut word = io::buffer();
+    let n = os::arg(i, &mut word);
+    let fd = os::open_read(&word[..n]);
+    if fd < 0 {
+        os::fail(&word[..n]);
+    }
+    fd
+}
+
+// Whether a file was read to its end; a message where it was not: it has more than `most` bytes, or it cannot be read.
+fn is_read(fd: i32, i: usize, most: u32) -> bool {
+    let mut word = io::buffer();
+    let n = os::arg(i, &mut word);
+    let mut one = [0u8; 1];
+    let left = libc::read(fd, &mut one);
+    if left < 0 {
+        os::fail(&word[..n]);
+    }
+    if left > 0 {
+        report_size(i, most);
+    }
+    libc::close(fd);
+    left == 0
+}
+
+// The tables of a board's text; false after a message where it is at fault.
+fn board_of(i: usize, s: &[u8], h: &mut [u8; 167], v: &mut [u8; 167]) -> bool {
+    let board = read_board(s, h, v);
+    if board.what != 0 {
+        report(i, s, board.what, board.place);
+        return false;
+    }
+    true
+}
+
+// The tables of the board that argument i names, a file of at most 65,536 bytes; false after a message where it cannot be had.
+pub fn load_board(i: usize, h: &mut [u8; 167], v: &mut [u8; 167]) -> bool {
+    let fd = open(i);
+    if fd < 0 {
+        return false;
+    }
+    let mut bytes = io::large_buffer();
+    let n = io::read_full(fd, &mut bytes);
+    if !is_read(fd, i, 65536) {
+        return false;
+    }
+    board_of(i, &bytes[..n], h, v)
+}
+
+// The view of a text; a fault is reported.
+fn view_of(
+    i: usize,
+    s: &[u8],
+    rows: &mut [i32; 16384],
+    cols: &mut [i32; 16384],
+    orientations: &mut [u8; 16384],
+    bits: &mut [u8; 16384],
+    confidences: &mut [f32; 16384],
+    hits: &mut [f32; 16384],
+    misses: &mut [f32; 16384],
+) -> View {
+    let view = read_view(s, rows, cols, orientations, bits, confidences, hits, misses);
+    if view.what != 0 {
+        report(i, s, view.what, view.place);
+    }
+    view
+}
+
+// Room for a view's file.
+fn view_room() -> [u8; 1048576]
+    ensures { λ r. ⌜ 1048576 ≡ length r ⌝ }
+{
+    [0; 1048576]
+}
+
+// The view that argument i names, a file of at most 1,048,576 bytes, with its edges in the columns; at fault after a message where it cannot be had.
+pub fn load_view(
+    i: usize,
+    rows: &mut [i32; 16384],
+    cols: &mut [i32; 16384],
+    orientations: &mut [u8; 16384],
+    bits: &mut [u8; 16384],
+    confidences: &mut [f32; 16384],
+    hits: &mut [f32; 16384],
+    misses: &mut [f32; 16384],
+) -> View {
+    let fd = open(i);
+    if fd < 0 {
+        return unread();
+    }
+    let mut bytes = view_room();
+    let n = io::read_full(fd, &mut bytes);
+    if !is_read(fd, i, 1048576) {
+        return unread();
+    }
+    view_of(
+        i,
+        &bytes[..n],
+        rows,
+        cols,
+        orientations,
+        bits,
+        confidences,
+        hits,
+        misses,
+    )
+}

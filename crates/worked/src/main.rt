@@ -1,0 +1,25 @@
+// Runs of the library: document 01's numbers and the numbers at their edges, each refusal, and windows of a board. Each section is headed by its name. What
+// it writes is held to the file `stdout`.
+mod print; // answers and signed numbers as text
+mod cut; // boards of our own, and windows cut from them
+mod room; // what a call left in the lent room
+mod likelihoods; // a likelihood as a whole number, and a sum back to a float
+mod refused; // refusals 1 to 9, alone and by pairs
+mod class_tables; // the class tables of one list for two transforms
+mod windows; // hard decode of windows and of lists that it must refuse
+mod soft_windows; // soft decode of noisy windows
+
+use console::print::print;
+
+fn main() {
+    print(b"== likelihoods ==\n");
+    likelihoods::show_all();
+    print(b"== refusals ==\n");
+    refused::show_all();
+    print(b"== class tables ==\n");
+    class_tables::show_all();
+    print(b"== windows ==\n");
+    windows::show_all();
+    print(b"== soft windows ==\n");
+    soft_windows::show_all();
+}

@@ -1,0 +1,80 @@
+// Answers and signed numbers written to standard output. A float is written by its bits, a NaN by its name.
+ghost use Prim.Native.Nat.{_≤_, _^_};
+ghost use lib.IntN.{natAbs};
+use answer::Answer;
+use answer::Decoded;
+use answer::StatsAnswer;
+use console::print::print;
+use console::print::print_form;
+use console::print::print_long;
+use console::print::print_number;
+use refusals::Admission;
+
+// n in decimal digits, with its sign.
+pub(crate) fn print_whole(n: i64)
+    requires { ⌜ natAbs n ≤ 2 ^ 53 ⌝ }
+{
+    if n < 0 {
+        print(b"-");
+        print_long((0 - n) as u64);
+    } else {
+        print_long(n as u64);
+    }
+}
+
+// What a found answer holds.
+fn print_found(d: Decoded) {
+    let square = d.square;
+    let runner = d.runner;
+    let wholes = [
+        square.transform,
+        square.row,
+        square.col,
+        d.hits,
+        d.edges,
+        runner.transform,
+        runner.row,
+        runner.col,
+    ];
+    let floats = [d.weighted, d.rate, d.mean, d.best, d.next, d.margin];
+    print_form(
+        b"found transform % row % column %, hits % of %, weighted ^, rate ^, mean ^, best ^, next ^, margin ^, \
+        runner-up transform % row % column %",
+        &wholes,
+        &floats,
+    );
+}
+
+// A refusal: its number.
+fn print_refused(number: u32) {
+    print(b"refused ");
+    print_number(number);
+}
+
+// All that hard or soft decode answers; a refusal is its number alone.
+pub(crate) fn print_answer(a: Answer) {
+    match a {
+        Answer::Found(d) => print_found(d),
+        Answer::Refused(r) => print_refused(r.number),
+    }
+}
+
+// What the checks say of a call: the number of its refusal, or 0 where it is accepted.
+pub(crate) fn print_admission(a: Admission) {
+    match a {
+        Admission::Accepted => print_number(0),
+        Admission::Refused(r) => print_number(r.number),
+    }
+}
+
+// What match statistics answer.
+pub(crate) fn print_stats(s: StatsAnswer) {
+    match s {
+        StatsAnswer::Counted(m) => {
+            let wholes = [m.edges, m.hits];
+            let floats = [m.rate, m.mean];
+            print_form(b"counted edges=% hits=% rate=^ mean=^", &wholes, &floats);
+        }
+        StatsAnswer::Refused(r) => print_refused(r.number),
+    }
+}

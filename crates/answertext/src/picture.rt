@@ -240,7 +240,7 @@ fn put_board(page: &mut [u8; 32768], at: usize) -> usize {
 // What each mark is, in words, below the board.
 fn put_legend(page: &mut [u8; 32768], at: usize, d: Decoded, x: Span, y: Span) -> usize {
     let square = d.square;
-    let runner = d.runner;
+    let runner = d.runner_up;
     let place = [square.row, square.col];
     let n = put_wholes(
         page,
@@ -250,7 +250,7 @@ fn put_legend(page: &mut [u8; 32768], at: usize, d: Decoded, x: Span, y: Span) -
     );
     let n = put_turn(page, n, square);
     let wholes = [y.size, x.size, d.hits, d.edges, runner.row, runner.col];
-    let floats = [d.rate];
+    let floats = [d.error_rate];
     let n = put_form(
         page,
         n,
@@ -264,14 +264,14 @@ fn put_legend(page: &mut [u8; 32768], at: usize, d: Decoded, x: Span, y: Span) -
     );
     let n = put_turn(page, n, runner);
     let none = [0u32; 1];
-    let hits = [d.next];
+    let hits = [d.runner_up_score];
     put_form(page, n, b", with ~ hits</text>\n</svg>\n", &none, &hits)
 }
 
 // The whole picture of a found answer.
 pub fn put_picture(page: &mut [u8; 32768], at: usize, d: Decoded, view: View) -> usize {
     let square = d.square;
-    let runner = d.runner;
+    let runner = d.runner_up;
     let x = span_of_columns(view, square);
     let y = span_of_rows(view, square);
     let n = put_board(page, at);

@@ -76,7 +76,7 @@ fn put_settings(page: &mut [u8; 32768], at: usize, view: View, soft: bool) -> us
 
 // How far ahead the square is: by hits, or by log likelihood for each edge.
 fn put_lead(page: &mut [u8; 32768], at: usize, d: Decoded, soft: bool) -> usize {
-    let runner = d.runner;
+    let runner = d.runner_up;
     let none = [0u32; 1];
     let lead = [d.margin];
     let n = put_form(page, at, b"  lead         ~", &none, &lead);
@@ -89,7 +89,7 @@ fn put_lead(page: &mut [u8; 32768], at: usize, d: Decoded, soft: bool) -> usize 
     let place = [runner.row, runner.col];
     let n = put_wholes(page, n, b"\n  runner-up    row %, column %, ", &place);
     let n = put_turn(page, n, runner);
-    let hits = [d.next];
+    let hits = [d.runner_up_score];
     put_form(page, n, b", with ~ hits\n", &none, &hits)
 }
 
@@ -107,7 +107,7 @@ fn put_found(page: &mut [u8; 32768], at: usize, d: Decoded, soft: bool) -> usize
     let n = put(page, n, b":\n               ");
     let n = put_directions(page, n, square.transform);
     let wholes = [d.hits, d.edges];
-    let floats = [d.rate, d.mean];
+    let floats = [d.error_rate, d.mean_confidence];
     let n = put_form(
         page,
         n,
@@ -140,7 +140,7 @@ pub fn put_answer(page: &mut [u8; 32768], at: usize, a: Answer, view: View, soft
 // A found answer in keys and values.
 fn put_plain_found(page: &mut [u8; 32768], at: usize, d: Decoded) -> usize {
     let square = d.square;
-    let runner = d.runner;
+    let runner = d.runner_up;
     let wholes = [
         square.row,
         square.col,
@@ -151,7 +151,14 @@ fn put_plain_found(page: &mut [u8; 32768], at: usize, d: Decoded) -> usize {
         runner.col,
         runner.transform,
     ];
-    let floats = [d.rate, d.mean, d.weighted, d.best, d.margin, d.next];
+    let floats = [
+        d.error_rate,
+        d.mean_confidence,
+        d.weighted_score,
+        d.best_score,
+        d.margin,
+        d.runner_up_score,
+    ];
     put_form(
         page,
         at,

@@ -27,15 +27,15 @@ fn found(d: Decoded) -> [u32; 15] {
         d.square.col,
         d.hits,
         d.edges,
-        bits_of(d.weighted),
-        bits_of(d.rate),
-        bits_of(d.mean),
-        bits_of(d.best),
-        bits_of(d.next),
+        bits_of(d.weighted_score),
+        bits_of(d.error_rate),
+        bits_of(d.mean_confidence),
+        bits_of(d.best_score),
+        bits_of(d.runner_up_score),
         bits_of(d.margin),
-        d.runner.transform,
-        d.runner.row,
-        d.runner.col,
+        d.runner_up.transform,
+        d.runner_up.row,
+        d.runner_up.col,
     ]
 }
 
@@ -54,8 +54,8 @@ pub(crate) fn words_of_stats(a: StatsAnswer) -> [u32; 15] {
             let mut words = refused(NOT_REFUSED);
             words[4] = m.hits;
             words[5] = m.edges;
-            words[7] = bits_of(m.rate);
-            words[8] = bits_of(m.mean);
+            words[7] = bits_of(m.error_rate);
+            words[8] = bits_of(m.mean_confidence);
             words
         }
         StatsAnswer::Refused(r) => refused(r.number),
@@ -86,8 +86,8 @@ fn mean(hits: u32, weight: f32) -> f32 {
 fn selected(transform: u8, w: Candidate, next: RunnerUp, edges: u32) -> [u32; 15] {
     let mut words = refused(NOT_REFUSED);
     words[1] = transform as u32;
-    words[2] = w.row;
-    words[3] = w.col;
+    words[2] = w.placing.row;
+    words[3] = w.placing.col;
     words[4] = w.hits;
     words[5] = edges;
     words[6] = bits_of(w.score);
@@ -114,7 +114,9 @@ fn listed(transforms: &[u8], place: usize) -> u8 {
 // Selection before the gate.
 pub(crate) fn words_of_selection(s: Selection, transforms: &[u8], edges: u32) -> [u32; 15] {
     match s {
-        Selection::Selected(w, next) => { selected(listed(transforms, w.place), w, next, edges) }
+        Selection::Selected(w, next) => {
+            selected(listed(transforms, w.placing.listed), w, next, edges)
+        }
         Selection::Refused(r) => refused(r.number),
     }
 }

@@ -112,6 +112,11 @@ pub(crate) fn soft_call<'a>(
     let mut weights = [7.0f32; 3010];
     let mut sums = [7i64; 5014];
     let answer = puzzleboard::soft_decode::decode_soft(
+        front_i32(lrows, l.rows),
+        front_i32(lcols, l.cols),
+        front_u8(lorientations, l.orientations),
+        front_u8(lbits, l.bits),
+        front_f32(lconfidences, l.confidences),
         front_i32(prows, p.rows),
         front_i32(pcols, p.cols),
         front_u8(porientations, p.orientations),
@@ -119,11 +124,6 @@ pub(crate) fn soft_call<'a>(
         front_f32(pconfidences, p.confidences),
         front_f32(matches, n.matches),
         front_f32(mismatches, n.mismatches),
-        front_i32(lrows, l.rows),
-        front_i32(lcols, l.cols),
-        front_u8(lorientations, l.orientations),
-        front_u8(lbits, l.bits),
-        front_f32(lconfidences, l.confidences),
         front_u8(transforms, n.transforms),
         front_u8(h, n.h),
         front_u8(v, n.v),

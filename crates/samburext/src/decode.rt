@@ -99,6 +99,11 @@ fn soft<'a>(
     let mut weights = [0.0f32; 3006];
     let mut sums = [0i64; 5010];
     puzzleboard::soft_decode::decode_soft(
+        part_i32(rows, l.from, l.edges),
+        part_i32(cols, l.from, l.edges),
+        part_u8(orientations, l.from, l.edges),
+        part_u8(bits, l.from, l.edges),
+        part_f32(confidences, l.from, l.edges),
         part_i32(rows, p.from, p.edges),
         part_i32(cols, p.from, p.edges),
         part_u8(orientations, p.from, p.edges),
@@ -106,11 +111,6 @@ fn soft<'a>(
         part_f32(confidences, p.from, p.edges),
         part_f32(hits, p.from, p.edges),
         part_f32(misses, p.from, p.edges),
-        part_i32(rows, l.from, l.edges),
-        part_i32(cols, l.from, l.edges),
-        part_u8(orientations, l.from, l.edges),
-        part_u8(bits, l.from, l.edges),
-        part_f32(confidences, l.from, l.edges),
         listed(&transforms, view.listed),
         h,
         v,

@@ -25,7 +25,7 @@ pub(crate) fn print_whole(n: i64)
 // What a found answer holds.
 fn print_found(d: Decoded) {
     let square = d.square;
-    let runner = d.runner;
+    let runner = d.runner_up;
     let wholes = [
         square.transform,
         square.row,
@@ -36,7 +36,14 @@ fn print_found(d: Decoded) {
         runner.row,
         runner.col,
     ];
-    let floats = [d.weighted, d.rate, d.mean, d.best, d.next, d.margin];
+    let floats = [
+        d.weighted_score,
+        d.error_rate,
+        d.mean_confidence,
+        d.best_score,
+        d.runner_up_score,
+        d.margin,
+    ];
     print_form(
         b"found transform % row % column %, hits % of %, weighted ^, rate ^, mean ^, best ^, next ^, margin ^, \
         runner-up transform % row % column %",
@@ -72,7 +79,7 @@ pub(crate) fn print_stats(s: StatsAnswer) {
     match s {
         StatsAnswer::Counted(m) => {
             let wholes = [m.edges, m.hits];
-            let floats = [m.rate, m.mean];
+            let floats = [m.error_rate, m.mean_confidence];
             print_form(b"counted edges=% hits=% rate=^ mean=^", &wholes, &floats);
         }
         StatsAnswer::Refused(r) => print_refused(r.number),

@@ -238,6 +238,11 @@ fn soft_of(a: u32, b: u32) -> Admission {
     let v = vertical_of(a, b);
     let n = lengths_of(a, b);
     admission::refusal::soft_admission(
+        front_i32(&rows, n.logical),
+        front_i32(&cols, n.cols),
+        front_u8(&orientations, n.logical),
+        front_u8(&bits, n.logical),
+        front_f32(&confidences, n.logical),
         front_i32(&prows, n.physical),
         front_i32(&cols, n.physical),
         front_u8(&porientations, n.physical),
@@ -245,11 +250,6 @@ fn soft_of(a: u32, b: u32) -> Admission {
         front_f32(&pconfidences, n.pconfidences),
         front_f32(&matches, n.matches),
         front_f32(&mismatches, n.physical),
-        front_i32(&rows, n.logical),
-        front_i32(&cols, n.cols),
-        front_u8(&orientations, n.logical),
-        front_u8(&bits, n.logical),
-        front_f32(&confidences, n.logical),
         front_u8(&transforms, n.transforms),
         front_u8(&h, n.h),
         front_u8(&v, n.v),

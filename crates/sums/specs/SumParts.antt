@@ -1,11 +1,11 @@
 -- What the parts of `build_sums` ask and give: groups of likelihoods, terms, runs, families and sides, as for counts, with two rows of groups.
 use mathlib.Core.Path.{_≡_}
-use mathlib.Core.Bool.{Bool, cond}
+use mathlib.Core.Bool.{Bool, true, cond}
 use mathlib.Core.List.{List, [], _∷_}
 use Prim.Native.Nat.{ℕ, zero, suc, _+_, _*_, _/_, _%_, _^_, _≤_, _<_}
 use lib.ListN.{getD, length}
 use lib.IntN.{ℤ, pos, natAbs, _+ℤ_}
-use Rattle.laws.specs.Fold.{fold, all}
+use Rattle.laws.specs.Fold.{one}
 use Rattle.laws.specs.Zone.{Zone}
 use Rattle.board.specs.Hits.{EdgeList, Board}
 use Rattle.board.specs.Sides.{tableOf, periodOf}
@@ -13,7 +13,7 @@ use Rattle.board.specs.Domain.{ListOk, BoardOk}
 use Rattle.groups.specs.Groups.{Periods}
 use Rattle.room.specs.Room.{rowLength}
 use Rattle.groups.specs.Fill.{rowSum}
-use Rattle.groups.specs.Terms.{agrees}
+use Rattle.groups.specs.Terms.{termSum}
 use Rattle.cells.specs.Cells.{longClass, shortClass, cellSum, family}
 use Rattle.cells.specs.Spread.{Spread}
 use Rattle.cells.specs.Credit.{runPlace, runTerm, RunPlaces, cellPattern, longStep, shortStep, FamilyPlaces}
@@ -45,9 +45,10 @@ pub record SumsFillReady (L M : ℕ) (E : EdgeList) (X : Likelihoods) (t base : 
 abbrev pub SumsFilled : ℕ → ℕ → EdgeList → Likelihoods → ℕ → ℕ → ℕ → List ℤ → List ℤ → Type 0
 SumsFilled L M E X t base n a a' = Zone (pos 0) (rowsSum L M E X t n) base (2 * rowLength L M) a a'
 
--- ---- terms: what the first n groups add, m j of a group that agrees and u j of one that does not
-unfoldable pub termZ : ℕ → (ℕ → ℤ) → (ℕ → ℤ) → ℕ → ℕ → ℤ
-termZ n m u p s = fold _+ℤ_ (pos 0) n all (λ j. cond (agrees p s j) (m j) (u j))
+-- ---- terms: what the first n groups add, m j of a group that agrees and u j of one that does not. Misses add too. No group is left out as empty, since adding 0 to a
+-- whole number changes nothing (`term-all`): each counts as one that has edges
+abbrev pub termZ : ℕ → (ℕ → ℤ) → (ℕ → ℤ) → ℕ → ℕ → ℤ
+termZ n m u = termSum _+ℤ_ (pos 0) true n one (λ b j. cond b (m j) (u j))
 
 -- the row of a pattern, and the table
 abbrev pub rowZ : (ℕ → ℤ) → (ℕ → ℤ) → ℕ → List ℤ

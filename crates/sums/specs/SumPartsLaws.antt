@@ -22,7 +22,7 @@ use Rattle.board.specs.HitsLaws.{side-some}
 use Rattle.likelihood.specs.SumLaws.{cell-size}
 use Rattle.room.specs.Room.{rowLength}
 use Rattle.groups.specs.Fill.{placeAt, rowSum}
-use Rattle.groups.specs.Terms.{agrees}
+use Rattle.groups.specs.Terms.{agrees, termSum}
 use Rattle.cells.specs.Cells.{longClass, shortClass, family}
 use Rattle.tables.specs.CellsLaws.{cell-none, cell-more, zone-family}
 use Rattle.cells.specs.Spread.{spread-none}
@@ -202,7 +202,7 @@ pub no-sum-more : (n : ℕ) (m u : ℕ → ℤ) → NoSum n m u → m n ≡ pos 
 no-sum-more n m u h a b j l = ⊎-elim (λ e. (ap m e ∙ a, ap u e ∙ b)) (λ k. h j k) (split j n (rw add-one at l))
 
 no-termZ : (m u : ℕ → ℤ) → NoSum 6 m u → (p s : ℕ) → termZ 6 m u p s ≡ pos 0
-unfolding termZ fold
+unfolding termSum fold
 no-termZ m u none p s = fold-ext _+ℤ_ (pos 0) 6 all all (λ j. cond (agrees p s j) (m j) (u j)) (λ j. pos 0) (λ j h. refl) (λ j h. either (agrees p s j) (m j) (u j) (none j h .0) (none j h .1))
   where
     either : (b : Bool) (x y : ℤ) → x ≡ pos 0 → y ≡ pos 0 → cond b x y ≡ pos 0

@@ -1,6 +1,6 @@
 -- Building a side, family by family: each family is ready to be credited, and credited it is one more in the cells.
 use mathlib.Core.Path.{_≡_, refl, sym, ap, ap₂, _∙_}
-use mathlib.Core.Bool.{Bool}
+use mathlib.Core.Bool.{Bool, false}
 use mathlib.Core.List.{List}
 use Prim.Native.Nat.{ℕ, _+_, _*_, _≤_, _<_}
 use native.Mathlib.Nat.{add-assoc}
@@ -41,10 +41,10 @@ module _ (B : Board) (s : Bool) (long short cells groups : ℕ) (c : List ℕ) (
     groupsW j l = same-groups nan _ cells (3 * periodOf B s) groups w w' (R .apart) (b .weights) f j
 
     gain-count : (k : ℕ) → gainC B s f (groups + f * 6) c' k ≡ familyC (placesN groups c) f (cellPattern B s f k) (shortClass B s k)
-    gain-count k = same-term 6 _ _ (cellPattern B s f k) (shortClass B s k) groupsC _+_ 0 _ _ groupsC
+    gain-count k = same-term 6 _ _ (cellPattern B s f k) (shortClass B s k) groupsC _+_ 0 false _ _ (λ b. groupsC)
 
     gain-weight : (k : ℕ) → gainW B s f (groups + f * 6) c' w' k ≡ familyW (placesN groups c) (placesF groups w) f (cellPattern B s f k) (shortClass B s k)
-    gain-weight k = same-term 6 _ _ (cellPattern B s f k) (shortClass B s k) groupsC (add binary32) zeroF _ _ groupsW
+    gain-weight k = same-term 6 _ _ (cellPattern B s f k) (shortClass B s k) groupsC (add binary32) zeroF false _ _ (λ b. groupsW)
 
     -- the count with the family in
     next : (k : ℕ) → k < 3 * periodOf B s

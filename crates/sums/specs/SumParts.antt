@@ -1,11 +1,12 @@
 -- What the parts of `build_sums` ask and give: groups of likelihoods, terms, runs, families and sides, as for counts, with two rows of groups.
 use mathlib.Core.Path.{_≡_}
-use mathlib.Core.Bool.{Bool, true, cond}
+use mathlib.Core.Bool.{Bool, true, false, not, _&&_, _||_, cond}
 use mathlib.Core.List.{List, [], _∷_}
 use Prim.Native.Nat.{ℕ, zero, suc, _+_, _*_, _/_, _%_, _^_, _≤_, _<_}
 use lib.ListN.{getD, length}
 use lib.IntN.{ℤ, pos, natAbs, _+ℤ_}
 use Rattle.laws.specs.Fold.{one}
+use Rattle.laws.specs.Whole.{eqZ}
 use Rattle.laws.specs.Zone.{Zone}
 use Rattle.board.specs.Hits.{EdgeList, Board}
 use Rattle.board.specs.Sides.{tableOf, periodOf}
@@ -65,9 +66,10 @@ pub record Twelve (from also : ℕ) (a : List ℤ) : Type 0 where
   pub mismatch : also + 6 ≤ length a
   pub small : (j : ℕ) → j < 6 → (natAbs (placesZ from a j) ≤ 2 ^ 53) × (natAbs (placesZ also a j) ≤ 2 ^ 53)
 
--- the first n match sums and the first n mismatch sums are all 0
-abbrev pub NoSum : ℕ → (ℕ → ℤ) → (ℕ → ℤ) → Type 0
-NoSum n m u = (j : ℕ) → j < n → (m j ≡ pos 0) × (u j ≡ pos 0)
+-- one of the first n match sums or of the first n mismatch sums is not 0
+unfoldable pub someSum : ℕ → (ℕ → ℤ) → (ℕ → ℤ) → Bool
+someSum zero m u = false
+someSum (suc n) m u = someSum n m u || not (eqZ (m n) (pos 0) && eqZ (u n) (pos 0))
 
 -- ---- a run of classes
 pub record RunReadyZ (terms : List (List ℤ)) (part : List ℕ) (n at long short : ℕ) (a : List ℤ) : Type 0 where

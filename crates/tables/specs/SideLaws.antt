@@ -72,12 +72,12 @@ module _ (B : Board) (s : Bool) (long short cells groups : ℕ) (c : List ℕ) (
           );
     }
 
-    pub side-more : (c'' : List ℕ) (w'' : List Float) → FamilyCredited B s f cells groups c' c'' w' w'' → SideCells B s cells groups (f + 1) c c'' w w''
-    side-more c'' w'' p = record {
+    pub side-more : (n : ℕ) → n ≡ f + 1 → (c'' : List ℕ) (w'' : List Float) → FamilyCredited B s f cells groups c' c'' w' w'' → SideCells B s cells groups n c c'' w w''
+    side-more n e c'' w'' p = rw e (record {
       counts =
           zone-family _+_ 0 (familyC (placesN groups c)) (tableOf B s) 0 (longClass B s) (shortClass B s) cells (3 * periodOf B s) f c c' c'' (b .counts)
           (zone-ext 0 _ _ cells (3 * periodOf B s) c' c'' (λ k l. ap (λ x. placesN cells c' k + x) (gain-count k)) (p .counts));
       weights =
           zone-family (add binary32) zeroF (familyW (placesN groups c) (placesF groups w)) (tableOf B s) nan (longClass B s) (shortClass B s) cells (3 * periodOf B s) f w w' w'' (b .weights)
           (zone-ext nan _ _ cells (3 * periodOf B s) w' w'' (λ k l. ap (add binary32 (placesF cells w' k)) (gain-weight k)) (p .weights));
-    }
+    })

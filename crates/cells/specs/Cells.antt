@@ -40,29 +40,30 @@ cellSum op z term ps n lc sc = fold op z n all (λ f. term f (patternAt ps lc f)
 abbrev pub family : {A : Type 0} → (ℕ → A) → ℕ → ℕ → A
 family g f j = g (f * 6 + j)
 
--- what family f adds, where group k has g k edges and holds x k
-abbrev pub familyOf : {A : Type 0} → (A → A → A) → A → (ℕ → ℕ) → (ℕ → A) → ℕ → ℕ → ℕ → A
-familyOf op z g x f = termSum op z 6 (family g f) (family x f)
+-- what family f adds, where group k has g k edges and holds x true k for a hit and x false k for a miss
+abbrev pub familyOf : {A : Type 0} → (A → A → A) → A → Bool → (ℕ → ℕ) → (Bool → ℕ → A) → ℕ → ℕ → ℕ → A
+familyOf op z misses g x f = termSum op z misses 6 (family g f) (λ b. family (x b) f)
 
 -- to the counts, and to the weights
 abbrev pub familyC : (ℕ → ℕ) → ℕ → ℕ → ℕ → ℕ
-familyC g = familyOf _+_ 0 g g
+familyC g = familyOf _+_ 0 false g (λ b. g)
 
 abbrev pub familyW : (ℕ → ℕ) → (ℕ → Float) → ℕ → ℕ → ℕ → Float
-familyW = familyOf (add binary32) zeroF
+familyW g w = familyOf (add binary32) zeroF false g (λ b. w)
 
 -- ---- what a cell holds
 -- its count: the hits of its side's edges at the origin that is its class
 unfoldable pub cellCount : Board → EdgeList → ℕ → Bool → ℕ → ℕ
 cellCount B E t s k = sideHits B E t s (k / width B s) (k % width B s)
 
--- what edges hold, by groups, terms and families, at the class (lc, sc) of the side s, where edge i holds x i: the three sentences together, for any addition
-abbrev pub classSum : {A : Type 0} → (A → A → A) → A → (ℕ → A) → Board → EdgeList → ℕ → Bool → ℕ → ℕ → A
-classSum op z x B E t s lc sc = cellSum op z (familyOf op z (groupCount B E t s) (groupSum op z x B E t s)) (tableOf B s) (periodOf B s) lc sc
+-- what edges hold, by groups, terms and families, at the class (lc, sc) of the side s, where edge i holds x true i for a hit and x false i for a miss, and misses add
+-- or do not: the three sentences together, for any addition
+abbrev pub classSum : {A : Type 0} → (A → A → A) → A → Bool → (Bool → ℕ → A) → Board → EdgeList → ℕ → Bool → ℕ → ℕ → A
+classSum op z misses x B E t s lc sc = cellSum op z (familyOf op z misses (groupCount B E t s) (λ b. groupSum op z (x b) B E t s)) (tableOf B s) (periodOf B s) lc sc
 
 -- its weight, in the stated order of rounding
 unfoldable pub cellWeight : Board → EdgeList → ℕ → Bool → ℕ → Float
-cellWeight B E t s k = classSum (add binary32) zeroF (confidenceAt E) B E t s (longClass B s k) (shortClass B s k)
+cellWeight B E t s k = classSum (add binary32) zeroF false (λ b. confidenceAt E) B E t s (longClass B s k) (shortClass B s k)
 
 -- ---- the tables of transform t: the counts of the side s, and its weights, cell by cell
 unfoldable pub countsOf : Board → EdgeList → ℕ → Bool → List ℕ

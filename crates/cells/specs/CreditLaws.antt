@@ -278,10 +278,10 @@ module _ (terms : List (List FamilyTerm)) (part : List ℕ) (n at long short : �
 pub family-empty : (B : Board) (s : Bool) (f long short cells groups : ℕ) (c : List ℕ) (w : List Float) → FamilyReady B s f long short cells groups c w
     → fold _+_ 0 6 all (placesN (groups + f * 6) c) ≡ 0 → FamilyCredited B s f cells groups c c w w
 family-empty B s f long short cells groups c w R none = record {
-  counts = zone-none 0 _ cells (3 * periodOf B s) c (λ k h. sym (ap (λ x. placesN cells c k + x) (no-term (placesN (groups + f * 6) c) none (cellPattern B s f k) (shortClass B s k) _+_ 0 (placesN (groups + f * 6) c)) ∙ add-zero (placesN cells c k)));
+  counts = zone-none 0 _ cells (3 * periodOf B s) c (λ k h. sym (ap (λ x. placesN cells c k + x) (no-term (placesN (groups + f * 6) c) none (cellPattern B s f k) (shortClass B s k) _+_ 0 false (λ b. placesN (groups + f * 6) c)) ∙ add-zero (placesN cells c k)));
   weights =
       zone-none nan _ cells (3 * periodOf B s) w
-      (λ k h. sym (ap (add binary32 (placesF cells w k)) (no-term (placesN (groups + f * 6) c) none (cellPattern B s f k) (shortClass B s k) (add binary32) zeroF (placesF (groups + f * 6) w)) ∙ add-plus-zero (placesF cells w k) (R .plain k h)));
+      (λ k h. sym (ap (add binary32 (placesF cells w k)) (no-term (placesN (groups + f * 6) c) none (cellPattern B s f k) (shortClass B s k) (add binary32) zeroF false (λ b. placesF (groups + f * 6) w)) ∙ add-plus-zero (placesF cells w k) (R .plain k h)));
 }
 
 -- ---- a family, where its terms stand in a table

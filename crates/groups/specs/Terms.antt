@@ -1,7 +1,7 @@
 -- Document 01, 'Class tables': terms. "Per family of six groups, in the order short·2+bit, non-empty groups are added into an 8 by 3 table of terms, one
 -- row a pattern, from 0, at each short class s where the pattern's bit (s + short) mod 3 is the group's bit."
 use mathlib.Core.Path.{_≡_}
-use mathlib.Core.Bool.{Bool, not, _&&_}
+use mathlib.Core.Bool.{Bool, false, not, _&&_, _||_}
 use mathlib.Core.List.{List, [], _∷_}
 use Prim.Native.Nat.{ℕ, _+_, _/_, _%_, _≤_, _<_}
 use lib.Dec.{eqb}
@@ -16,20 +16,21 @@ use Rattle.groups.specs.declared.terms.FamilyTerm.{FamilyTerm}
 abbrev pub agrees : ℕ → ℕ → ℕ → Bool
 agrees p s j = eqb (bitAt p ((s + j / 2) % 3)) (j % 2)
 
--- it agrees and is not empty, where c j is how many edges group j has
-abbrev pub adds : (ℕ → ℕ) → ℕ → ℕ → ℕ → Bool
-adds c p s j = not (eqb (c j) 0) && agrees p s j
+-- group j is added: it is not empty, where c j is how many edges it has, and it agrees, or misses add too
+abbrev pub adds : Bool → (ℕ → ℕ) → ℕ → ℕ → ℕ → Bool
+adds misses c p s j = not (eqb (c j) 0) && (misses || agrees p s j)
 
--- what the first n groups add, "in the order short·2+bit", where group j has c j edges and holds x j, for any addition with its zero
-unfoldable pub termSum : {A : Type 0} → (A → A → A) → A → ℕ → (ℕ → ℕ) → (ℕ → A) → ℕ → ℕ → A
-termSum op z n c x p s = fold op z n (adds c p s) x
+-- what the first n groups add, "in the order short·2+bit", for any addition with its zero. Group j has c j edges. It adds x true j where it agrees, and x false j
+-- where it does not, if misses add at all: to counts and weights they add nothing, to likelihood sums their own likelihood
+unfoldable pub termSum : {A : Type 0} → (A → A → A) → A → Bool → ℕ → (ℕ → ℕ) → (Bool → ℕ → A) → ℕ → ℕ → A
+termSum op z misses n c x p s = fold op z n (adds misses c p s) (λ j. x (agrees p s j) j)
 
--- to the count, and to the weight
+-- to the count, and to the weight: only where it agrees
 abbrev pub termC : ℕ → (ℕ → ℕ) → ℕ → ℕ → ℕ
-termC n c = termSum _+_ 0 n c c
+termC n c = termSum _+_ 0 false n c (λ b. c)
 
 abbrev pub termW : ℕ → (ℕ → ℕ) → (ℕ → Float) → ℕ → ℕ → Float
-termW = termSum (add binary32) zeroF
+termW n c w = termSum (add binary32) zeroF false n c (λ b. w)
 
 -- all six
 unfoldable pub term : (ℕ → ℕ) → (ℕ → Float) → ℕ → ℕ → FamilyTerm

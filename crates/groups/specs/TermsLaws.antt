@@ -1,6 +1,6 @@
 -- Laws of terms: one group more, the term of a class in a table of terms, and terms of groups that hold the same.
 use mathlib.Core.Path.{_≡_, refl, sym, ap, _∙_}
-use mathlib.Core.Bool.{true, false, not, _&&_}
+use mathlib.Core.Bool.{Bool, true, false, not, _&&_, _||_}
 use mathlib.Core.List.{List, [], _∷_}
 use Prim.Native.Nat.{ℕ, zero, suc, _+_, _/_, _%_, _≤_, _<_}
 use native.Mathlib.Nat.{add-zero}
@@ -25,13 +25,13 @@ module _ (c : ℕ → ℕ) (w : ℕ → Float) (p s j : ℕ) where
   abbrev pub Passed : Type 0
   Passed = (termC (j + 1) c p s ≡ termC j c p s) × (termW (j + 1) c w p s ≡ termW j c w p s)
 
-  taken : adds c p s j ≡ true → Taken
+  taken : adds false c p s j ≡ true → Taken
   unfolding termSum
-  taken h = (fold-hit _+_ 0 (adds c p s) c j h, fold-hit (add binary32) zeroF (adds c p s) w j h)
+  taken h = (fold-hit _+_ 0 (adds false c p s) c j h, fold-hit (add binary32) zeroF (adds false c p s) w j h)
 
-  passed : adds c p s j ≡ false → Passed
+  passed : adds false c p s j ≡ false → Passed
   unfolding termSum
-  passed h = (fold-miss _+_ 0 (adds c p s) c j h, fold-miss (add binary32) zeroF (adds c p s) w j h)
+  passed h = (fold-miss _+_ 0 (adds false c p s) c j h, fold-miss (add binary32) zeroF (adds false c p s) w j h)
 
   pub term-empty : c j ≡ 0 → Passed
   term-empty h = passed (ap (λ x. not (eqb x 0) && agrees p s j) h)
@@ -46,7 +46,7 @@ module _ (c : ℕ → ℕ) (w : ℕ → Float) (p s j : ℕ) where
 pub few-so-far : (c : ℕ → ℕ) (p s j : ℕ) → j < 6 → fold _+_ 0 6 all c ≤ 8192 → termC j c p s + c j ≤ 8192
 unfolding termSum
 few-so-far c p s j h k =
-    let a : fold _+_ 0 j (adds c p s) c ≤ fold _+_ 0 j all c = sum-some (adds c p s) c j in
+    let a : fold _+_ 0 j (adds false c p s) c ≤ fold _+_ 0 j all c = sum-some (adds false c p s) c j in
     let b : fold _+_ 0 (j + 1) all c ≤ fold _+_ 0 6 all c = sum-mono all c (j + 1) 6 (omega arith) in
     let d : fold _+_ 0 (j + 1) all c ≡ fold _+_ 0 j all c + c j = fold-hit _+_ 0 all c j refl in
     omega arith
@@ -67,12 +67,13 @@ terms-at c w t p s T h k = ap (λ r. getD r s noTerm) (T .rows p h) ∙ three-at
 
 -- ---- groups that hold the same have the same terms
 module _ (n : ℕ) (c c' : ℕ → ℕ) (p s : ℕ) (e : (j : ℕ) → j < n → c j ≡ c' j) where
-  same-adds : (j : ℕ) → j < n → adds c p s j ≡ adds c' p s j
-  same-adds j h = ap (λ x. not (eqb x 0) && agrees p s j) (e j h)
+  same-adds : (misses : Bool) (j : ℕ) → j < n → adds misses c p s j ≡ adds misses c' p s j
+  same-adds misses j h = ap (λ x. not (eqb x 0) && (misses || agrees p s j)) (e j h)
 
-  pub same-term : {A : Type 0} (op : A → A → A) (z : A) (x x' : ℕ → A) → ((j : ℕ) → j < n → x j ≡ x' j) → termSum op z n c x p s ≡ termSum op z n c' x' p s
+  pub same-term : {A : Type 0} (op : A → A → A) (z : A) (misses : Bool) (x x' : Bool → ℕ → A) → ((b : Bool) (j : ℕ) → j < n → x b j ≡ x' b j)
+      → termSum op z misses n c x p s ≡ termSum op z misses n c' x' p s
   unfolding termSum
-  same-term op z x x' f = fold-ext op z n (adds c p s) (adds c' p s) x x' same-adds f
+  same-term op z misses x x' f = fold-ext op z n (adds misses c p s) (adds misses c' p s) (λ j. x (agrees p s j) j) (λ j. x' (agrees p s j) j) (same-adds misses) (λ j h. f (agrees p s j) j h)
 
 -- ---- six groups together
 pub six-sum : (l : List ℕ) (from : ℕ)
@@ -91,9 +92,9 @@ module _ (c : ℕ → ℕ) (none : fold _+_ 0 6 all c ≡ 0) (p s : ℕ) where
       let d : fold _+_ 0 (j + 1) all c ≡ fold _+_ 0 j all c + c j = fold-hit _+_ 0 all c j refl in
       omega arith
 
-  left-out : (j : ℕ) → j < 6 → adds c p s j ≡ false
-  left-out j h = ap (λ x. not (eqb x 0) && agrees p s j) (no-edge j h)
+  left-out : (misses : Bool) (j : ℕ) → j < 6 → adds misses c p s j ≡ false
+  left-out misses j h = ap (λ x. not (eqb x 0) && (misses || agrees p s j)) (no-edge j h)
 
-  pub no-term : {A : Type 0} (op : A → A → A) (z : A) (x : ℕ → A) → termSum op z 6 c x p s ≡ z
+  pub no-term : {A : Type 0} (op : A → A → A) (z : A) (misses : Bool) (x : Bool → ℕ → A) → termSum op z misses 6 c x p s ≡ z
   unfolding termSum fold
-  no-term op z x = fold-ext op z 6 (adds c p s) (λ j. false) x x left-out (λ j h. refl)
+  no-term op z misses x = fold-ext op z 6 (adds misses c p s) (λ j. false) (λ j. x (agrees p s j) j) (λ j. x (agrees p s j) j) (left-out misses) (λ j h. refl)

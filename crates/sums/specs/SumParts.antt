@@ -1,11 +1,12 @@
 -- What the parts of `build_sums` ask and give: groups of likelihoods, terms, runs, families and sides, as for counts, with two rows of groups.
 use mathlib.Core.Path.{_≡_}
-use mathlib.Core.Bool.{Bool, cond}
+use mathlib.Core.Bool.{Bool, true, false, not, _&&_, _||_, cond}
 use mathlib.Core.List.{List, [], _∷_}
 use Prim.Native.Nat.{ℕ, zero, suc, _+_, _*_, _/_, _%_, _^_, _≤_, _<_}
 use lib.ListN.{getD, length}
 use lib.IntN.{ℤ, pos, natAbs, _+ℤ_}
-use Rattle.laws.specs.Fold.{fold, all}
+use Rattle.laws.specs.Fold.{one}
+use Rattle.laws.specs.Whole.{eqZ}
 use Rattle.laws.specs.Zone.{Zone}
 use Rattle.board.specs.Hits.{EdgeList, Board}
 use Rattle.board.specs.Sides.{tableOf, periodOf}
@@ -13,7 +14,7 @@ use Rattle.board.specs.Domain.{ListOk, BoardOk}
 use Rattle.groups.specs.Groups.{Periods}
 use Rattle.room.specs.Room.{rowLength}
 use Rattle.groups.specs.Fill.{rowSum}
-use Rattle.groups.specs.Terms.{agrees}
+use Rattle.groups.specs.Terms.{termSum}
 use Rattle.cells.specs.Cells.{longClass, shortClass, cellSum, family}
 use Rattle.cells.specs.Spread.{Spread}
 use Rattle.cells.specs.Credit.{runPlace, runTerm, RunPlaces, cellPattern, longStep, shortStep, FamilyPlaces}
@@ -45,9 +46,10 @@ pub record SumsFillReady (L M : ℕ) (E : EdgeList) (X : Likelihoods) (t base : 
 abbrev pub SumsFilled : ℕ → ℕ → EdgeList → Likelihoods → ℕ → ℕ → ℕ → List ℤ → List ℤ → Type 0
 SumsFilled L M E X t base n a a' = Zone (pos 0) (rowsSum L M E X t n) base (2 * rowLength L M) a a'
 
--- ---- terms: what the first n groups add, m j of a group that agrees and u j of one that does not
-unfoldable pub termZ : ℕ → (ℕ → ℤ) → (ℕ → ℤ) → ℕ → ℕ → ℤ
-termZ n m u p s = fold _+ℤ_ (pos 0) n all (λ j. cond (agrees p s j) (m j) (u j))
+-- ---- terms: what the first n groups add, m j of a group that agrees and u j of one that does not. Misses add too. No group is left out as empty, since adding 0 to a
+-- whole number changes nothing (`term-all`): each counts as one that has edges
+abbrev pub termZ : ℕ → (ℕ → ℤ) → (ℕ → ℤ) → ℕ → ℕ → ℤ
+termZ n m u = termSum _+ℤ_ (pos 0) true n one (λ b j. cond b (m j) (u j))
 
 -- the row of a pattern, and the table
 abbrev pub rowZ : (ℕ → ℤ) → (ℕ → ℤ) → ℕ → List ℤ
@@ -64,9 +66,10 @@ pub record Twelve (from also : ℕ) (a : List ℤ) : Type 0 where
   pub mismatch : also + 6 ≤ length a
   pub small : (j : ℕ) → j < 6 → (natAbs (placesZ from a j) ≤ 2 ^ 53) × (natAbs (placesZ also a j) ≤ 2 ^ 53)
 
--- the first n match sums and the first n mismatch sums are all 0
-abbrev pub NoSum : ℕ → (ℕ → ℤ) → (ℕ → ℤ) → Type 0
-NoSum n m u = (j : ℕ) → j < n → (m j ≡ pos 0) × (u j ≡ pos 0)
+-- one of the first n match sums or of the first n mismatch sums is not 0
+unfoldable pub someSum : ℕ → (ℕ → ℤ) → (ℕ → ℤ) → Bool
+someSum zero m u = false
+someSum (suc n) m u = someSum n m u || not (eqZ (m n) (pos 0) && eqZ (u n) (pos 0))
 
 -- ---- a run of classes
 pub record RunReadyZ (terms : List (List ℤ)) (part : List ℕ) (n at long short : ℕ) (a : List ℤ) : Type 0 where

@@ -22,9 +22,13 @@ matchAt X i = quantised (getD (X .matches) i nan)
 abbrev pub mismatchAt : Likelihoods → ℕ → ℤ
 mismatchAt X i = quantised (getD (X .mismatches) i nan)
 
--- what edge i adds under the transform t at the origin (r, c): "a hit adds the match likelihood, a miss the other"
+-- "a hit adds the match likelihood, a miss the other"
+abbrev pub likelihoodAt : Likelihoods → Bool → ℕ → ℤ
+likelihoodAt X b i = cond b (matchAt X i) (mismatchAt X i)
+
+-- what edge i adds under the transform t at the origin (r, c)
 abbrev pub gain : Board → EdgeList → Likelihoods → ℕ → ℕ → ℕ → ℕ → ℤ
-gain B E X t r c i = cond (hit B E t r c i) (matchAt X i) (mismatchAt X i)
+gain B E X t r c i = likelihoodAt X (hit B E t r c i) i
 
 -- the likelihood sum of a placing, edge by edge
 unfoldable pub score : Board → EdgeList → Likelihoods → ℕ → ℕ → ℕ → ℤ

@@ -4,25 +4,24 @@ use mathlib.Core.Bool.{Bool, true, false, _&&_, cond}
 use mathlib.Core.List.{List, []}
 use Prim.Native.Nat.{ℕ, zero, suc, _+_, _*_, _/_, _%_, _^_, _≤_, _<_}
 use native.Mathlib.Omega.{arith}
-use lib.Dec.{ltb}
 use lib.IntN.{ℤ, pos, natAbs, _+ℤ_, +ℤ-idr, +ℤ-assoc, +ℤ-comm}
 use lib.ListN.{getD}
 use borrow.Author.Tests.{eq-eqb, ne-eqb}
 use Rattle.laws.specs.Tests.{and-comm}
-use Rattle.laws.specs.Fold.{fold, all, count, fold-hit}
+use Rattle.laws.specs.Fold.{fold, all, one, count, fold-hit}
 use Rattle.laws.specs.Counting.{count-le}
-use Rattle.laws.specs.DoubleCounting.{fold-ext, fold-where, fold-split, edge-by-edge-both}
+use Rattle.laws.specs.DoubleCounting.{fold-ext, fold-where, fold-split}
 use Rattle.board.specs.Hits.{EdgeList, Board, size, seen, look, horizontal, bitAt}
 use Rattle.board.specs.Sides.{onSide, tableOf, periodOf}
 use Rattle.board.specs.HitsLaws.{hit-class}
 use Rattle.likelihood.specs.LikelihoodLaws.{quantised-size}
 use Rattle.likelihood.specs.SumLaws.{sum-size, cell-size}
-use Rattle.groups.specs.Groups.{groupAt, member}
-use Rattle.groups.specs.Terms.{agrees}
-use Rattle.groups.specs.TermsLaws.{three-at}
-use Rattle.cells.specs.Cells.{longClass, shortClass, patternAt, cellSum, family}
-use Rattle.tables.specs.CellsLaws.{cell-same, in-table, hit-group}
-use Rattle.sums.specs.Sums.{Likelihoods, matchAt, mismatchAt, gain, score, sideScore, cellScore, LikelihoodsOk}
+use Rattle.groups.specs.Groups.{groupAt, member, groupSum, groupCount}
+use Rattle.groups.specs.Terms.{agrees, termSum}
+use Rattle.groups.specs.TermsLaws.{three-at, same-term}
+use Rattle.cells.specs.Cells.{longClass, shortClass, patternAt, cellSum, family, familyOf}
+use Rattle.tables.specs.CellsLaws.{cell-same, term-all, group-none, families-by-edges, class-by-edges}
+use Rattle.sums.specs.Sums.{Likelihoods, matchAt, mismatchAt, likelihoodAt, gain, score, sideScore, cellScore, LikelihoodsOk}
 use Rattle.sums.specs.SumParts.{placesZ, valueAt, termZ, TermsZ, familyZ}
 use Rattle.sums.specs.SumsRoom.{groupScore}
 
@@ -31,7 +30,7 @@ use Rattle.sums.specs.SumsRoom.{groupScore}
 module _ (a : List ℤ) (from also p s j : ℕ) where
   pub term-more : termZ (j + 1) (placesZ from a) (placesZ also a) p s
       ≡ termZ j (placesZ from a) (placesZ also a) p s +ℤ cond (agrees p s j) (placesZ from a j) (placesZ also a j)
-  unfolding termZ
+  unfolding termSum
   term-more = fold-hit _+ℤ_ (pos 0) all _ j refl
 
   pub read-match : (b start : ℕ) → b ≡ bitAt p ((s + j / 2) % 3) → b ≡ j % 2 → start ≡ from → getD a (start + j) (pos 0) ≡ cond (agrees p s j) (placesZ from a j) (placesZ also a j)
@@ -42,7 +41,7 @@ module _ (a : List ℤ) (from also p s j : ℕ) where
 
 -- the size of a term of n groups
 pub term-small : (m u : ℕ → ℤ) (n p s : ℕ) → ((j : ℕ) → j < n → (natAbs (m j) ≤ 2 ^ 53) × (natAbs (u j) ≤ 2 ^ 53)) → n ≤ 6 → natAbs (termZ n m u p s) ≤ 6 * 2 ^ 53
-unfolding termZ
+unfolding termSum
 term-small m u n p s h l =
     let a = sum-size (2 ^ 53) n all (λ j. cond (agrees p s j) (m j) (u j)) (λ j k e. either (agrees p s j) j k) in
     let b : count n all ≤ n = count-le all n in
@@ -57,8 +56,7 @@ terms-atZ m u t p s T h k = ap (λ r. getD r s (pos 0)) (T .rows p h) ∙ three-
 
 -- groups that hold the same have the same terms
 pub same-termZ : (n : ℕ) (m m' u u' : ℕ → ℤ) (p s : ℕ) → ((j : ℕ) → j < n → m j ≡ m' j) → ((j : ℕ) → j < n → u j ≡ u' j) → termZ n m u p s ≡ termZ n m' u' p s
-unfolding termZ
-same-termZ n m m' u u' p s e f = fold-ext _+ℤ_ (pos 0) n all all _ _ (λ j h. refl) (λ j h. ap₂ (λ x y. cond (agrees p s j) x y) (e j h) (f j h))
+same-termZ n m m' u u' p s e f = same-term n one one p s (λ j h. refl) _+ℤ_ (pos 0) true _ _ (λ b j h. ap₂ (λ x y. cond b x y) (e j h) (f j h))
 
 pub same-cellZ : (m m' u u' : ℕ → ℤ) (n : ℕ) → ((k : ℕ) → k < n * 6 → m k ≡ m' k) → ((k : ℕ) → k < n * 6 → u k ≡ u' k) → (ps : List ℕ) (lc s : ℕ)
     → cellSum _+ℤ_ (pos 0) (familyZ m u) ps n lc s ≡ cellSum _+ℤ_ (pos 0) (familyZ m' u') ps n lc s
@@ -81,18 +79,25 @@ module _ (E : EdgeList) (X : Likelihoods) (ok : LikelihoodsOk E X) where
 
 -- ---- the sums are those of the edges
 module _ (B : Board) (E : EdgeList) (X : Likelihoods) (t : ℕ) where
-  -- what the first n families add to the class (lc, sc)
-  pub families-sum : (s : Bool) (n lc sc : ℕ)
+  -- row by row or by hit and miss, a group's sums are the same
+  held : (s : Bool) (k : ℕ) (b : Bool) → cond b (groupScore B E X t 0 s k) (groupScore B E X t 1 s k) ≡ groupSum _+ℤ_ (pos 0) (likelihoodAt X b) B E t s k
+  held s k true = refl
+  held s k false = refl
+
+  -- a cell of likelihoods is the one construction of groups, terms and cells (`classSum`), where misses add too: empty groups may be left out, as there
+  pub score-class-sum : (s : Bool) (n lc sc : ℕ)
       → cellSum _+ℤ_ (pos 0) (familyZ (groupScore B E X t 0 s) (groupScore B E X t 1 s)) (tableOf B s) n lc sc
-      ≡ fold _+ℤ_ (pos 0) (size E) (λ i. onSide E t s i && ltb (groupAt B E t s i) (n * 6)) (λ i. cond (agrees (patternAt (tableOf B s) lc (groupAt B E t s i / 6)) sc (groupAt B E t s i % 6)) (matchAt X i) (mismatchAt X i))
-  unfolding cellSum termZ
-  families-sum s n lc sc =
-      edge-by-edge-both _+ℤ_ (pos 0) +ℤ-idr +ℤ-assoc +ℤ-comm 6 n (size E) (onSide E t s) (groupAt B E t s) (λ f j. agrees (patternAt (tableOf B s) lc f) sc j) (matchAt X) (mismatchAt X)
+      ≡ cellSum _+ℤ_ (pos 0) (familyOf _+ℤ_ (pos 0) true (groupCount B E t s) (λ b. groupSum _+ℤ_ (pos 0) (likelihoodAt X b) B E t s)) (tableOf B s) n lc sc
+  score-class-sum s n lc sc =
+      cell-same _+ℤ_ (pos 0) (familyZ (groupScore B E X t 0 s) (groupScore B E X t 1 s)) (tableOf B s) (familyOf _+ℤ_ (pos 0) true (groupCount B E t s) (λ b. groupSum _+ℤ_ (pos 0) (likelihoodAt X b) B E t s)) n lc sc
+      (λ f h p.
+      same-term 6 one one p sc (λ j l. refl) _+ℤ_ (pos 0) true _ _ (λ b j l. held s (f * 6 + j) b)
+      ∙ sym (term-all _+ℤ_ (pos 0) +ℤ-idr true 6 (family (groupCount B E t s) f) (λ b. family (groupSum _+ℤ_ (pos 0) (likelihoodAt X b) B E t s) f) p sc (λ b j e. group-none _+ℤ_ (pos 0) +ℤ-idr B E t s (likelihoodAt X b) (f * 6 + j) e)))
 
   pub families-small : size E ≤ 8192 → LikelihoodsOk E X → (s : Bool) (n lc sc : ℕ)
       → natAbs (cellSum _+ℤ_ (pos 0) (familyZ (groupScore B E X t 0 s) (groupScore B E X t 1 s)) (tableOf B s) n lc sc) ≤ 2 ^ 53
   families-small few ok s n lc sc =
-      rw (families-sum s n lc sc)
+      rw (score-class-sum s n lc sc, families-by-edges B E t _+ℤ_ (pos 0) +ℤ-idr +ℤ-assoc +ℤ-comm true (likelihoodAt X) s n lc sc)
       (cell-size (size E) _ _ few (λ i h e. gain-small E X ok (agrees (patternAt (tableOf B s) lc (groupAt B E t s i / 6)) sc (groupAt B E t s i % 6)) i h))
 
   module _ (some : (s : Bool) → 0 < periodOf B s) (bits : (i : ℕ) → i < size E → seen E i < 2) where
@@ -101,9 +106,9 @@ module _ (B : Board) (E : EdgeList) (X : Likelihoods) (t : ℕ) where
         → cellSum _+ℤ_ (pos 0) (familyZ (groupScore B E X t 0 s) (groupScore B E X t 1 s)) (tableOf B s) (periodOf B s) (cond s r c) (cond s c r) ≡ sideScore B E X t s r c
     unfolding sideScore
     score-side s r c =
-        families-sum s (periodOf B s) (cond s r c) (cond s c r)
-        ∙ fold-ext _+ℤ_ (pos 0) (size E) _ _ _ _ (λ i l. ap (λ b. onSide E t s i && b) (in-table B E t some bits s i l) ∙ and-comm (onSide E t s i) true) (λ i l. refl)
-        ∙ fold-where _+ℤ_ (pos 0) (size E) (onSide E t s) _ _ (λ i l e. ap (λ b. cond b (matchAt X i) (mismatchAt X i)) (hit-group B E t some bits s r c i l e))
+        score-class-sum s (periodOf B s) (cond s r c) (cond s c r)
+        ∙ class-by-edges B E t some bits _+ℤ_ (pos 0) +ℤ-idr +ℤ-assoc +ℤ-comm true (likelihoodAt X) s r c
+        ∙ fold-ext _+ℤ_ (pos 0) (size E) _ _ _ _ (λ i l. and-comm (onSide E t s i) true) (λ i l. refl)
 
     -- the same by cell
     pub cell-score : (s : Bool) (k : ℕ)

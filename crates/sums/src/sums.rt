@@ -1,14 +1,13 @@
 // The likelihood sums of one transform, in lent room: as the counts, with two rows of groups, match then mismatch, and no skipping of empty groups,
 // since adding 0 to a whole number changes nothing.
 ghost use mathlib.Core.Path.{_≡_};
-ghost use mathlib.Core.Bool.{false};
 ghost use Prim.Native.Nat.{_<_, _^_};
 ghost use lib.Dec.{eqb};
 ghost use lib.ListN.{length, getD, set};
 ghost use lib.IntN.{pos, natAbs, _+ℤ_};
 ghost use Rattle.board.specs.Hits.{edges, tables};
 ghost use Rattle.sums.specs.Sums.{likelihoods};
-ghost use Rattle.sums.specs.SumParts.{placesZ, termZ, rowZ, Twelve, NoSum, TermsZ, SumsFillReady, SumsFilled, RunReadyZ, RunCreditedZ, FamilyReadyZ, FamilyCreditedZ, SideReadyZ, SideBuiltZ};
+ghost use Rattle.sums.specs.SumParts.{placesZ, termZ, rowZ, Twelve, someSum, TermsZ, SumsFillReady, SumsFilled, RunReadyZ, RunCreditedZ, FamilyReadyZ, FamilyCreditedZ, SideReadyZ, SideBuiltZ};
 ghost use Rattle.sums.specs.SumsRoom.{SumsReady, SumsBuilt};
 
 // Adds x to place k.
@@ -156,7 +155,7 @@ fn credit_sum_held<'a>(
 // Whether one of the twelve sums of a family is not 0.
 fn some_sum(sums: &[i64], from: usize, also: usize) -> bool
     requires { ⌜ Twelve from also (now sums) ⌝ }
-    ensures { λ r. ⌜ (r ≡ false → NoSum 6 (placesZ from (now (sums .entry))) (placesZ also (now (sums .entry)))) ⌝ }
+    ensures { λ r. ⌜ r ≡ someSum 6 (placesZ from (now (sums .entry))) (placesZ also (now (sums .entry))) ⌝ }
 {
     for j in 0..6 {
         if sums[from + j] != 0 {

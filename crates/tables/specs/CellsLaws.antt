@@ -1,6 +1,6 @@
 -- Laws of cells: one family more, what all families hold, and the cell's count and weight against the edges.
 use mathlib.Core.Path.{_≡_, refl, sym, ap, ap₂, _∙_}
-use mathlib.Core.Bool.{Bool, true, false, not, _&&_, cond}
+use mathlib.Core.Bool.{Bool, true, false, not, _&&_, _||_, cond}
 use mathlib.Core.List.{List}
 use Prim.Native.Nat.{ℕ, zero, suc, _+_, _*_, _/_, _%_, _^_, _≤_, _<_}
 use native.Mathlib.Nat.{le-trans, le-of-eq, add-zero, add-assoc, add-comm, div-add-mod'}
@@ -10,10 +10,10 @@ use lib.IntN.{ℤ, pos, _+ℤ_}
 use lib.ListN.{getD, length}
 use lib.Ieee.{Float, binary32, add, fits}
 use borrow.Author.Tests.{lt-ltb}
-use Rattle.laws.specs.Tests.{and-ext}
+use Rattle.laws.specs.Tests.{and-true, and-comm, and-ext}
 use Rattle.laws.specs.Fold.{fold, put, all, one, count, fold-zero, fold-hit, sum-some, sum-mono, sum-le}
 use Rattle.laws.specs.Counting.{count-le}
-use Rattle.laws.specs.DoubleCounting.{fold-ext, flatten, regroup, edge-by-edge}
+use Rattle.laws.specs.DoubleCounting.{fold-ext, fold-where, flatten, regroup, edge-by-edge, edge-by-edge-both}
 use Rattle.laws.specs.Remainder.{emod}
 use Rattle.laws.specs.RemainderLaws.{emod-lt, emod-add}
 use Rattle.laws.specs.Weights.{zeroF, Upto, Weight}
@@ -59,11 +59,11 @@ module _ {A : Type 0} (op : A → A → A) (z : A) (term : ℕ → ℕ → ℕ �
 same-family : {A : Type 0} (g g' : ℕ → A) (n : ℕ) → ((k : ℕ) → k < n * 6 → g k ≡ g' k) → (f : ℕ) → f < n → (j : ℕ) → j < 6 → family g f j ≡ family g' f j
 same-family g g' n e f h j l = e (f * 6 + j) (omega arith)
 
-pub same-cell : {A : Type 0} (op : A → A → A) (z : A) (g g' : ℕ → ℕ) (x x' : ℕ → A) (n : ℕ) → ((k : ℕ) → k < n * 6 → g k ≡ g' k) → ((k : ℕ) → k < n * 6 → x k ≡ x' k)
-    → (ps : List ℕ) (lc s : ℕ) → cellSum op z (familyOf op z g x) ps n lc s ≡ cellSum op z (familyOf op z g' x') ps n lc s
-same-cell op z g g' x x' n e d ps lc s =
-    cell-same op z (familyOf op z g x) ps (familyOf op z g' x') n lc s
-    (λ f h p. same-term 6 (family g f) (family g' f) p s (same-family g g' n e f h) op z (family x f) (family x' f) (same-family x x' n d f h))
+pub same-cell : {A : Type 0} (op : A → A → A) (z : A) (misses : Bool) (g g' : ℕ → ℕ) (x x' : Bool → ℕ → A) (n : ℕ) → ((k : ℕ) → k < n * 6 → g k ≡ g' k) → ((b : Bool) (k : ℕ) → k < n * 6 → x b k ≡ x' b k)
+    → (ps : List ℕ) (lc s : ℕ) → cellSum op z (familyOf op z misses g x) ps n lc s ≡ cellSum op z (familyOf op z misses g' x') ps n lc s
+same-cell op z misses g g' x x' n e d ps lc s =
+    cell-same op z (familyOf op z misses g x) ps (familyOf op z misses g' x') n lc s
+    (λ f h p. same-term 6 (family g f) (family g' f) p s (same-family g g' n e f h) op z misses (λ b. family (x b) f) (λ b. family (x' b) f) (λ b. same-family (x b) (x' b) n (d b) f h))
 
 -- ---- a cell has no more than all groups together
 pub total-mono : (g : ℕ → ℕ) (f n : ℕ) → f ≤ n → total g f ≤ total g n
@@ -78,7 +78,7 @@ pub cell-total : (g : ℕ → ℕ) (ps : List ℕ) (n lc s : ℕ) → cellSum _+
 unfolding cellSum termSum
 cell-total g ps n lc s =
     le-trans
-    (sum-le n (λ f. fold _+_ 0 6 (adds (family g f) (patternAt ps lc f) s) (family g f)) (λ f. fold _+_ 0 6 all (family g f)) (λ f. sum-some (adds (family g f) (patternAt ps lc f) s) (family g f) 6))
+    (sum-le n (λ f. fold _+_ 0 6 (adds false (family g f) (patternAt ps lc f) s) (family g f)) (λ f. fold _+_ 0 6 all (family g f)) (λ f. sum-some (adds false (family g f) (patternAt ps lc f) s) (family g f) 6))
     (le-of-eq (by-family g n))
 
 -- nor has a family
@@ -93,8 +93,8 @@ module _ (g : ℕ → ℕ) (w : ℕ → Float) (n : ℕ) (small : (k : ℕ) → 
   term-upto : (f : ℕ) → f < n → (p s : ℕ) → Upto (familyW g w f p s) (familyC g f p s)
   unfolding termSum
   term-upto f h p s =
-      let a : fold _+_ 0 6 (adds (family g f) p s) (family g f) ≤ fold _+_ 0 6 all (family g f) = sum-some (adds (family g f) p s) (family g f) 6 in
-      sum-upto (adds (family g f) p s) (family w f) (family g f) 6 (λ j l. small (f * 6 + j) (omega arith)) (omega (arith, family-total g f n h))
+      let a : fold _+_ 0 6 (adds false (family g f) p s) (family g f) ≤ fold _+_ 0 6 all (family g f) = sum-some (adds false (family g f) p s) (family g f) 6 in
+      sum-upto (adds false (family g f) p s) (family w f) (family g f) 6 (λ j l. small (f * 6 + j) (omega arith)) (omega (arith, family-total g f n h))
 
   pub cell-upto : (ps : List ℕ) (lc s : ℕ) → Upto (cellSum (add binary32) zeroF (familyW g w) ps n lc s) (cellSum _+_ 0 (familyC g) ps n lc s)
   unfolding cellSum
@@ -129,11 +129,64 @@ module _ {A : Type 0} (op : A → A → A) (z : A) (unit : (a : A) → op a z �
   keep-empty false a y zero h = refl
   keep-empty b a y (suc k) h = rw eqb·suc-zero
 
-  -- an empty group adds nothing
-  skip-empty : (n : ℕ) (c : ℕ → ℕ) (y : ℕ → A) (p s : ℕ) → ((j : ℕ) → c j ≡ 0 → y j ≡ z) → fold op z n (adds c p s) y ≡ fold op z n (agrees p s) y
+  -- an empty group adds nothing, so it may be left out or not
+  skip-empty : (n : ℕ) (c : ℕ → ℕ) (q : ℕ → Bool) (y : ℕ → A) → ((j : ℕ) → c j ≡ 0 → y j ≡ z) → fold op z n (λ j. not (eqb (c j) 0) && q j) y ≡ fold op z n q y
   unfolding fold
-  skip-empty zero c y p s h = refl
-  skip-empty (suc n) c y p s h = keep-empty (agrees p s n) (fold op z n (adds c p s) y) (y n) (c n) (h n) ∙ ap (λ a. put op (agrees p s n) a (y n)) (skip-empty n c y p s h)
+  skip-empty zero c q y h = refl
+  skip-empty (suc n) c q y h = keep-empty (q n) (fold op z n (λ j. not (eqb (c j) 0) && q j) y) (y n) (c n) (h n) ∙ ap (λ a. put op (q n) a (y n)) (skip-empty n c q y h)
+
+  -- the same of a term: with the empty groups left out, and with all six
+  pub term-all : (misses : Bool) (n : ℕ) (c : ℕ → ℕ) (x : Bool → ℕ → A) (p s : ℕ) → ((b : Bool) (j : ℕ) → c j ≡ 0 → x b j ≡ z) → termSum op z misses n c x p s ≡ termSum op z misses n one x p s
+  unfolding termSum
+  term-all misses n c x p s h = skip-empty n c (λ j. misses || agrees p s j) (λ j. x (agrees p s j) j) (λ j e. h (agrees p s j) j e)
+
+  -- a group without edges holds nothing
+  pub group-none : (B : Board) (E : EdgeList) (t : ℕ) (s : Bool) (x : ℕ → A) (k : ℕ) → groupCount B E t s k ≡ 0 → groupSum op z x B E t s k ≡ z
+  group-none B E t s x k e = none-chosen (size E) (member B E t s k) x e
+
+-- ---- families of groups, added up, are the edges added up: hits alone, or hits and misses
+module _ {A : Type 0} (op : A → A → A) (z : A) (unit : (a : A) → op a z ≡ a) (assoc : (a b c : A) → op (op a b) c ≡ op a (op b c)) (comm : (a b : A) → op a b ≡ op b a)
+    (L n : ℕ) (o : ℕ → Bool) (slot : ℕ → ℕ) (P : ℕ → ℕ → Bool) (x : Bool → ℕ → A) where
+  -- the edges of one group
+  abbrev held : (ℕ → A) → ℕ → A
+  held v k = fold op z n (λ i. o i && eqb (slot i) k) v
+
+  -- the group of edge i agrees
+  abbrev own : ℕ → Bool
+  own i = P (slot i / 6) (slot i % 6)
+
+  pick : {X : Type 0} (f : Bool → X) (b : Bool) → f b ≡ cond b (f true) (f false)
+  pick f true = refl
+  pick f false = refl
+
+  pub families-edges : (misses : Bool) → fold op z L all (λ f. fold op z 6 (λ j. misses || P f j) (λ j. held (x (P f j)) (f * 6 + j)))
+      ≡ fold op z n (λ i. o i && (ltb (slot i) (L * 6) && (misses || own i))) (λ i. x (own i) i)
+  families-edges false =
+      fold-ext op z L all all _ _ (λ f l. refl)
+      (λ f l. fold-where op z 6 (P f) (λ j. held (x (P f j)) (f * 6 + j)) (λ j. held (x true) (f * 6 + j)) (λ j h e. ap (λ b. held (x b) (f * 6 + j)) e))
+      ∙ edge-by-edge op z unit assoc comm 6 L n o slot P (x true)
+      ∙ fold-where op z n (λ i. o i && (ltb (slot i) (L * 6) && own i)) (x true) (λ i. x (own i) i)
+      (λ i h e. ap (λ b. x b i) (sym (and-true (ltb (slot i) (L * 6)) (own i) (and-true (o i) (ltb (slot i) (L * 6) && own i) e .1) .1)))
+  families-edges true =
+      fold-ext op z L all all _ _ (λ f l. refl)
+      (λ f l. fold-ext op z 6 all all _ _ (λ j h. refl) (λ j h. pick (λ b. held (x b) (f * 6 + j)) (P f j)))
+      ∙ edge-by-edge-both op z unit assoc comm 6 L n o slot P (x true) (x false)
+      ∙ fold-ext op z n _ _ _ _ (λ i h. ap (λ b. o i && b) (and-comm true (ltb (slot i) (L * 6)))) (λ i h. sym (pick (λ b. x b i) (own i)))
+
+-- what the first n families add up to, where the addition has neither order nor brackets: the sum over the edges of their groups
+module _ (B : Board) (E : EdgeList) (t : ℕ) {A : Type 0} (op : A → A → A) (z : A) (unit : (a : A) → op a z ≡ a) (assoc : (a b c : A) → op (op a b) c ≡ op a (op b c))
+    (comm : (a b : A) → op a b ≡ op b a) (misses : Bool) (x : Bool → ℕ → A) (s : Bool) where
+  -- the group of edge i agrees at the class (lc, sc)
+  abbrev agreesAt : ℕ → ℕ → ℕ → Bool
+  agreesAt lc sc i = agrees (patternAt (tableOf B s) lc (groupAt B E t s i / 6)) sc (groupAt B E t s i % 6)
+
+  pub families-by-edges : (n lc sc : ℕ) → cellSum op z (familyOf op z misses (groupCount B E t s) (λ b. groupSum op z (x b) B E t s)) (tableOf B s) n lc sc
+      ≡ fold op z (size E) (λ i. onSide E t s i && (ltb (groupAt B E t s i) (n * 6) && (misses || agreesAt lc sc i))) (λ i. x (agreesAt lc sc i) i)
+  unfolding cellSum termSum
+  families-by-edges n lc sc =
+      fold-ext op z n all all _ _ (λ f l. refl)
+      (λ f l. term-all op z unit misses 6 (family (groupCount B E t s) f) (λ b. family (groupSum op z (x b) B E t s) f) (patternAt (tableOf B s) lc f) sc (λ b j e. group-none op z unit B E t s (x b) (f * 6 + j) e))
+      ∙ families-edges op z unit assoc comm n (size E) (onSide E t s) (groupAt B E t s) (λ f j. agrees (patternAt (tableOf B s) lc f) sc j) x misses
 
 -- a group's number, taken apart
 group-parts : (l s b : ℕ) → s < 3 → b < 2 → let k = l * 6 + s * 2 + b in (k / 6 ≡ l) × (k % 6 / 2 ≡ s) × (k % 6 % 2 ≡ b)
@@ -162,26 +215,20 @@ module _ (B : Board) (E : EdgeList) (t : ℕ) (some : (s : Bool) → 0 < periodO
   hit-group s r c i l e =
       group-agrees (tableOf B s) (some s) (longOf E t s i) (shortOf E t s i) (seen E i) (bits i l) (cond s r c) (cond s c r) ∙ sym (hit-side B E t s r c i e)
 
-  -- WHERE THE ADDITION HAS NEITHER ORDER NOR BRACKETS (whole numbers): what the families add up to is the sum over the side's hits at the class, edge by edge. Weights in f32
-  -- differ from it in the order of rounding alone
+  -- WHERE THE ADDITION HAS NEITHER ORDER NOR BRACKETS (whole numbers): what all families add up to is the sum over the side's edges at the class. Each hit adds what it
+  -- holds, and each miss too where misses add. Weights in f32 differ from it in the order of rounding alone
   pub class-by-edges : {A : Type 0} (op : A → A → A) (z : A) → ((a : A) → op a z ≡ a) → ((a b c : A) → op (op a b) c ≡ op a (op b c)) → ((a b : A) → op a b ≡ op b a)
-      → (x : ℕ → A) (s : Bool) (r c : ℕ) → classSum op z x B E t s (cond s r c) (cond s c r) ≡ fold op z (size E) (λ i. onSide E t s i && hit B E t r c i) x
-  unfolding cellSum termSum
-  class-by-edges op z unit assoc comm x s r c =
-      let g = groupCount B E t s in
-      let y = groupSum op z x B E t s in
-      let P : ℕ → ℕ → Bool = λ f j. agrees (patternAt (tableOf B s) (cond s r c) f) (cond s c r) j in
-      fold-ext op z (periodOf B s) all all
-      (λ f. fold op z 6 (adds (family g f) (patternAt (tableOf B s) (cond s r c) f) (cond s c r)) (family y f))
-      (λ f. fold op z 6 (P f) (family y f))
-      (λ f l. refl) (λ f l. skip-empty op z unit 6 (family g f) (family y f) (patternAt (tableOf B s) (cond s r c) f) (cond s c r) (λ j e. none-chosen op z unit (size E) (member B E t s (f * 6 + j)) x e))
-      ∙ edge-by-edge op z unit assoc comm 6 (periodOf B s) (size E) (onSide E t s) (groupAt B E t s) P x
-      ∙ fold-ext op z (size E) _ _ x x (λ i l. and-ext (onSide E t s i) (λ e. ap₂ _&&_ (in-table s i l) (hit-group s r c i l e))) (λ i l. refl)
+      → (misses : Bool) (x : Bool → ℕ → A) (s : Bool) (r c : ℕ)
+      → classSum op z misses x B E t s (cond s r c) (cond s c r) ≡ fold op z (size E) (λ i. onSide E t s i && (misses || hit B E t r c i)) (λ i. x (hit B E t r c i) i)
+  class-by-edges op z unit assoc comm misses x s r c =
+      families-by-edges B E t op z unit assoc comm misses x s (periodOf B s) (cond s r c) (cond s c r)
+      ∙ fold-where op z (size E) _ _ _ (λ i l e. ap (λ b. x b i) (hit-group s r c i l (and-true (onSide E t s i) _ e .0)))
+      ∙ fold-ext op z (size E) _ _ _ _ (λ i l. and-ext (onSide E t s i) (λ e. ap₂ (λ a b. a && (misses || b)) (in-table s i l) (hit-group s r c i l e))) (λ i l. refl)
 
   -- counts: each hit adds one
   pub cell-side : (s : Bool) (r c : ℕ) → cellSum _+_ 0 (familyC (groupCount B E t s)) (tableOf B s) (periodOf B s) (cond s r c) (cond s c r) ≡ sideHits B E t s r c
   unfolding sideHits
-  cell-side s r c = class-by-edges _+_ 0 add-zero add-assoc add-comm one s r c
+  cell-side s r c = class-by-edges _+_ 0 add-zero add-assoc add-comm false (λ b. one) s r c
 
   -- the same by cell
   pub cell-count : (s : Bool) (k : ℕ) → cellSum _+_ 0 (familyC (groupCount B E t s)) (tableOf B s) (periodOf B s) (longClass B s k) (shortClass B s k) ≡ cellCount B E t s k

@@ -1,6 +1,6 @@
 -- Building a side, family by family: each family is ready to be credited, and credited it is one more in the cells.
 use mathlib.Core.Path.{_≡_, refl, sym, ap, ap₂, _∙_}
-use mathlib.Core.Bool.{Bool}
+use mathlib.Core.Bool.{Bool, false}
 use mathlib.Core.List.{List}
 use Prim.Native.Nat.{ℕ, _+_, _*_, _≤_, _<_}
 use native.Mathlib.Nat.{add-assoc}
@@ -41,10 +41,10 @@ module _ (B : Board) (s : Bool) (long short cells groups : ℕ) (c : List ℕ) (
     groupsW j l = same-groups nan _ cells (3 * periodOf B s) groups w w' (R .apart) (b .weights) f j
 
     gain-count : (k : ℕ) → gainC B s f (groups + f * 6) c' k ≡ familyC (placesN groups c) f (cellPattern B s f k) (shortClass B s k)
-    gain-count k = same-term 6 _ _ (cellPattern B s f k) (shortClass B s k) groupsC _+_ 0 _ _ groupsC
+    gain-count k = same-term 6 _ _ (cellPattern B s f k) (shortClass B s k) groupsC _+_ 0 false _ _ (λ b. groupsC)
 
     gain-weight : (k : ℕ) → gainW B s f (groups + f * 6) c' w' k ≡ familyW (placesN groups c) (placesF groups w) f (cellPattern B s f k) (shortClass B s k)
-    gain-weight k = same-term 6 _ _ (cellPattern B s f k) (shortClass B s k) groupsC (add binary32) zeroF _ _ groupsW
+    gain-weight k = same-term 6 _ _ (cellPattern B s f k) (shortClass B s k) groupsC (add binary32) zeroF false _ _ (λ b. groupsW)
 
     -- the count with the family in
     next : (k : ℕ) → k < 3 * periodOf B s
@@ -72,12 +72,12 @@ module _ (B : Board) (s : Bool) (long short cells groups : ℕ) (c : List ℕ) (
           );
     }
 
-    pub side-more : (c'' : List ℕ) (w'' : List Float) → FamilyCredited B s f cells groups c' c'' w' w'' → SideCells B s cells groups (f + 1) c c'' w w''
-    side-more c'' w'' p = record {
+    pub side-more : (n : ℕ) → n ≡ f + 1 → (c'' : List ℕ) (w'' : List Float) → FamilyCredited B s f cells groups c' c'' w' w'' → SideCells B s cells groups n c c'' w w''
+    side-more n e c'' w'' p = rw e (record {
       counts =
           zone-family _+_ 0 (familyC (placesN groups c)) (tableOf B s) 0 (longClass B s) (shortClass B s) cells (3 * periodOf B s) f c c' c'' (b .counts)
           (zone-ext 0 _ _ cells (3 * periodOf B s) c' c'' (λ k l. ap (λ x. placesN cells c' k + x) (gain-count k)) (p .counts));
       weights =
           zone-family (add binary32) zeroF (familyW (placesN groups c) (placesF groups w)) (tableOf B s) nan (longClass B s) (shortClass B s) cells (3 * periodOf B s) f w w' w'' (b .weights)
           (zone-ext nan _ _ cells (3 * periodOf B s) w' w'' (λ k l. ap (add binary32 (placesF cells w' k)) (gain-weight k)) (p .weights));
-    }
+    })

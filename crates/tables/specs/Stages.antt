@@ -129,7 +129,7 @@ module _ (B : Board) (E : EdgeList) (t : ℕ) (c₀ : List ℕ) (w₀ : List Flo
       side-counts =
           laid-cells 0 P 1 s C (λ i. groupCount B E t) (cellCount B E t s) c₀ c c' lc
           (zone-ext 0 _ _ (cellsAt P s) (3 * P s) c c'
-          (λ k h. same-cell _+_ 0 (placesN g c) (groupCount B E t s) (placesN g c) (groupCount B E t s) (P s) groupedC groupedC (tableOf B s) (longClass B s k) (shortClass B s k) ∙ cell-count B E t some (R .list .bit) s k)
+          (λ k h. same-cell _+_ 0 false (placesN g c) (groupCount B E t s) (λ b. placesN g c) (λ b. groupCount B E t s) (P s) groupedC (λ b. groupedC) (tableOf B s) (longClass B s k) (shortClass B s k) ∙ cell-count B E t some (R .list .bit) s k)
           (b .counts))
 
       pub side-weights : Laid nan P 1 (λ s' k. cond (is s s') (cellWeight B E t s k) (W s' k)) (λ i. groupWeight B E t) w₀ w'
@@ -137,7 +137,7 @@ module _ (B : Board) (E : EdgeList) (t : ℕ) (c₀ : List ℕ) (w₀ : List Flo
       side-weights =
           laid-cells nan P 1 s W (λ i. groupWeight B E t) (cellWeight B E t s) w₀ w w' lw
           (zone-ext nan _ _ (cellsAt P s) (3 * P s) w w'
-          (λ k h. same-cell (add binary32) zeroF (placesN g c) (groupCount B E t s) (placesF g w) (groupWeight B E t s) (P s) groupedC groupedW (tableOf B s) (longClass B s k) (shortClass B s k))
+          (λ k h. same-cell (add binary32) zeroF false (placesN g c) (groupCount B E t s) (λ b. placesF g w) (λ b. groupWeight B E t s) (P s) groupedC (λ b. groupedW) (tableOf B s) (longClass B s k) (shortClass B s k))
           (b .weights))
 
   -- ---- the two sides, one after the other

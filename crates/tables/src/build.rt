@@ -4,7 +4,8 @@ ghost use Rattle.board.specs.Hits.{edges, tables};
 ghost use Rattle.tables.specs.Side.{SideReady, SideBuilt};
 ghost use Rattle.tables.specs.Built.{TablesReady, TablesBuilt};
 
-// Adds all families of one side to its cells, by rising long residue. The cells were cleared, and the groups stand.
+// Adds all families of one side to its cells, by rising long residue: the n-th is family n - 1. The order is a promise, since weights are rounded with each
+// addition. The cells were cleared, and the groups stand.
 fn build_side<'a>(
     h: &'a [u8],
     v: &'a [u8],
@@ -20,12 +21,12 @@ fn build_side<'a>(
     ensures { λ _. ⌜ SideBuilt (tables (now (h .entry)) (now (v .entry))) (eqb orientation 0) cells groups (now (counts .entry)) (now (counts .exit)) (now (weights .entry)) (now (weights .exit)) ⌝ }
 {
     let period = board::pattern::patterns_from(h, v, orientation, 0).len();
-    for family in 0..period {
+    for nth in 1..period + 1 {
         crate::credit::credit_family(
             h,
             v,
             orientation,
-            family,
+            nth - 1,
             long,
             short,
             cells,

@@ -1,3 +1,4 @@
+use mathlib.Core.Path.{sym, _∙_}
 use denote.Ref.{now}
 use lib.Dec.{eqb}
 use Rattle.board.specs.Hits.{tables}
@@ -37,7 +38,7 @@ same-length-2 c = search needs
 returns-2 : tie.Need-returns-2
 returns-2 c =
     let a = c .before .before .before .before .before .args in
-    family-emptyZ (tables (now (a .h)) (now (a .v))) (eqb (a .orientation) 0) (a .family) (a .cells) (a .from) (a .also) (now (a .sums)) (c .before .some-sum .ensures (c .if1 .left))
+    family-emptyZ (tables (now (a .h)) (now (a .v))) (eqb (a .orientation) 0) (a .family) (a .cells) (a .from) (a .also) (now (a .sums)) (sym (c .before .some-sum .ensures) ∙ c .if1 .left)
 
 pub credit-sum-family-spec : {M : Type 1} → statement M
 credit-sum-family-spec =

@@ -10,6 +10,7 @@ use mir.Syntax.{w64}
 use mir.Val.{toZ}
 use Rattle.laws.specs.Fold.{fold}
 use Rattle.laws.specs.Signed.{read, fit-at, read-at}
+use Rattle.groups.specs.Terms.{termSum}
 use Rattle.sums.specs.SumParts.{placesZ, termZ}
 use Rattle.sums.specs.SumsLaws.{term-more, read-match, read-mismatch, term-small}
 use Rattle.sums.proofs.sums.fold_sum.Statement.{statement}
@@ -22,7 +23,7 @@ abbrev μ-loop : tie.MeasureT-loop
 μ-loop sums from also pattern s sum₀ j₀ sum j = 6 - j
 
 loop-holds : tie.Need-loop-holds Inv-loop μ-loop
-unfolding termZ fold
+unfolding termSum fold
 loop-holds c = (omega arith, refl)
 
 add-pattern-bit : tie.Need-add-pattern-bit Inv-loop μ-loop

@@ -1,4 +1,11 @@
-// What a selection keeps by value: a summary of each listed transform, the candidate and the runner-up.
+// What a selection is asked and what it keeps, by value: a summary of each listed transform, the candidate and the runner-up.
+
+// What a selection on one list is asked: how many edges it has, their total confidence, and the share of misses that a candidate may have.
+pub struct Asked {
+    pub edges: u32,
+    pub confidence: f32,
+    pub error_limit: f32,
+}
 
 // One transform: its most hits and best origin, the hits and origin of the runner-up inside it, and its number.
 pub struct TransformSummary {

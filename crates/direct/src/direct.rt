@@ -4,6 +4,7 @@ ghost use Prim.Native.Nat.{_+_, _*_, _%_, _≤_, _<_};
 ghost use Rattle.best.specs.CellTables.{Period, TablesOk, cells};
 ghost use Rattle.scan.specs.Scan.{offeredWithin};
 ghost use Rattle.direct.specs.Direct.{tried};
+use board::edge::Placing;
 use laws::Periods;
 use scan::record::is_ahead;
 use scan::record::lead_of;
@@ -33,17 +34,20 @@ fn offer_origin(
     asked: Asked,
 ) -> Kept
     requires { ⌜ (hits ≤ asked .edges) × (asked .edges ≤ 8192) × (row ≤ 1500) × (col ≤ 1500) ⌝ }
-    ensures { λ r. ⌜ r ≡ offeredWithin (asked .edges) (asked .«error_limit») kept (record { hits = hits; score = score; weight = weight; row = row; col = col; listed = listed }) ⌝ }
+    ensures { λ r. ⌜ r ≡ offeredWithin (asked .edges) (asked .«error_limit») kept (record { hits = hits; score = score; weight = weight; placing = record { listed = listed; row = row; col = col } }) ⌝ }
 {
     let r = row as u32;
     let c = col as u32;
+    let placing = Placing {
+        listed,
+        row: r,
+        col: c,
+    };
     let found = Candidate {
         hits,
         score,
         weight,
-        row: r,
-        col: c,
-        listed,
+        placing,
     };
     offer_within(kept, found, asked)
 }

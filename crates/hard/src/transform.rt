@@ -7,6 +7,7 @@ ghost use Rattle.hard.specs.Transform.{BestOk, firstOf, nextOrigin, summ
 ghost use Rattle.hard.specs.TransformLaws.{PairOk};
 use best::lex::LexMax;
 use best::lex::lex_max;
+use board::edge::Placing;
 use direct::direct::scan_direct;
 use grid::origin::key_of;
 use grid::origin::row_major_first;
@@ -128,13 +129,12 @@ fn offer_transform(
     let columns = 3 * periods.v;
     let row = (key / columns) as u32;
     let col = (key % columns) as u32;
+    let placing = Placing { listed, row, col };
     let c = Candidate {
         hits,
         score,
         weight,
-        row,
-        col,
-        listed,
+        placing,
     };
     offer(kept, c)
 }

@@ -173,8 +173,8 @@ pub fn finish(scan: HardScan) -> Choice
     match kept {
         Kept::Nobody => Choice::Nothing,
         Kept::One(winner) => {
-            let listed = winner.listed;
-            let next = runner_up(scan, listed);
+            let placing = winner.placing;
+            let next = runner_up(scan, placing.listed);
             Choice::Chosen { winner, next }
         }
     }

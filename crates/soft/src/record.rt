@@ -4,6 +4,7 @@ ghost use Prim.Native.Nat.{_≤_, _<_};
 ghost use Rattle.best.specs.CellTables.{Period};
 ghost use Rattle.pair.specs.Sums.{SumsOk, sums};
 ghost use Rattle.margin.specs.Scan.{yields, softCandidate, softEmpty, softOffered, softFolded};
+use board::edge::Placing;
 use laws::Periods;
 use margin::slots::Slot;
 use margin::slots::SoftCandidate;
@@ -78,12 +79,12 @@ fn candidate_of(
     let total = likelihood::dequantize_ll(sum);
     let r = row as u32;
     let c = col as u32;
-    SoftCandidate {
+    let placing = Placing {
         listed,
         row: r,
         col: c,
-        total,
-    }
+    };
+    SoftCandidate { placing, total }
 }
 
 // The transform at the next list position: its winner is offered, then its runner-up.

@@ -33,7 +33,7 @@ module _ (B : Board) (E : EdgeList) (ts : List ℕ) (limit : Float) where
   origins = originNumber (periodOf B true) (periodOf B false)
 
   abbrev keyOf : Candidate → ℕ
-  keyOf w = keyAt (periodOf B false) (w .row) (w .col)
+  keyOf w = keyAt (periodOf B false) (w .placing .row) (w .placing .col)
 
   -- the right outcome: nothing within the limit exactly when no placing is; not far enough ahead exactly when some are and none is ahead of every other by more than its own
   -- misses; else that one placing, its hits, and the most hits of any other
@@ -42,12 +42,12 @@ module _ (B : Board) (E : EdgeList) (ts : List ℕ) (limit : Float) where
       ((r ≡ numbered why.noneWithinLimit) × NoneWithin (length ts) origins (size E) limit (hitsAtKey B E ts))
       ⊎ ((r ≡ numbered why.notFarAhead) × SomeWithin (length ts) origins (size E) limit (hitsAtKey B E ts) × ((p k : ℕ) → Sole (length ts) origins (size E) limit (hitsAtKey B E ts) p k → ⊥))
   RightOutcome (Decided w next) =
-      Sole (length ts) origins (size E) limit (hitsAtKey B E ts) (w .listed) (keyOf w)
-      × (w .hits ≡ hitsAtKey B E ts (w .listed) (keyOf w))
-      × MostOther (length ts) origins (size E) limit (hitsAtKey B E ts) (w .listed) (keyOf w) (next .hits)
+      Sole (length ts) origins (size E) limit (hitsAtKey B E ts) (w .placing .listed) (keyOf w)
+      × (w .hits ≡ hitsAtKey B E ts (w .placing .listed) (keyOf w))
+      × MostOther (length ts) origins (size E) limit (hitsAtKey B E ts) (w .placing .listed) (keyOf w) (next .hits)
 
   by-gate : (b : Bool) (w : Candidate) (next : RunnerUp)
-      → Right (length ts) origins (size E) limit (hitsAtKey B E ts) (cond b (found (w .listed) (keyOf w) (w .hits) (next .hits)) not-far-ahead) → RightOutcome (whenPassed b w next)
+      → Right (length ts) origins (size E) limit (hitsAtKey B E ts) (cond b (found (w .placing .listed) (keyOf w) (w .hits) (next .hits)) not-far-ahead) → RightOutcome (whenPassed b w next)
   by-gate true w next r = r
   by-gate false w next r = inr (refl, r .0, r .1)
 

@@ -41,12 +41,12 @@ pub fn decide<'a>(
     transforms: &[u8],
     h: &'a [u8],
     v: &'a [u8],
-    limit: f32,
+    error_limit: f32,
     counts: &mut [u32],
     weights: &mut [f32],
 ) -> Outcome
     requires { ⌜ SelectReady (tables (now h) (now v)) (edges (now rows) (now cols) (now orientations) (now bits) (now confidences)) (now transforms) (now counts) (now weights) ⌝ }
-    ensures { λ r. ⌜ DecideDone (tables (now (h .entry)) (now (v .entry))) (edges (now (rows .entry)) (now (cols .entry)) (now (orientations .entry)) (now (bits .entry)) (now (confidences .entry))) (now (transforms .entry)) limit (now (counts .entry)) (now (counts .exit)) (now (weights .entry)) (now (weights .exit)) r ⌝ }
+    ensures { λ r. ⌜ DecideDone (tables (now (h .entry)) (now (v .entry))) (edges (now (rows .entry)) (now (cols .entry)) (now (orientations .entry)) (now (bits .entry)) (now (confidences .entry))) (now (transforms .entry)) «error_limit» (now (counts .entry)) (now (counts .exit)) (now (weights .entry)) (now (weights .exit)) r ⌝ }
 {
     let selection = hard::select::select(
         rows,
@@ -57,7 +57,7 @@ pub fn decide<'a>(
         transforms,
         h,
         v,
-        limit,
+        error_limit,
         counts,
         weights,
     );

@@ -9,7 +9,7 @@ use Rattle.scan.specs.declared.scan.Kept.{Kept}
 
 -- "score (weight / total confidence)"
 abbrev pub candidate : ℕ → Float → Float → ℕ → ℕ → ℕ → Candidate
-candidate hits weight conf row col listed = record { hits = hits; score = div binary32 weight conf; weight = weight; row = row; col = col; listed = listed }
+candidate hits weight conf row col listed = record { hits = hits; score = div binary32 weight conf; weight = weight; placing = record { listed = listed; row = row; col = col } }
 
 -- the hits of the origin with the key k, on the grid G: the counts of its two cells, added
 abbrev pub pairHits : Grid → CellTables → ℕ → ℕ

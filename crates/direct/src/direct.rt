@@ -4,9 +4,12 @@ ghost use Prim.Native.Nat.{_+_, _*_, _%_, _≤_, _<_};
 ghost use Rattle.best.specs.CellTables.{Period, TablesOk, cells};
 ghost use Rattle.scan.specs.Scan.{offeredWithin};
 ghost use Rattle.direct.specs.Direct.{tried};
+use board::edge::Placing;
+use laws::Periods;
 use scan::record::is_ahead;
 use scan::record::lead_of;
 use scan::record::offer_within;
+use scan::scan::Asked;
 use scan::scan::Candidate;
 use scan::scan::Kept;
 
@@ -28,49 +31,48 @@ fn offer_origin(
     row: usize,
     col: usize,
     listed: usize,
-    edges: u32,
-    limit: f32,
+    asked: Asked,
 ) -> Kept
-    requires { ⌜ (hits ≤ edges) × (edges ≤ 8192) × (row ≤ 1500) × (col ≤ 1500) ⌝ }
-    ensures { λ r. ⌜ r ≡ offeredWithin edges limit kept (record { hits = hits; score = score; weight = weight; row = row; col = col; listed = listed }) ⌝ }
+    requires { ⌜ (hits ≤ asked .edges) × (asked .edges ≤ 8192) × (row ≤ 1500) × (col ≤ 1500) ⌝ }
+    ensures { λ r. ⌜ r ≡ offeredWithin (asked .edges) (asked .«error_limit») kept (record { hits = hits; score = score; weight = weight; placing = record { listed = listed; row = row; col = col } }) ⌝ }
 {
     let r = row as u32;
     let c = col as u32;
+    let placing = Placing {
+        listed,
+        row: r,
+        col: c,
+    };
     let found = Candidate {
         hits,
         score,
         weight,
-        row: r,
-        col: c,
-        listed,
+        placing,
     };
-    offer_within(kept, found, edges, limit)
+    offer_within(kept, found, asked)
 }
 
-// The origins of one row, whose class by `long` is ha and by 3 is va. What is kept is copied only where an origin is ahead of it, and one with fewer hits is
+// The origins of one row, whose class by periods.h is ha and by 3 is va. What is kept is copied only where an origin is ahead of it, and one with fewer hits is
 // passed over before any division.
 fn scan_row(
     hc: &[u32],
     hw: &[f32],
     vc: &[u32],
     vw: &[f32],
-    long: usize,
-    wide: usize,
+    periods: Periods,
     row: usize,
     ha: usize,
     va: usize,
-    edges: u32,
-    conf: f32,
-    limit: f32,
+    asked: Asked,
     listed: usize,
     start: Kept,
 ) -> Kept
-    requires { ⌜ Period long × Period wide × TablesOk long wide edges (cells (now hc) (now hw) (now vc) (now vw)) ⌝ }
-    requires { ⌜ (row < 3 * long) × (ha ≡ row % long) × (va ≡ row % 3) ⌝ }
-    ensures { λ r. ⌜ r ≡ tried long wide edges conf limit listed (cells (now (hc .entry)) (now (hw .entry)) (now (vc .entry)) (now (vw .entry))) (row * (3 * wide)) start (3 * wide) ⌝ }
+    requires { ⌜ Period (periods .h) × Period (periods .v) × TablesOk (periods .h) (periods .v) (asked .edges) (cells (now hc) (now hw) (now vc) (now vw)) ⌝ }
+    requires { ⌜ (row < 3 * periods .h) × (ha ≡ row % periods .h) × (va ≡ row % 3) ⌝ }
+    ensures { λ r. ⌜ r ≡ tried (periods .h) (periods .v) (asked .edges) (asked .confidence) (asked .«error_limit») listed (cells (now (hc .entry)) (now (hw .entry)) (now (vc .entry)) (now (vw .entry))) (row * (3 * periods .v)) start (3 * periods .v) ⌝ }
 {
     let hbase = ha * 3;
-    let vbase = va * wide;
+    let vbase = va * periods.v;
     let mut kept = start;
     let mut lead = lead_of(start);
     let mut hb: usize = 0;
@@ -82,14 +84,14 @@ fn scan_row(
         let hits = hc[h] + vc[v];
         if hits >= lead.hits {
             let weight = hw[h] + vw[v];
-            let score = weight / conf;
+            let score = weight / asked.confidence;
             if is_ahead(lead, hits, score) {
-                kept = offer_origin(kept, hits, score, weight, row, col, listed, edges, limit);
+                kept = offer_origin(kept, hits, score, weight, row, col, listed, asked);
                 lead = lead_of(kept);
             }
         }
         hb = next_class(hb, 3);
-        vb = next_class(vb, wide);
+        vb = next_class(vb, periods.v);
         col += 1;
     }
     kept
@@ -101,39 +103,21 @@ pub fn scan_direct(
     hw: &[f32],
     vc: &[u32],
     vw: &[f32],
-    long: usize,
-    wide: usize,
-    edges: u32,
-    conf: f32,
-    limit: f32,
+    periods: Periods,
+    asked: Asked,
     listed: usize,
     start: Kept,
 ) -> Kept
-    requires { ⌜ Period long × Period wide × TablesOk long wide edges (cells (now hc) (now hw) (now vc) (now vw)) ⌝ }
-    ensures { λ r. ⌜ r ≡ tried long wide edges conf limit listed (cells (now (hc .entry)) (now (hw .entry)) (now (vc .entry)) (now (vw .entry))) 0 start (3 * long * (3 * wide)) ⌝ }
+    requires { ⌜ Period (periods .h) × Period (periods .v) × TablesOk (periods .h) (periods .v) (asked .edges) (cells (now hc) (now hw) (now vc) (now vw)) ⌝ }
+    ensures { λ r. ⌜ r ≡ tried (periods .h) (periods .v) (asked .edges) (asked .confidence) (asked .«error_limit») listed (cells (now (hc .entry)) (now (hw .entry)) (now (vc .entry)) (now (vw .entry))) 0 start (3 * periods .h * (3 * periods .v)) ⌝ }
 {
     let mut kept = start;
     let mut ha: usize = 0;
     let mut va: usize = 0;
     let mut row: usize = 0;
     while row < hc.len() {
-        kept = scan_row(
-            hc,
-            hw,
-            vc,
-            vw,
-            long,
-            wide,
-            row,
-            ha,
-            va,
-            edges,
-            conf,
-            limit,
-            listed,
-            kept,
-        );
-        ha = next_class(ha, long);
+        kept = scan_row(hc, hw, vc, vw, periods, row, ha, va, asked, listed, kept);
+        ha = next_class(ha, periods.h);
         va = next_class(va, 3);
         row += 1;
     }

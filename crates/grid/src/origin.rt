@@ -8,41 +8,42 @@ ghost use Rattle.best.specs.Lex.{optimal};
 ghost use Rattle.best.specs.CellTables.{Period};
 ghost use Rattle.grid.specs.RowMajor.{lowest, rowMajor};
 use best::lex::is_optimal;
+use laws::Periods;
 
-// The number below 3 · long with the residue s by 3 and l by long, document 01's (334·s + 168·l) mod 501 where long is 167: it is l and as many steps of long
-// as its residue by 3 asks for, so no remainder by long is taken.
-fn joint_of(long: usize, s: usize, l: usize) -> usize
-    requires { ⌜ Period long × (s < 3) × (l < long) ⌝ }
-    ensures { λ r. ⌜ (r ≡ joint long s l) × (r < 3 * long) ⌝ }
+// The number below 3 · period with the residue s by 3 and l by the period, document 01's (334·s + 168·l) mod 501 at 167: it is l and as many steps of the
+// period as its residue by 3 asks for, so no remainder by the period is taken.
+fn joint_of(period: usize, s: usize, l: usize) -> usize
+    requires { ⌜ Period period × (s < 3) × (l < period) ⌝ }
+    ensures { λ r. ⌜ (r ≡ joint period s l) × (r < 3 * period) ⌝ }
 {
-    let third = long % 3;
+    let third = period % 3;
     let steps = third * (s + 3 - l % 3) % 3;
-    l + long * steps
+    l + period * steps
 }
 
-// The row v / wide of the vertical cell v in its table of three rows, by comparing.
-fn short_of(v: usize, wide: usize) -> usize
-    requires { ⌜ Period wide × (v < 3 * wide) ⌝ }
-    ensures { λ r. ⌜ (r ≡ v / wide) × (r < 3) × (r * wide ≤ v) ⌝ }
+// The row v / period of the vertical cell v in its table of three rows, by comparing.
+fn short_of(v: usize, period: usize) -> usize
+    requires { ⌜ Period period × (v < 3 * period) ⌝ }
+    ensures { λ r. ⌜ (r ≡ v / period) × (r < 3) × (r * period ≤ v) ⌝ }
 {
-    if v < wide {
+    if v < period {
         return 0;
     }
-    if v < 2 * wide {
+    if v < 2 * period {
         return 1;
     }
     2
 }
 
-// The key of the origin that the horizontal cell h and the vertical cell v name: row · columns + column, of 3 · wide columns.
-pub fn key_of(h: usize, v: usize, long: usize, wide: usize) -> usize
-    requires { ⌜ Period long × Period wide × (h < 3 * long) × (v < 3 * wide) ⌝ }
-    ensures { λ r. ⌜ r ≡ origins long wide .key h v ⌝ }
+// The key of the origin that the horizontal cell h and the vertical cell v name: row · columns + column. There are 3 · periods.v columns.
+pub fn key_of(h: usize, v: usize, periods: Periods) -> usize
+    requires { ⌜ Period (periods .h) × Period (periods .v) × (h < 3 * periods .h) × (v < 3 * periods .v) ⌝ }
+    ensures { λ r. ⌜ r ≡ origins (periods .h) (periods .v) .key h v ⌝ }
 {
-    let s = short_of(v, wide);
-    let row = joint_of(long, s, h / 3);
-    let col = joint_of(wide, h % 3, v - s * wide);
-    row * (3 * wide) + col
+    let s = short_of(v, periods.v);
+    let row = joint_of(periods.h, s, h / 3);
+    let col = joint_of(periods.v, h % 3, v - s * periods.v);
+    row * (3 * periods.v) + col
 }
 
 // The least of start and the keys of the horizontal cell h with each vertical cell of that count and weight. No origin of h stands above row h / 3, so where
@@ -54,21 +55,20 @@ fn lowest_key(
     heavy: f32,
     h: usize,
     start: usize,
-    long: usize,
-    wide: usize,
+    periods: Periods,
 ) -> usize
-    requires { ⌜ Period long × Period wide × (h < 3 * long) ⌝ }
-    requires { ⌜ (length (now counts) ≡ 3 * wide) × (length (now weights) ≡ 3 * wide) ⌝ }
-    ensures { λ r. ⌜ r ≡ lowest (optimal (now (counts .entry)) (now (weights .entry)) top heavy) (origins long wide .key h) start (length (now (counts .entry))) ⌝ }
+    requires { ⌜ Period (periods .h) × Period (periods .v) × (h < 3 * periods .h) ⌝ }
+    requires { ⌜ (length (now counts) ≡ 3 * periods .v) × (length (now weights) ≡ 3 * periods .v) ⌝ }
+    ensures { λ r. ⌜ r ≡ lowest (optimal (now (counts .entry)) (now (weights .entry)) top heavy) (origins (periods .h) (periods .v) .key h) start (length (now (counts .entry))) ⌝ }
 {
-    if start <= h / 3 * (3 * wide) {
+    if start <= h / 3 * (3 * periods.v) {
         return start;
     }
     let mut best: usize = start;
     let mut v: usize = 0;
     while v < counts.len() {
         if is_optimal(counts[v], weights[v], top, heavy) {
-            let k = key_of(h, v, long, wide);
+            let k = key_of(h, v, periods);
             if k < best {
                 best = k;
             }
@@ -88,18 +88,17 @@ pub fn row_major_first(
     vw: &[f32],
     vt: u32,
     vh: f32,
-    long: usize,
-    wide: usize,
+    periods: Periods,
 ) -> usize
-    requires { ⌜ Period long × Period wide ⌝ }
-    requires { ⌜ (length (now hc) ≡ 3 * long) × (length (now hw) ≡ 3 * long) × (length (now vc) ≡ 3 * wide) × (length (now vw) ≡ 3 * wide) ⌝ }
-    ensures { λ r. ⌜ r ≡ rowMajor (origins long wide) (length (now (vc .entry))) (optimal (now (hc .entry)) (now (hw .entry)) ht hh) (optimal (now (vc .entry)) (now (vw .entry)) vt vh) (length (now (hc .entry))) ⌝ }
+    requires { ⌜ Period (periods .h) × Period (periods .v) ⌝ }
+    requires { ⌜ (length (now hc) ≡ 3 * periods .h) × (length (now hw) ≡ 3 * periods .h) × (length (now vc) ≡ 3 * periods .v) × (length (now vw) ≡ 3 * periods .v) ⌝ }
+    ensures { λ r. ⌜ r ≡ rowMajor (origins (periods .h) (periods .v)) (length (now (vc .entry))) (optimal (now (hc .entry)) (now (hw .entry)) ht hh) (optimal (now (vc .entry)) (now (vw .entry)) vt vh) (length (now (hc .entry))) ⌝ }
 {
-    let mut best: usize = 3 * long * (3 * wide);
+    let mut best: usize = 3 * periods.h * (3 * periods.v);
     let mut h: usize = 0;
     while h < hc.len() {
         if is_optimal(hc[h], hw[h], ht, hh) {
-            best = lowest_key(vc, vw, vt, vh, h, best, long, wide);
+            best = lowest_key(vc, vw, vt, vh, h, best, periods);
         }
         h += 1;
     }

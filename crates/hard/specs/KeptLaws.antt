@@ -167,9 +167,9 @@ module _ (L M edges : ℕ) (conf limit : Float) where
         down x s = ⊎-elim (λ e. inr (rw e at (s .2))) (λ l. inl (s .0, l, s .2)) (split (s .0) n (s .1))
 
     -- a candidate stands at the list position that offered it
-    pub offers-place : (p : ℕ) (c : Candidate) → Offers p (tab p) c → c .listed ≡ p
+    pub offers-place : (p : ℕ) (c : Candidate) → Offers p (tab p) c → c .placing .listed ≡ p
     unfolding originCandidate
-    offers-place p c o = ⊎-elim (λ u. ap (λ (d : Candidate). d .listed) (u .1)) (λ u. ap (λ (d : Candidate). d .listed) (u .1 .3)) (o .1)
+    offers-place p c o = ⊎-elim (λ u. ap (λ (d : Candidate). d .placing .listed) (u .1)) (λ u. ap (λ (d : Candidate). d .placing .listed) (u .1 .3)) (o .1)
 
     -- so the scan is one that `finish` takes
     pub selected-sound : (n : ℕ) → n ≤ 8 → SoundScan (selected L M edges conf limit ts tab n)

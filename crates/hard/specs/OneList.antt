@@ -26,7 +26,7 @@ keyAt M row col = row * (3 * M) + col
 -- what a choice comes to with the gate
 abbrev pub outcomeOf : ℕ → ℕ → Choice → Outcome
 outcomeOf M edges Nothing = none-within-limit
-outcomeOf M edges (Chosen c r) = cond (passed edges (c .hits) (r .hits)) (found (c .listed) (keyAt M (c .row) (c .col)) (c .hits) (r .hits)) not-far-ahead
+outcomeOf M edges (Chosen c r) = cond (passed edges (c .hits) (r .hits)) (found (c .placing .listed) (keyAt M (c .placing .row) (c .placing .col)) (c .hits) (r .hits)) not-far-ahead
 
 -- how many origins there are: 3 L rows of 3 M columns
 abbrev pub originNumber : ℕ → ℕ → ℕ
@@ -48,23 +48,23 @@ module _ (L M edges : ℕ) (conf limit : Float) (ts : ℕ → ℕ) (tab : ℕ �
 
   -- the placing (p, k) is chosen and passes the gate
   abbrev pub Passes : ℕ → ℕ → Type 0
-  Passes p k = (c : Candidate) × (r : RunnerUp) × (choice ≡ Chosen c r) × (passed edges (c .hits) (r .hits) ≡ true) × (c .listed ≡ p) × (keyAt M (c .row) (c .col) ≡ k)
+  Passes p k = (c : Candidate) × (r : RunnerUp) × (choice ≡ Chosen c r) × (passed edges (c .hits) (r .hits) ≡ true) × (c .placing .listed ≡ p) × (keyAt M (c .placing .row) (c .placing .col) ≡ k)
 
   -- what is reported where the winner c with the runner-up r passes: the winner alone is ahead of every other placing, its hits are those of its placing, the
   -- runner-up's hits are the most that another placing has, and the runner-up's transform, row and column name such a placing
   pub record Reported (c : Candidate) (r : RunnerUp) : Type 0 where
-    pub sole : Sole n (originNumber L M) edges limit (hitsOf L M tab) (c .listed) (keyAt M (c .row) (c .col))
-    pub only : (p k : ℕ) → Sole n (originNumber L M) edges limit (hitsOf L M tab) p k → (p ≡ c .listed) × (k ≡ keyAt M (c .row) (c .col))
-    pub hits : c .hits ≡ hitsOf L M tab (c .listed) (keyAt M (c .row) (c .col))
-    pub next : MostOther n (originNumber L M) edges limit (hitsOf L M tab) (c .listed) (keyAt M (c .row) (c .col)) (r .hits)
+    pub sole : Sole n (originNumber L M) edges limit (hitsOf L M tab) (c .placing .listed) (keyAt M (c .placing .row) (c .placing .col))
+    pub only : (p k : ℕ) → Sole n (originNumber L M) edges limit (hitsOf L M tab) p k → (p ≡ c .placing .listed) × (k ≡ keyAt M (c .placing .row) (c .placing .col))
+    pub hits : c .hits ≡ hitsOf L M tab (c .placing .listed) (keyAt M (c .placing .row) (c .placing .col))
+    pub next : MostOther n (originNumber L M) edges limit (hitsOf L M tab) (c .placing .listed) (keyAt M (c .placing .row) (c .placing .col)) (r .hits)
     pub named : (p : ℕ) × (p < n) × (ts p ≡ r .transform) × (keyAt M (r .row) (r .col) < originNumber L M)
-        × ((p ≡ c .listed) × (keyAt M (r .row) (r .col) ≡ keyAt M (c .row) (c .col)) → ⊥) × (hitsOf L M tab p (keyAt M (r .row) (r .col)) ≡ r .hits)
+        × ((p ≡ c .placing .listed) × (keyAt M (r .row) (r .col) ≡ keyAt M (c .placing .row) (c .placing .col)) → ⊥) × (hitsOf L M tab p (keyAt M (r .row) (r .col)) ≡ r .hits)
 
   -- a winner and its runner-up are placings of the list, and have no more hits than there are edges
   pub record InRange (c : Candidate) (r : RunnerUp) : Type 0 where
-    pub listed : c .listed < n
-    pub row : c .row < 3 * L
-    pub col : c .col < 3 * M
+    pub listed : c .placing .listed < n
+    pub row : c .placing .row < 3 * L
+    pub col : c .placing .col < 3 * M
     pub hits : c .hits ≤ edges
     pub next-place : (p : ℕ) × (p < n) × (ts p ≡ r .transform)
     pub next-row : r .row < 3 * L

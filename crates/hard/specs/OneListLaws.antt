@@ -41,20 +41,20 @@ module _ (L M edges : ℕ) (conf limit : Float) (ts : ℕ → ℕ) (tab : ℕ �
   known x e = rw e at (is-chosen L M edges conf limit ts tab n p q few ok)
 
   abbrev Won : Candidate → Type 0
-  Won c = Winner L M edges conf limit ts tab n (c .listed) c
+  Won c = Winner L M edges conf limit ts tab n (c .placing .listed) c
 
   abbrev next : Candidate → RunnerUp
-  next c = runnerUp (selected L M edges conf limit ts tab n .summaries) (c .listed) n
+  next c = runnerUp (selected L M edges conf limit ts tab n .summaries) (c .placing .listed) n
 
   abbrev key : Candidate → ℕ
-  key c = keyAt M (c .row) (c .col)
+  key c = keyAt M (c .placing .row) (c .placing .col)
 
   judged : (c : Candidate) (r : RunnerUp) → Won c → r ≡ next c → (t : Bool) → passed edges (c .hits) (r .hits) ≡ t
-      → Right n none edges limit hit (cond t (found (c .listed) (key c) (c .hits) (r .hits)) not-far-ahead)
-  judged c r W e true t = (ahead L M edges conf limit ts tab n p q few ok (c .listed) c W (rw e at t), sym (W .at), rw e (next-most L M edges conf limit ts tab n p q few ok (c .listed) c W))
+      → Right n none edges limit hit (cond t (found (c .placing .listed) (key c) (c .hits) (r .hits)) not-far-ahead)
+  judged c r W e true t = (ahead L M edges conf limit ts tab n p q few ok (c .placing .listed) c W (rw e at t), sym (W .at), rw e (next-most L M edges conf limit ts tab n p q few ok (c .placing .listed) c W))
   judged c r W e false t = (
-    (c .listed, key c, W .in-list, W .inside, rw (W .at) (W .allowed)),
-    λ i k S. clash (passes L M edges conf limit ts tab n p q few ok (c .listed) c W i k S) (rw e at t),
+    (c .placing .listed, key c, W .in-list, W .inside, rw (W .at) (W .allowed)),
+    λ i k S. clash (passes L M edges conf limit ts tab n p q few ok (c .placing .listed) c W i k S) (rw e at t),
   )
 
   right : (x : Choice) → Known x → Right n none edges limit hit (outcomeOf M edges x)
@@ -72,7 +72,7 @@ module _ (L M edges : ℕ) (conf limit : Float) (ts : ℕ → ℕ) (tab : ℕ �
     where
       go : NoneWithin n none edges limit hit → (x : Choice) → Known x → x ≡ Nothing
       go h Nothing t = refl
-      go h (Chosen c r) t = let W = t .0 in clash (h (c .listed) (key c) (W .in-list) (W .inside)) (rw (W .at) (W .allowed))
+      go h (Chosen c r) t = let W = t .0 in clash (h (c .placing .listed) (key c) (W .in-list) (W .inside)) (rw (W .at) (W .allowed))
 
   -- (b) a placing is chosen and the gate refuses it exactly when some placing is within the limit but none is ahead of every other
   pub refuses-13 : (Stopped L M edges conf limit ts tab n → Unclear L M edges conf limit ts tab n) × (Unclear L M edges conf limit ts tab n → Stopped L M edges conf limit ts tab n)
@@ -82,7 +82,7 @@ module _ (L M edges : ℕ) (conf limit : Float) (ts : ℕ → ℕ) (tab : ℕ �
       go u Nothing e = let w = u .0 in clash (known Nothing e (w .0) (w .1) (w .2) (w .3)) (w .4)
       go u (Chosen c r) e =
           let k = known (Chosen c r) e in
-          (c, r, e, not-so (passed edges (c .hits) (r .hits)) (λ t. u .1 (c .listed) (key c) (judged c r (k .0) (k .1) true t .0)))
+          (c, r, e, not-so (passed edges (c .hits) (r .hits)) (λ t. u .1 (c .placing .listed) (key c) (judged c r (k .0) (k .1) true t .0)))
 
   -- (c) a placing is chosen and passes the gate exactly when it is ahead of every other by more than its own misses
   pub finds : (i k : ℕ) → (Passes L M edges conf limit ts tab n i k → Sole n none edges limit hit i k) × (Sole n none edges limit hit i k → Passes L M edges conf limit ts tab n i k)
@@ -97,8 +97,8 @@ module _ (L M edges : ℕ) (conf limit : Float) (ts : ℕ → ℕ) (tab : ℕ �
       go S Nothing e = clash (known Nothing e i k (S .listed) (S .key)) (S .allowed)
       go S (Chosen c r) e =
           let w = known (Chosen c r) e in
-          let t = passes L M edges conf limit ts tab n p q few ok (c .listed) c (w .0) i k S in
-          let o = sole-only n none edges limit hit (c .listed) (key c) i k (ahead L M edges conf limit ts tab n p q few ok (c .listed) c (w .0) t) S in
+          let t = passes L M edges conf limit ts tab n p q few ok (c .placing .listed) c (w .0) i k S in
+          let o = sole-only n none edges limit hit (c .placing .listed) (key c) i k (ahead L M edges conf limit ts tab n p q few ok (c .placing .listed) c (w .0) t) S in
           (c, r, e, rw (w .1) t, o .0, o .1)
 
   -- and then this is reported of it
@@ -108,19 +108,19 @@ module _ (L M edges : ℕ) (conf limit : Float) (ts : ℕ → ℕ) (tab : ℕ �
       let j = judged c r (w .0) (w .1) true t in
       record {
         sole = j .0;
-        only = λ i k S. sole-only n none edges limit hit i k (c .listed) (key c) S (j .0);
+        only = λ i k S. sole-only n none edges limit hit i k (c .placing .listed) (key c) S (j .0);
         hits = j .1;
         next = j .2;
-        named = rw (w .1) (place-named L M edges conf limit ts tab n p q few ok (c .listed) c (w .0) (rw (w .1) at t));
+        named = rw (w .1) (place-named L M edges conf limit ts tab n p q few ok (c .placing .listed) c (w .0) (rw (w .1) at t));
       }
 
   -- a runner-up always exists: whatever is chosen, passed or not, its runner-up's hits are the most that any other placing has
-  pub runner-up-exists : (c : Candidate) (r : RunnerUp) → choice L M edges conf limit ts tab n ≡ Chosen c r → MostOther n none edges limit hit (c .listed) (keyAt M (c .row) (c .col)) (r .hits)
-  runner-up-exists c r e = let w = known (Chosen c r) e in rw (w .1) (next-most L M edges conf limit ts tab n p q few ok (c .listed) c (w .0))
+  pub runner-up-exists : (c : Candidate) (r : RunnerUp) → choice L M edges conf limit ts tab n ≡ Chosen c r → MostOther n none edges limit hit (c .placing .listed) (keyAt M (c .placing .row) (c .placing .col)) (r .hits)
+  runner-up-exists c r e = let w = known (Chosen c r) e in rw (w .1) (next-most L M edges conf limit ts tab n p q few ok (c .placing .listed) c (w .0))
 
   -- both are placings of the list, with no more hits than there are edges
   pub choice-in-range : (c : Candidate) (r : RunnerUp) → choice L M edges conf limit ts tab n ≡ Chosen c r → InRange L M edges conf limit ts tab n c r
-  choice-in-range c r e = let w = known (Chosen c r) e in rw (w .1) (in-range L M edges conf limit ts tab n p q few ok (c .listed) c (w .0))
+  choice-in-range c r e = let w = known (Chosen c r) e in rw (w .1) (in-range L M edges conf limit ts tab n p q few ok (c .placing .listed) c (w .0))
 
   -- ---- refusal 11 in document 01's words: "no listed transform's best hits are within the limit"
   pub refuses-11-best : (choice L M edges conf limit ts tab n ≡ Nothing → (i : ℕ) → i < n → overLimit edges limit (bestAt tab i) ≡ true)

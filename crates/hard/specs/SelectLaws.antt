@@ -39,8 +39,8 @@ roomCells L M c w = cells (view 0 (3 * L) c) (view 0 (3 * L) w) (view (3 * L) (3
 
 -- a room whose cells can be folded into the scan: both periods in range, all cells there, and in range for a list of so many edges
 pub record RoomReady (L M edges : ℕ) (c : List ℕ) (w : List Float) : Type 0 where
-  pub long : Period L
-  pub wide : Period M
+  pub h : Period L
+  pub v : Period M
   pub room : (3 * L + 3 * M ≤ length c) × (3 * L + 3 * M ≤ length w)
   pub tables : TablesOk L M edges (roomCells L M c w)
 
@@ -78,8 +78,8 @@ module _ (B : Board) (E : EdgeList) (t : ℕ) (c c' : List ℕ) (w w' : List Flo
 
   pub room-ready : RoomReady (periodOf B true) (periodOf B false) (size E) c' w'
   room-ready = record {
-    long = period-h B (ready .board);
-    wide = period-v B (ready .board);
+    h = period-h B (ready .board);
+    v = period-v B (ready .board);
     room = (omega (arith, ready .room .0, b .counts .len), omega (arith, ready .room .1, b .weights .len));
     tables = subst (λ (X : CellTables). TablesOk (periodOf B true) (periodOf B false) (size E) X) (sym built-cells) (tables-ok B E t (ready .board) (ready .list));
   }

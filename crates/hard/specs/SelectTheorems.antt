@@ -108,12 +108,12 @@ module _ (B : Board) (E : EdgeList) (ts : List ℕ) (limit : Float) where
 
     -- a winner that passes the gate is the right one
     pub selected-right : (w : Candidate) (r : RunnerUp) → selection B E ts limit ≡ Selected w r → passed (size E) (w .hits) (r .hits) ≡ true
-        → SoleOne (w .listed) (keyAt M (w .row) (w .col)) × (w .hits ≡ hitsAtKey B E ts (w .listed) (keyAt M (w .row) (w .col))) × MostOther (length ts) none (size E) limit (hitsAtKey B E ts) (w .listed) (keyAt M (w .row) (w .col)) (r .hits)
+        → SoleOne (w .placing .listed) (keyAt M (w .placing .row) (w .placing .col)) × (w .hits ≡ hitsAtKey B E ts (w .placing .listed) (keyAt M (w .placing .row) (w .placing .col))) × MostOther (length ts) none (size E) limit (hitsAtKey B E ts) (w .placing .listed) (keyAt M (w .placing .row) (w .placing .col)) (r .hits)
     selected-right w r e g = rw g at (subst (λ (x : Choice). Right (length ts) none (size E) limit (hitsAtKey B E ts) (outcomeOf M (size E) x)) (selected-chosen w r e .1) one-list-by-hits)
 
     -- and its runner-up names another placing with as many hits as it says
     pub selected-next : (w : Candidate) (r : RunnerUp) → selection B E ts limit ≡ Selected w r → passed (size E) (w .hits) (r .hits) ≡ true
-        → (p : ℕ) × (p < length ts) × (getD ts p 0 ≡ r .transform) × ((p ≡ w .listed) × (keyAt M (r .row) (r .col) ≡ keyAt M (w .row) (w .col)) → ⊥) × (hitsAtKey B E ts p (keyAt M (r .row) (r .col)) ≡ r .hits)
+        → (p : ℕ) × (p < length ts) × (getD ts p 0 ≡ r .transform) × ((p ≡ w .placing .listed) × (keyAt M (r .row) (r .col) ≡ keyAt M (w .placing .row) (w .placing .col)) → ⊥) × (hitsAtKey B E ts p (keyAt M (r .row) (r .col)) ≡ r .hits)
     unfolding scanOf
     selected-next w r e g =
         let n = reported L M (size E) (totalConfidence E) limit (λ p. getD ts p 0) tab (length ts) (period-h B board) (period-v B board) few all-ok w r (selected-chosen w r e .1) g .named in
@@ -121,18 +121,18 @@ module _ (B : Board) (E : EdgeList) (ts : List ℕ) (limit : Float) where
 
     -- a placing that is sole is selected, and passes the gate
     pub sole-selected : noConfidence E ≡ false → (p k : ℕ) → SoleOne p k
-        → (w : Candidate) × (r : RunnerUp) × (selection B E ts limit ≡ Selected w r) × (passed (size E) (w .hits) (r .hits) ≡ true) × (p ≡ w .listed) × (k ≡ keyAt M (w .row) (w .col))
+        → (w : Candidate) × (r : RunnerUp) × (selection B E ts limit ≡ Selected w r) × (passed (size E) (w .hits) (r .hits) ≡ true) × (p ≡ w .placing .listed) × (k ≡ keyAt M (w .placing .row) (w .placing .col))
     sole-selected h p k S = go (chosen (scanOf B E ts limit (length ts))) refl one-list-by-hits
       where
         only : (w : Candidate) (r : RunnerUp) (t : Bool) → passed (size E) (w .hits) (r .hits) ≡ t → chosen (scanOf B E ts limit (length ts)) ≡ Chosen w r
-            → Right (length ts) none (size E) limit (hitsAtKey B E ts) (cond t (found (w .listed) (keyAt M (w .row) (w .col)) (w .hits) (r .hits)) not-far-ahead)
-            → (w : Candidate) × (r : RunnerUp) × (selection B E ts limit ≡ Selected w r) × (passed (size E) (w .hits) (r .hits) ≡ true) × (p ≡ w .listed) × (k ≡ keyAt M (w .row) (w .col))
+            → Right (length ts) none (size E) limit (hitsAtKey B E ts) (cond t (found (w .placing .listed) (keyAt M (w .placing .row) (w .placing .col)) (w .hits) (r .hits)) not-far-ahead)
+            → (w : Candidate) × (r : RunnerUp) × (selection B E ts limit ≡ Selected w r) × (passed (size E) (w .hits) (r .hits) ≡ true) × (p ≡ w .placing .listed) × (k ≡ keyAt M (w .placing .row) (w .placing .col))
         only w r true g e R =
-            let o = sole-only (length ts) none (size E) limit (hitsAtKey B E ts) p k (w .listed) (keyAt M (w .row) (w .col)) S (R .0) in
+            let o = sole-only (length ts) none (size E) limit (hitsAtKey B E ts) p k (w .placing .listed) (keyAt M (w .placing .row) (w .placing .col)) S (R .0) in
             (w, r, selection-is h ∙ ap ofChoice e, g, o .0, o .1)
         only w r false g e R = absurd (R .1 p k S)
 
         go : (x : Choice) → chosen (scanOf B E ts limit (length ts)) ≡ x → Right (length ts) none (size E) limit (hitsAtKey B E ts) (outcomeOf M (size E) x)
-            → (w : Candidate) × (r : RunnerUp) × (selection B E ts limit ≡ Selected w r) × (passed (size E) (w .hits) (r .hits) ≡ true) × (p ≡ w .listed) × (k ≡ keyAt M (w .row) (w .col))
+            → (w : Candidate) × (r : RunnerUp) × (selection B E ts limit ≡ Selected w r) × (passed (size E) (w .hits) (r .hits) ≡ true) × (p ≡ w .placing .listed) × (k ≡ keyAt M (w .placing .row) (w .placing .col))
         go Nothing e R = clash (R p k (S .listed) (S .key)) (S .allowed)
         go (Chosen w r) e R = only w r (passed (size E) (w .hits) (r .hits)) refl e R

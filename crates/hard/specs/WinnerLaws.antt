@@ -64,16 +64,16 @@ module _ (L M edges : ℕ) (conf limit : Float) (ts : ℕ → ℕ) (tab : ℕ �
 
   -- the kept candidate c, offered at position w
   pub record Winner (w : ℕ) (c : Candidate) : Type 0 where
-    pub listed : c .listed ≡ w
+    pub listed : c .placing .listed ≡ w
     pub in-list : w < n
-    pub row : c .row < 3 * L
-    pub col : c .col < 3 * M
-    pub inside : keyAt M (c .row) (c .col) < none
-    pub at : hit w (keyAt M (c .row) (c .col)) ≡ c .hits
+    pub row : c .placing .row < 3 * L
+    pub col : c .placing .col < 3 * M
+    pub inside : keyAt M (c .placing .row) (c .placing .col) < none
+    pub at : hit w (keyAt M (c .placing .row) (c .placing .col)) ≡ c .hits
     pub best : c .hits ≡ B w
     pub allowed : overLimit edges limit (c .hits) ≡ false
     pub most : (i : ℕ) → i < n → overLimit edges limit (B i) ≡ false → B i ≤ c .hits
-    pub first : tie w ≡ false → keyAt M (c .row) (c .col) ≡ O w
+    pub first : tie w ≡ false → keyAt M (c .placing .row) (c .placing .col) ≡ O w
 
   module _ (p : Period L) (q : Period M) (few : n ≤ 8) (ok : (i : ℕ) → i < n → TablesOk L M edges (tab i)) where
     sums : (i : ℕ) → i < n → Summed none (hit i) (B i) (O i) (N i) (tie i)
@@ -117,9 +117,9 @@ module _ (L M edges : ℕ) (conf limit : Float) (ts : ℕ → ℕ) (tab : ℕ �
         most i m e = let b = offers-best i m e in omega (arith, h (b .0) (i, m, b .1), b .2)
 
         -- an origin of this position, with the best hits
-        with-key : (k : ℕ) → k < none → hit w k ≡ c .hits → c .hits ≡ B w → (c .row ≡ k / (3 * M)) × (c .col ≡ k % (3 * M)) → (tie w ≡ false → k ≡ O w) → Winner w c
+        with-key : (k : ℕ) → k < none → hit w k ≡ c .hits → c .hits ≡ B w → (c .placing .row ≡ k / (3 * M)) × (c .placing .col ≡ k % (3 * M)) → (tie w ≡ false → k ≡ O w) → Winner w c
         with-key k m at best rc f =
-            let e : keyAt M (c .row) (c .col) ≡ k = ap₂ (keyAt M) (rc .0) (rc .1) ∙ key-back k in
+            let e : keyAt M (c .placing .row) (c .placing .col) ≡ k = ap₂ (keyAt M) (rc .0) (rc .1) ∙ key-back k in
             record {
               listed = offers-place L M edges conf limit ts tab w c o;
               in-list = l;
@@ -136,7 +136,7 @@ module _ (L M edges : ℕ) (conf limit : Float) (ts : ℕ → ℕ) (tab : ℕ �
         single : (ha w .optimal * va w .optimal ≤ 1024) × (c ≡ bestCandidate M conf w (ha w) (va w) (O w)) → Winner w c
         single u =
             let best : c .hits ≡ B w = ap (λ (d : Candidate). d .hits) (u .1) in
-            with-key (O w) (s .inside) (s .at ∙ sym best) best (ap (λ (d : Candidate). d .row) (u .1), ap (λ (d : Candidate). d .col) (u .1)) (λ d. refl)
+            with-key (O w) (s .inside) (s .at ∙ sym best) best (ap (λ (d : Candidate). d .placing .row) (u .1), ap (λ (d : Candidate). d .placing .col) (u .1)) (λ d. refl)
 
         scanned : (1024 < ha w .optimal * va w .optimal)
             × ((k : ℕ) × (k < none) × (overLimit edges limit (hit w k) ≡ false) × (c ≡ originCandidate L M edges conf limit w (tab w) k)) → Winner w c
@@ -144,7 +144,7 @@ module _ (L M edges : ℕ) (conf limit : Float) (ts : ℕ → ℕ) (tab : ℕ �
             let t = u .1 in
             let at : c .hits ≡ hit w (t .0) = ap (λ (d : Candidate). d .hits) (t .3) in
             let best : c .hits ≡ B w = omega (arith, at, s .most (t .0), most w l (o .0)) in
-            with-key (t .0) (t .1) (sym at) best (ap (λ (d : Candidate). d .row) (t .3), ap (λ (d : Candidate). d .col) (t .3))
+            with-key (t .0) (t .1) (sym at) best (ap (λ (d : Candidate). d .placing .row) (t .3), ap (λ (d : Candidate). d .placing .col) (t .3))
             (λ d. clash (many-tied L M p q edges (tab w) (ok w l) (u .0)) d)
 
     -- ---- the runner-up
@@ -153,7 +153,7 @@ module _ (L M edges : ℕ) (conf limit : Float) (ts : ℕ → ℕ) (tab : ℕ �
 
     module _ (w : ℕ) (c : Candidate) (W : Winner w c) where
       abbrev key : ℕ
-      key = keyAt M (c .row) (c .col)
+      key = keyAt M (c .placing .row) (c .placing .col)
 
       abbrev r : RunnerUp
       r = runnerUp ss w n
@@ -296,7 +296,7 @@ module _ (L M edges : ℕ) (conf limit : Float) (ts : ℕ → ℕ) (tab : ℕ �
     -- ---- what the choice is
     abbrev pub Chose : Choice → Type 0
     Chose Nothing = NoneWithin n none edges limit hit
-    Chose (Chosen c r) = Winner (c .listed) c × (r ≡ runnerUp ss (c .listed) n)
+    Chose (Chosen c r) = Winner (c .placing .listed) c × (r ≡ runnerUp ss (c .placing .listed) n)
 
     -- no position's best hits are within the limit, so no placing is
     nobody : ((c : Candidate) → Listed L M edges conf limit ts tab n c → ⊥) → NoneWithin n none edges limit hit
@@ -312,4 +312,4 @@ module _ (L M edges : ℕ) (conf limit : Float) (ts : ℕ → ℕ) (tab : ℕ �
         go Nobody h = nobody h
         go (One c) h =
             let W = winner (h .0 .0) c (h .0 .1) (h .0 .2) (h .1) in
-            (subst (λ (w : ℕ). Winner w c) (sym (W .listed)) W, ap (runnerUp ss (c .listed)) (selected-count L M edges conf limit ts tab n))
+            (subst (λ (w : ℕ). Winner w c) (sym (W .listed)) W, ap (runnerUp ss (c .placing .listed)) (selected-count L M edges conf limit ts tab n))

@@ -8,7 +8,9 @@ ghost use Rattle.best.specs.CellTables.{Period, TablesOk, cells};
 ghost use Rattle.hard.specs.Transform.{foldTransform};
 ghost use Rattle.hard.specs.Select.{SelectReady, SelectDone};
 ghost use Rattle.hard.specs.SelectLaws.{roomCells, RoomReady, ScanDone};
+use laws::Periods;
 use refusals::Refusal;
+use scan::scan::Asked;
 use scan::scan::Candidate;
 use scan::scan::Choice;
 use scan::scan::HardScan;
@@ -25,31 +27,25 @@ fn fold_room<'a>(
     scan: HardScan,
     counts: &'a [u32],
     weights: &'a [f32],
-    long: usize,
-    wide: usize,
+    periods: Periods,
     transform: u8,
-    edges: u32,
-    conf: f32,
-    limit: f32,
+    asked: Asked,
 ) -> HardScan
-    requires { ⌜ RoomReady long wide edges (now counts) (now weights) ⌝ }
+    requires { ⌜ RoomReady (periods .h) (periods .v) (asked .edges) (now counts) (now weights) ⌝ }
     requires { ⌜ scan .count < 8 ⌝ }
-    ensures { λ r. ⌜ r ≡ foldTransform long wide edges conf limit transform (roomCells long wide (now (counts .entry)) (now (weights .entry))) scan ⌝ }
+    ensures { λ r. ⌜ r ≡ foldTransform (periods .h) (periods .v) (asked .edges) (asked .confidence) (asked .«error_limit») transform (roomCells (periods .h) (periods .v) (now (counts .entry)) (now (weights .entry))) scan ⌝ }
 {
-    let a = 3 * long;
-    let e = a + 3 * wide;
+    let a = 3 * periods.h;
+    let e = a + 3 * periods.v;
     crate::view::fold_tables(
         scan,
         &counts[0..a],
         &weights[0..a],
         &counts[a..e],
         &weights[a..e],
-        long,
-        wide,
+        periods,
         transform,
-        edges,
-        conf,
-        limit,
+        asked,
     )
 }
 
@@ -63,14 +59,24 @@ fn scan_transforms<'a>(
     transforms: &[u8],
     h: &'a [u8],
     v: &'a [u8],
-    conf: f32,
-    limit: f32,
+    confidence: f32,
+    error_limit: f32,
     counts: &mut [u32],
     weights: &mut [f32],
 ) -> HardScan
     requires { ⌜ SelectReady (tables (now h) (now v)) (edges (now rows) (now cols) (now orientations) (now bits) (now confidences)) (now transforms) (now counts) (now weights) ⌝ }
-    ensures { λ r. ⌜ ScanDone (tables (now (h .entry)) (now (v .entry))) (edges (now (rows .entry)) (now (cols .entry)) (now (orientations .entry)) (now (bits .entry)) (now (confidences .entry))) (now (transforms .entry)) conf limit (length (now (transforms .entry))) (now (counts .entry)) (now (counts .exit)) (now (weights .entry)) (now (weights .exit)) r ⌝ }
+    ensures { λ r. ⌜ ScanDone (tables (now (h .entry)) (now (v .entry))) (edges (now (rows .entry)) (now (cols .entry)) (now (orientations .entry)) (now (bits .entry)) (now (confidences .entry))) (now (transforms .entry)) confidence «error_limit» (length (now (transforms .entry))) (now (counts .entry)) (now (counts .exit)) (now (weights .entry)) (now (weights .exit)) r ⌝ }
 {
+    let periods = Periods {
+        h: h.len(),
+        v: v.len(),
+    };
+    let edges = rows.len() as u32;
+    let asked = Asked {
+        edges,
+        confidence,
+        error_limit,
+    };
     let mut scan = scan::record::empty();
     for i in 0..transforms.len() {
         let t = transforms[i];
@@ -87,17 +93,7 @@ fn scan_transforms<'a>(
             weights,
         );
         let number = transforms[i];
-        scan = fold_room(
-            scan,
-            counts,
-            weights,
-            h.len(),
-            v.len(),
-            number,
-            rows.len() as u32,
-            conf,
-            limit,
-        );
+        scan = fold_room(scan, counts, weights, periods, number, asked);
     }
     scan
 }
@@ -112,15 +108,15 @@ pub fn select<'a>(
     transforms: &[u8],
     h: &'a [u8],
     v: &'a [u8],
-    limit: f32,
+    error_limit: f32,
     counts: &mut [u32],
     weights: &mut [f32],
 ) -> Selection
     requires { ⌜ SelectReady (tables (now h) (now v)) (edges (now rows) (now cols) (now orientations) (now bits) (now confidences)) (now transforms) (now counts) (now weights) ⌝ }
-    ensures { λ r. ⌜ SelectDone (tables (now (h .entry)) (now (v .entry))) (edges (now (rows .entry)) (now (cols .entry)) (now (orientations .entry)) (now (bits .entry)) (now (confidences .entry))) (now (transforms .entry)) limit (now (counts .entry)) (now (counts .exit)) (now (weights .entry)) (now (weights .exit)) r ⌝ }
+    ensures { λ r. ⌜ SelectDone (tables (now (h .entry)) (now (v .entry))) (edges (now (rows .entry)) (now (cols .entry)) (now (orientations .entry)) (now (bits .entry)) (now (confidences .entry))) (now (transforms .entry)) «error_limit» (now (counts .entry)) (now (counts .exit)) (now (weights .entry)) (now (weights .exit)) r ⌝ }
 {
-    let conf = figures::total_confidence(confidences);
-    if conf == 0.0 {
+    let confidence = figures::total_confidence(confidences);
+    if confidence == 0.0 {
         return Selection::Refused(Refusal {
             number: refusals::NO_CONFIDENCE,
         });
@@ -134,8 +130,8 @@ pub fn select<'a>(
         transforms,
         h,
         v,
-        conf,
-        limit,
+        confidence,
+        error_limit,
         counts,
         weights,
     );

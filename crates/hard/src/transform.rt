@@ -7,12 +7,15 @@ ghost use Rattle.hard.specs.Transform.{BestOk, firstOf, nextOrigin, summ
 ghost use Rattle.hard.specs.TransformLaws.{PairOk};
 use best::lex::LexMax;
 use best::lex::lex_max;
+use board::edge::Placing;
 use direct::direct::scan_direct;
 use grid::origin::key_of;
 use grid::origin::row_major_first;
+use laws::Periods;
 use scan::record::offer;
 use scan::record::over_limit;
 use scan::record::push;
+use scan::scan::Asked;
 use scan::scan::Candidate;
 use scan::scan::HardScan;
 use scan::scan::Kept;
@@ -33,15 +36,14 @@ fn best_origin(
     hw: &[f32],
     vc: &[u32],
     vw: &[f32],
-    long: usize,
-    wide: usize,
+    periods: Periods,
 ) -> usize
-    requires { ⌜ Period long × Period wide × PairOk long wide (cells (now hc) (now hw) (now vc) (now vw)) a b ⌝ }
-    ensures { λ r. ⌜ r ≡ firstOf (origins long wide) (cells (now (hc .entry)) (now (hw .entry)) (now (vc .entry)) (now (vw .entry))) a b ⌝ }
+    requires { ⌜ Period (periods .h) × Period (periods .v) × PairOk (periods .h) (periods .v) (cells (now hc) (now hw) (now vc) (now vw)) a b ⌝ }
+    ensures { λ r. ⌜ r ≡ firstOf (origins (periods .h) (periods .v)) (cells (now (hc .entry)) (now (hw .entry)) (now (vc .entry)) (now (vw .entry))) a b ⌝ }
 {
     if a.optimal == 1 {
         if b.optimal == 1 {
-            return key_of(a.cell, b.cell, long, wide);
+            return key_of(a.cell, b.cell, periods);
         }
     }
     row_major_first(
@@ -53,38 +55,35 @@ fn best_origin(
         vw,
         b.count,
         b.weight,
-        long,
-        wide,
+        periods,
     )
 }
 
 // The runner-up inside a transform whose best origin is `first`, from what its horizontal table a and its vertical table b say.
-fn next_origin(a: LexMax, b: LexMax, first: usize, long: usize, wide: usize) -> Ranked
-    requires { ⌜ Period long × Period wide × BestOk long wide a b ⌝ }
-    ensures { λ r. ⌜ r ≡ nextOrigin long wide a b first ⌝ }
+fn next_origin(a: LexMax, b: LexMax, first: usize, periods: Periods) -> Ranked
+    requires { ⌜ Period (periods .h) × Period (periods .v) × BestOk (periods .h) (periods .v) a b ⌝ }
+    ensures { λ r. ⌜ r ≡ nextOrigin (periods .h) (periods .v) a b first ⌝ }
 {
     if a.level * b.level > 1 {
-        return Ranked {
-            hits: a.count + b.count,
-            key: first,
-        };
+        let hits = a.count + b.count;
+        return Ranked { hits, key: first };
     }
     let across = a.under + b.count;
     let down = a.count + b.under;
     if down > across {
-        let key = key_of(a.cell, b.second, long, wide);
+        let key = key_of(a.cell, b.second, periods);
         return Ranked { hits: down, key };
     }
-    let key = key_of(a.second, b.cell, long, wide);
+    let key = key_of(a.second, b.cell, periods);
     Ranked { hits: across, key }
 }
 
 // The summary of a transform from its best origin and the runner-up inside it.
-fn summary(best: Ranked, next: Ranked, wide: usize, transform: u8) -> TransformSummary
-    requires { ⌜ Period wide × (best .key ≤ 2250000) × (next .key ≤ 2250000) ⌝ }
-    ensures { λ r. ⌜ r ≡ summaryOf wide best next transform ⌝ }
+fn summary(best: Ranked, next: Ranked, period: usize, transform: u8) -> TransformSummary
+    requires { ⌜ Period period × (best .key ≤ 2250000) × (next .key ≤ 2250000) ⌝ }
+    ensures { λ r. ⌜ r ≡ summaryOf period best next transform ⌝ }
 {
-    let columns = 3 * wide;
+    let columns = 3 * period;
     let row = (best.key / columns) as u32;
     let col = (best.key % columns) as u32;
     let nextrow = (next.key / columns) as u32;
@@ -110,36 +109,32 @@ fn offer_transform(
     hw: &[f32],
     vc: &[u32],
     vw: &[f32],
-    long: usize,
-    wide: usize,
-    edges: u32,
-    conf: f32,
-    limit: f32,
+    periods: Periods,
+    asked: Asked,
     listed: usize,
 ) -> Kept
-    requires { ⌜ Period long × Period wide × TablesOk long wide edges (cells (now hc) (now hw) (now vc) (now vw)) ⌝ }
-    requires { ⌜ BestOk long wide a b × (a .count + b .count ≤ edges) × (key ≤ 2250000) ⌝ }
-    ensures { λ r. ⌜ r ≡ offeredBy long wide edges conf limit listed (cells (now (hc .entry)) (now (hw .entry)) (now (vc .entry)) (now (vw .entry))) a b key kept ⌝ }
+    requires { ⌜ Period (periods .h) × Period (periods .v) × TablesOk (periods .h) (periods .v) (asked .edges) (cells (now hc) (now hw) (now vc) (now vw)) ⌝ }
+    requires { ⌜ BestOk (periods .h) (periods .v) a b × (a .count + b .count ≤ asked .edges) × (key ≤ 2250000) ⌝ }
+    ensures { λ r. ⌜ r ≡ offeredBy (periods .h) (periods .v) (asked .edges) (asked .confidence) (asked .«error_limit») listed (cells (now (hc .entry)) (now (hw .entry)) (now (vc .entry)) (now (vw .entry))) a b key kept ⌝ }
 {
     let hits = a.count + b.count;
-    if over_limit(edges, hits, limit) {
+    if over_limit(asked.edges, hits, asked.error_limit) {
         return kept;
     }
     if a.optimal * b.optimal > 1024 {
-        return scan_direct(hc, hw, vc, vw, long, wide, edges, conf, limit, listed, kept);
+        return scan_direct(hc, hw, vc, vw, periods, asked, listed, kept);
     }
     let weight = a.weight + b.weight;
-    let score = weight / conf;
-    let columns = 3 * wide;
+    let score = weight / asked.confidence;
+    let columns = 3 * periods.v;
     let row = (key / columns) as u32;
     let col = (key % columns) as u32;
+    let placing = Placing { listed, row, col };
     let c = Candidate {
         hits,
         score,
         weight,
-        row,
-        col,
-        listed,
+        placing,
     };
     offer(kept, c)
 }
@@ -151,42 +146,22 @@ pub fn fold_transform<'a>(
     hw: &'a [f32],
     vc: &'a [u32],
     vw: &'a [f32],
-    long: usize,
-    wide: usize,
+    periods: Periods,
     transform: u8,
-    edges: u32,
-    conf: f32,
-    limit: f32,
+    asked: Asked,
 ) -> HardScan
-    requires { ⌜ FoldReady long wide edges (cells (now hc) (now hw) (now vc) (now vw)) scan ⌝ }
-    ensures { λ r. ⌜ r ≡ foldTransform long wide edges conf limit transform (cells (now (hc .entry)) (now (hw .entry)) (now (vc .entry)) (now (vw .entry))) scan ⌝ }
+    requires { ⌜ FoldReady (periods .h) (periods .v) (asked .edges) (cells (now hc) (now hw) (now vc) (now vw)) scan ⌝ }
+    ensures { λ r. ⌜ r ≡ foldTransform (periods .h) (periods .v) (asked .edges) (asked .confidence) (asked .«error_limit») transform (cells (now (hc .entry)) (now (hw .entry)) (now (vc .entry)) (now (vw .entry))) scan ⌝ }
 {
     let a = lex_max(hc, hw);
     let b = lex_max(vc, vw);
-    let key = best_origin(a, b, hc, hw, vc, vw, long, wide);
-    let best = Ranked {
-        hits: a.count + b.count,
-        key,
-    };
-    let next = next_origin(a, b, key, long, wide);
-    let s = summary(best, next, wide, transform);
+    let key = best_origin(a, b, hc, hw, vc, vw, periods);
+    let hits = a.count + b.count;
+    let best = Ranked { hits, key };
+    let next = next_origin(a, b, key, periods);
+    let s = summary(best, next, periods.v, transform);
     let listed = scan.count;
     let old = scan.best;
-    let kept = offer_transform(
-        old,
-        a,
-        b,
-        key,
-        hc,
-        hw,
-        vc,
-        vw,
-        long,
-        wide,
-        edges,
-        conf,
-        limit,
-        listed,
-    );
+    let kept = offer_transform(old, a, b, key, hc, hw, vc, vw, periods, asked, listed);
     push(scan, s, kept)
 }

@@ -3,6 +3,8 @@ ghost use mathlib.Core.Path.{_≡_};
 ghost use Rattle.best.specs.CellTables.{cells};
 ghost use Rattle.hard.specs.Transform.{foldTransform, FoldReady};
 ghost use Rattle.hard.specs.View.{viewOf, viewed};
+use laws::Periods;
+use scan::scan::Asked;
 use scan::scan::HardScan;
 
 // Counts and weights by horizontal cell, counts and weights by vertical cell.
@@ -29,15 +31,12 @@ fn view_of<'a>(hc: &'a [u32], hw: &'a [f32], vc: &'a [u32], vw: &'a [f32]) -> Tr
 fn fold_view<'a>(
     scan: HardScan,
     t: TransformTables<'a>,
-    long: usize,
-    wide: usize,
+    periods: Periods,
     transform: u8,
-    edges: u32,
-    conf: f32,
-    limit: f32,
+    asked: Asked,
 ) -> HardScan
-    requires { ⌜ FoldReady long wide edges (viewed t) scan ⌝ }
-    ensures { λ r. ⌜ r ≡ foldTransform long wide edges conf limit transform (viewed (t .entry)) scan ⌝ }
+    requires { ⌜ FoldReady (periods .h) (periods .v) (asked .edges) (viewed t) scan ⌝ }
+    ensures { λ r. ⌜ r ≡ foldTransform (periods .h) (periods .v) (asked .edges) (asked .confidence) (asked .«error_limit») transform (viewed (t .entry)) scan ⌝ }
 {
     crate::transform::fold_transform(
         scan,
@@ -45,12 +44,9 @@ fn fold_view<'a>(
         t.h_weight,
         t.v_count,
         t.v_weight,
-        long,
-        wide,
+        periods,
         transform,
-        edges,
-        conf,
-        limit,
+        asked,
     )
 }
 
@@ -61,24 +57,12 @@ pub fn fold_tables<'a>(
     hw: &'a [f32],
     vc: &'a [u32],
     vw: &'a [f32],
-    long: usize,
-    wide: usize,
+    periods: Periods,
     transform: u8,
-    edges: u32,
-    conf: f32,
-    limit: f32,
+    asked: Asked,
 ) -> HardScan
-    requires { ⌜ FoldReady long wide edges (cells (now hc) (now hw) (now vc) (now vw)) scan ⌝ }
-    ensures { λ r. ⌜ r ≡ foldTransform long wide edges conf limit transform (cells (now (hc .entry)) (now (hw .entry)) (now (vc .entry)) (now (vw .entry))) scan ⌝ }
+    requires { ⌜ FoldReady (periods .h) (periods .v) (asked .edges) (cells (now hc) (now hw) (now vc) (now vw)) scan ⌝ }
+    ensures { λ r. ⌜ r ≡ foldTransform (periods .h) (periods .v) (asked .edges) (asked .confidence) (asked .«error_limit») transform (cells (now (hc .entry)) (now (hw .entry)) (now (vc .entry)) (now (vw .entry))) scan ⌝ }
 {
-    fold_view(
-        scan,
-        view_of(hc, hw, vc, vw),
-        long,
-        wide,
-        transform,
-        edges,
-        conf,
-        limit,
-    )
+    fold_view(scan, view_of(hc, hw, vc, vw), periods, transform, asked)
 }

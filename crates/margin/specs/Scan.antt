@@ -17,9 +17,7 @@ use Rattle.margin.specs.declared.slots.SoftChoice.the-variants.{Nothing,
 unfoldable pub softCandidate : ℕ → ℕ → SumTables → ℕ → ℕ → SoftCandidate
 softCandidate L M X listed k =
     record {
-      listed = listed;
-      row = k / (3 * M);
-      col = k % (3 * M);
+      placing = record { listed = listed; row = k / (3 * M); col = k % (3 * M) };
       total = dequantised (sumAt (origins L M) (X .hs) (X .vs) k);
     }
 

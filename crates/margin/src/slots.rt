@@ -1,12 +1,11 @@
-// What a selection keeps by value: the two best candidates of the transforms so far, with place, origin and total.
+// What a selection keeps by value: the two best candidates of the transforms so far, with placing and total.
 ghost use mathlib.Core.Path.{_≡_};
 ghost use Rattle.margin.specs.Scan.{softChosen};
+use board::edge::Placing;
 
-// An origin at a place of the transform list, with its total.
+// A placing with its total.
 pub struct SoftCandidate {
-    pub listed: usize,
-    pub row: u32,
-    pub col: u32,
+    pub placing: Placing,
     pub total: f32,
 }
 

@@ -13,6 +13,7 @@ ghost use Rattle.pair.specs.Pair.{LevelsOk, filled, otherIn, otherPair, 
 use crate::level::LevelMax;
 use crate::level::is_level;
 use crate::level::level_max;
+use laws::Periods;
 
 // The keys of a transform's winner and of its runner-up.
 pub struct TwoBest {
@@ -22,18 +23,18 @@ pub struct TwoBest {
 
 // The least of start and the keys of the horizontal cell h with each vertical cell of that sum. No origin of h stands above row h / 3, so where start stands
 // there or higher up, no vertical cell is looked at.
-fn lowest_key(sums: &[i64], top: i64, h: usize, start: usize, long: usize, wide: usize) -> usize
-    requires { ⌜ Period long × Period wide × (length (now sums) ≡ 3 * wide) × (h < 3 * long) ⌝ }
-    ensures { λ r. ⌜ r ≡ lowest (level (now (sums .entry)) top) (origins long wide .key h) start (length (now (sums .entry))) ⌝ }
+fn lowest_key(sums: &[i64], top: i64, h: usize, start: usize, periods: Periods) -> usize
+    requires { ⌜ Period (periods .h) × Period (periods .v) × (length (now sums) ≡ 3 * periods .v) × (h < 3 * periods .h) ⌝ }
+    ensures { λ r. ⌜ r ≡ lowest (level (now (sums .entry)) top) (origins (periods .h) (periods .v) .key h) start (length (now (sums .entry))) ⌝ }
 {
-    if start <= h / 3 * (3 * wide) {
+    if start <= h / 3 * (3 * periods.v) {
         return start;
     }
     let mut best: usize = start;
     let mut v: usize = 0;
     while v < sums.len() {
         if is_level(sums[v], top) {
-            let k = grid::origin::key_of(h, v, long, wide);
+            let k = grid::origin::key_of(h, v, periods);
             if k < best {
                 best = k;
             }
@@ -44,15 +45,15 @@ fn lowest_key(sums: &[i64], top: i64, h: usize, start: usize, long: usize, wide:
 }
 
 // The row-major first origin over the pairs of a horizontal cell of sum ht and a vertical cell of sum vt.
-fn row_major_first(hs: &[i64], ht: i64, vs: &[i64], vt: i64, long: usize, wide: usize) -> usize
-    requires { ⌜ Period long × Period wide × (length (now hs) ≡ 3 * long) × (length (now vs) ≡ 3 * wide) ⌝ }
-    ensures { λ r. ⌜ r ≡ rowMajor (origins long wide) (length (now (vs .entry))) (level (now (hs .entry)) ht) (level (now (vs .entry)) vt) (length (now (hs .entry))) ⌝ }
+fn row_major_first(hs: &[i64], ht: i64, vs: &[i64], vt: i64, periods: Periods) -> usize
+    requires { ⌜ Period (periods .h) × Period (periods .v) × (length (now hs) ≡ 3 * periods .h) × (length (now vs) ≡ 3 * periods .v) ⌝ }
+    ensures { λ r. ⌜ r ≡ rowMajor (origins (periods .h) (periods .v)) (length (now (vs .entry))) (level (now (hs .entry)) ht) (level (now (vs .entry)) vt) (length (now (hs .entry))) ⌝ }
 {
-    let mut best: usize = 3 * long * (3 * wide);
+    let mut best: usize = 3 * periods.h * (3 * periods.v);
     let mut h: usize = 0;
     while h < hs.len() {
         if is_level(hs[h], ht) {
-            best = lowest_key(vs, vt, h, best, long, wide);
+            best = lowest_key(vs, vt, h, best, periods);
         }
         h += 1;
     }
@@ -68,15 +69,14 @@ fn fill(
     h: usize,
     v: usize,
     winner: usize,
-    long: usize,
-    wide: usize,
+    periods: Periods,
 ) -> usize
-    requires { ⌜ Period long × Period wide × (h < 3 * long) × (v < 3 * wide) ⌝ }
-    ensures { λ r. ⌜ r ≡ filled none found (level && not (eqb (origins long wide .key h v) winner)) (origins long wide .key h v) ⌝ }
+    requires { ⌜ Period (periods .h) × Period (periods .v) × (h < 3 * periods .h) × (v < 3 * periods .v) ⌝ }
+    ensures { λ r. ⌜ r ≡ filled none found (level && not (eqb (origins (periods .h) (periods .v) .key h v) winner)) (origins (periods .h) (periods .v) .key h v) ⌝ }
 {
     if found == none {
         if level {
-            let key = grid::origin::key_of(h, v, long, wide);
+            let key = grid::origin::key_of(h, v, periods);
             if key != winner {
                 return key;
             }
@@ -92,13 +92,12 @@ fn other_in(
     h: usize,
     winner: usize,
     start: usize,
-    long: usize,
-    wide: usize,
+    periods: Periods,
 ) -> usize
-    requires { ⌜ Period long × Period wide × (length (now sums) ≡ 3 * wide) × (h < 3 * long) ⌝ }
-    ensures { λ r. ⌜ r ≡ otherIn (origins long wide) (level (now (sums .entry)) top) h winner start (length (now (sums .entry))) ⌝ }
+    requires { ⌜ Period (periods .h) × Period (periods .v) × (length (now sums) ≡ 3 * periods .v) × (h < 3 * periods .h) ⌝ }
+    ensures { λ r. ⌜ r ≡ otherIn (origins (periods .h) (periods .v)) (level (now (sums .entry)) top) h winner start (length (now (sums .entry))) ⌝ }
 {
-    let none = 3 * long * (3 * wide);
+    let none = 3 * periods.h * (3 * periods.v);
     if start != none {
         return start;
     }
@@ -106,30 +105,22 @@ fn other_in(
     let mut v: usize = 0;
     while v < sums.len() {
         let level = is_level(sums[v], top);
-        found = fill(found, none, level, h, v, winner, long, wide);
+        found = fill(found, none, level, h, v, winner, periods);
         v += 1;
     }
     found
 }
 
 // The first pair of a horizontal cell of sum ht and a vertical cell of sum vt, by horizontal then vertical position, that is not the winner.
-fn other_pair(
-    hs: &[i64],
-    ht: i64,
-    vs: &[i64],
-    vt: i64,
-    winner: usize,
-    long: usize,
-    wide: usize,
-) -> usize
-    requires { ⌜ Period long × Period wide × (length (now hs) ≡ 3 * long) × (length (now vs) ≡ 3 * wide) ⌝ }
-    ensures { λ r. ⌜ r ≡ otherPair (origins long wide) (length (now (vs .entry))) (level (now (hs .entry)) ht) (level (now (vs .entry)) vt) winner (length (now (hs .entry))) ⌝ }
+fn other_pair(hs: &[i64], ht: i64, vs: &[i64], vt: i64, winner: usize, periods: Periods) -> usize
+    requires { ⌜ Period (periods .h) × Period (periods .v) × (length (now hs) ≡ 3 * periods .h) × (length (now vs) ≡ 3 * periods .v) ⌝ }
+    ensures { λ r. ⌜ r ≡ otherPair (origins (periods .h) (periods .v)) (length (now (vs .entry))) (level (now (hs .entry)) ht) (level (now (vs .entry)) vt) winner (length (now (hs .entry))) ⌝ }
 {
-    let mut found: usize = 3 * long * (3 * wide);
+    let mut found: usize = 3 * periods.h * (3 * periods.v);
     let mut h: usize = 0;
     while h < hs.len() {
         if is_level(hs[h], ht) {
-            found = other_in(vs, vt, h, winner, found, long, wide);
+            found = other_in(vs, vt, h, winner, found, periods);
         }
         h += 1;
     }
@@ -137,32 +128,32 @@ fn other_pair(
 }
 
 // The better of the two pairs with one second-best cell, horizontal on a tie.
-fn next_pair(a: LevelMax, b: LevelMax, long: usize, wide: usize) -> usize
-    requires { ⌜ Period long × Period wide × LevelsOk long wide a b ⌝ }
-    ensures { λ r. ⌜ r ≡ nextPair (origins long wide) a b ⌝ }
+fn next_pair(a: LevelMax, b: LevelMax, periods: Periods) -> usize
+    requires { ⌜ Period (periods .h) × Period (periods .v) × LevelsOk (periods .h) (periods .v) a b ⌝ }
+    ensures { λ r. ⌜ r ≡ nextPair (origins (periods .h) (periods .v)) a b ⌝ }
 {
     let across = a.under + b.top;
     let down = a.top + b.under;
     if across < down {
-        return grid::origin::key_of(a.cell, b.second, long, wide);
+        return grid::origin::key_of(a.cell, b.second, periods);
     }
-    grid::origin::key_of(a.second, b.cell, long, wide)
+    grid::origin::key_of(a.second, b.cell, periods)
 }
 
 // The winner of a transform and its runner-up. Where one pair is alone at the top, it is the pair of the best cells, and no table is walked again.
-pub fn two_best(hs: &[i64], vs: &[i64], long: usize, wide: usize) -> TwoBest
-    requires { ⌜ Period long × Period wide × SumsOk long wide (now hs) (now vs) ⌝ }
-    ensures { λ r. ⌜ r ≡ twoOf (origins long wide) (now (hs .entry)) (now (vs .entry)) ⌝ }
+pub fn two_best(hs: &[i64], vs: &[i64], periods: Periods) -> TwoBest
+    requires { ⌜ Period (periods .h) × Period (periods .v) × SumsOk (periods .h) (periods .v) (now hs) (now vs) ⌝ }
+    ensures { λ r. ⌜ r ≡ twoOf (origins (periods .h) (periods .v)) (now (hs .entry)) (now (vs .entry)) ⌝ }
 {
     let a = level_max(hs);
     let b = level_max(vs);
     let pairs = a.level * b.level;
     if pairs > 1 {
-        let winner = row_major_first(hs, a.top, vs, b.top, long, wide);
-        let runner = other_pair(hs, a.top, vs, b.top, winner, long, wide);
+        let winner = row_major_first(hs, a.top, vs, b.top, periods);
+        let runner = other_pair(hs, a.top, vs, b.top, winner, periods);
         return TwoBest { winner, runner };
     }
-    let winner = grid::origin::key_of(a.cell, b.cell, long, wide);
-    let runner = next_pair(a, b, long, wide);
+    let winner = grid::origin::key_of(a.cell, b.cell, periods);
+    let runner = next_pair(a, b, periods);
     TwoBest { winner, runner }
 }

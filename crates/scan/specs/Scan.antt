@@ -75,7 +75,7 @@ runnerUp ss w (suc i) = stepped (runnerUp ss w i) (getD ss i noSummary) (eqb i w
 -- a scan whose kept candidate stands at one of its positions
 abbrev pub SoundKept : Kept → ℕ → Type 0
 SoundKept Nobody n = Unit {0}
-SoundKept (One c) n = c .listed < n
+SoundKept (One c) n = c .placing .listed < n
 
 -- and that has at most eight
 abbrev pub SoundScan : HardScan → Type 0
@@ -84,7 +84,7 @@ SoundScan h = (h .count ≤ 8) × SoundKept (h .best) (h .count)
 -- nothing where no candidate was kept, or the kept one with its runner-up
 abbrev pub chosenBy : HardScan → Kept → Choice
 chosenBy h Nobody = Nothing
-chosenBy h (One c) = Chosen c (runnerUp (h .summaries) (c .listed) (h .count))
+chosenBy h (One c) = Chosen c (runnerUp (h .summaries) (c .placing .listed) (h .count))
 
 -- what the scan comes to
 unfoldable pub chosen : HardScan → Choice

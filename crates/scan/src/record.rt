@@ -3,6 +3,7 @@ ghost use mathlib.Core.Path.{_≡_};
 ghost use Prim.Native.Nat.{_≤_, _<_};
 ghost use Rattle.scan.specs.Scan.{overLimit, takes, replaced, offeredWithin, emptyScan, pushed, stepped, runnerUp, SoundScan, chosen};
 ghost use Rattle.scan.specs.Lead.{leadOf, aheadOf};
+use crate::scan::Asked;
 use crate::scan::Candidate;
 use crate::scan::Choice;
 use crate::scan::HardScan;
@@ -72,12 +73,12 @@ pub fn offer(kept: Kept, c: Candidate) -> Kept
 }
 
 // The kept candidate after one more was offered that is first tested against the limit.
-pub fn offer_within(kept: Kept, c: Candidate, edges: u32, limit: f32) -> Kept
-    requires { ⌜ (c .hits ≤ edges) × (edges ≤ 8192) ⌝ }
-    ensures { λ r. ⌜ r ≡ offeredWithin edges limit kept c ⌝ }
+pub fn offer_within(kept: Kept, c: Candidate, asked: Asked) -> Kept
+    requires { ⌜ (c .hits ≤ asked .edges) × (asked .edges ≤ 8192) ⌝ }
+    ensures { λ r. ⌜ r ≡ offeredWithin (asked .edges) (asked .«error_limit») kept c ⌝ }
 {
     if takes_over(kept, c.hits, c.score) {
-        if over_limit(edges, c.hits, limit) {
+        if over_limit(asked.edges, c.hits, asked.error_limit) {
             return kept;
         }
         return Kept::One(c);
@@ -172,8 +173,8 @@ pub fn finish(scan: HardScan) -> Choice
     match kept {
         Kept::Nobody => Choice::Nothing,
         Kept::One(winner) => {
-            let listed = winner.listed;
-            let next = runner_up(scan, listed);
+            let placing = winner.placing;
+            let next = runner_up(scan, placing.listed);
             Choice::Chosen { winner, next }
         }
     }

@@ -1,4 +1,12 @@
-// What a selection keeps by value: a summary of each listed transform, the candidate and the runner-up.
+// What a selection is asked and what it keeps, by value: a summary of each listed transform, the candidate and the runner-up.
+use board::edge::Placing;
+
+// What a selection on one list is asked: how many edges it has, their total confidence, and the share of misses that a candidate may have.
+pub struct Asked {
+    pub edges: u32,
+    pub confidence: f32,
+    pub error_limit: f32,
+}
 
 // One transform: its most hits and best origin, the hits and origin of the runner-up inside it, and its number.
 pub struct TransformSummary {
@@ -11,14 +19,12 @@ pub struct TransformSummary {
     pub transform: u8,
 }
 
-// An origin at a place of the transform list, with its hits, its weight and its score.
+// A placing with its hits, its weight and its score.
 pub struct Candidate {
     pub hits: u32,
     pub score: f32,
     pub weight: f32,
-    pub row: u32,
-    pub col: u32,
-    pub listed: usize,
+    pub placing: Placing,
 }
 
 // What is kept of the candidates so far.

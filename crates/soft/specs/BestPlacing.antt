@@ -70,7 +70,7 @@ module _ (G : Grid) (n : ℕ) (S : ℕ → ℕ → ℤ) where
 -- ---- the choice
 -- a placing with its total, by row and column on a board of 3 M columns
 abbrev pub placed : ℕ → (ℕ → ℕ → ℤ) → ℕ → ℕ → SoftCandidate
-placed M S p k = record { listed = p; row = k / (3 * M); col = k % (3 * M); total = dequantised (S p k) }
+placed M S p k = record { placing = record { listed = p; row = k / (3 * M); col = k % (3 * M) }; total = dequantised (S p k) }
 
 -- the choice holds first place and second place, with their totals
 pub record BestTwo (L M n : ℕ) (S : ℕ → ℕ → ℤ) (choice : SoftChoice) : Type 0 where

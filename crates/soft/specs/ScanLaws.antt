@@ -39,7 +39,7 @@ withBoth s a b =
 module _ (L M : ℕ) where
   -- ---- a candidate from its parts
   pub candidate-made : (X : SumTables) (listed k : ℕ) (x : ℤ) (f : Float) → x ≡ sumAt (origins L M) (X .hs) (X .vs) k → f ≡ dequantised x
-      → _≡_ {A = SoftCandidate} (record { listed = listed; row = k / (3 * M); col = k % (3 * M); total = f }) (softCandidate L M X listed k)
+      → _≡_ {A = SoftCandidate} (record { placing = record { listed = listed; row = k / (3 * M); col = k % (3 * M) }; total = f }) (softCandidate L M X listed k)
   unfolding softCandidate
   candidate-made X listed k x f e d = rw (d, e)
 

@@ -33,8 +33,8 @@ roomSums L M a = sums (view 0 (3 * L) a) (view (3 * L) (3 * M) a)
 
 -- a room whose cells can be folded into the scan: both periods in range, all cells there, and their sums in range
 pub record RoomReady (L M : ℕ) (a : List ℤ) : Type 0 where
-  pub long : Period L
-  pub wide : Period M
+  pub h : Period L
+  pub v : Period M
   pub room : 3 * L + 3 * M ≤ length a
   pub sums : SumsOk L M (roomSums L M a .hs) (roomSums L M a .vs)
 
@@ -70,8 +70,8 @@ module _ (B : Board) (E : EdgeList) (X : Likelihoods) (ts : List ℕ) (a : List 
 
   pub room-ready : (t : ℕ) (a' a'' : List ℤ) → SumsReady B E X t a' → SumsBuilt B E X t a' a'' → RoomReady (periodOf B true) (periodOf B false) a''
   room-ready t a' a'' ready b = record {
-    long = period-h B (R .board);
-    wide = period-v B (R .board);
+    h = period-h B (R .board);
+    v = period-v B (R .board);
     room = omega (arith, ready .room, b .len);
     sums = subst (λ (Y : SumTables). SumsOk (periodOf B true) (periodOf B false) (Y .hs) (Y .vs)) (sym (built-sums t a' a'' ready b)) (sums-ok B E X t (R .list) (R .likelihoods));
   }

@@ -4,6 +4,8 @@ ghost use Prim.Native.Nat.{_≤_, _<_};
 ghost use Rattle.best.specs.CellTables.{Period};
 ghost use Rattle.pair.specs.Sums.{SumsOk, sums};
 ghost use Rattle.margin.specs.Scan.{yields, softCandidate, softEmpty, softOffered, softFolded};
+use board::edge::Placing;
+use laws::Periods;
 use margin::slots::Slot;
 use margin::slots::SoftCandidate;
 use margin::slots::SoftScan;
@@ -64,38 +66,37 @@ fn candidate_of(
     vs: &[i64],
     key: usize,
     listed: usize,
-    long: usize,
-    wide: usize,
+    periods: Periods,
 ) -> SoftCandidate
-    requires { ⌜ Period long × Period wide × SumsOk long wide (now hs) (now vs) × (key ≤ 2250000) ⌝ }
-    ensures { λ r. ⌜ r ≡ softCandidate long wide (sums (now (hs .entry)) (now (vs .entry))) listed key ⌝ }
+    requires { ⌜ Period (periods .h) × Period (periods .v) × SumsOk (periods .h) (periods .v) (now hs) (now vs) × (key ≤ 2250000) ⌝ }
+    ensures { λ r. ⌜ r ≡ softCandidate (periods .h) (periods .v) (sums (now (hs .entry)) (now (vs .entry))) listed key ⌝ }
 {
-    let row = key / (3 * wide);
-    let col = key % (3 * wide);
-    let h = (row % long) * 3 + col % 3;
-    let v = (row % 3) * wide + col % wide;
+    let row = key / (3 * periods.v);
+    let col = key % (3 * periods.v);
+    let h = (row % periods.h) * 3 + col % 3;
+    let v = (row % 3) * periods.v + col % periods.v;
     let sum = hs[h] + vs[v];
     let total = likelihood::dequantize_ll(sum);
     let r = row as u32;
     let c = col as u32;
-    SoftCandidate {
+    let placing = Placing {
         listed,
         row: r,
         col: c,
-        total,
-    }
+    };
+    SoftCandidate { placing, total }
 }
 
 // The transform at the next list position: its winner is offered, then its runner-up.
-pub fn fold_transform(scan: SoftScan, hs: &[i64], vs: &[i64], long: usize, wide: usize) -> SoftScan
-    requires { ⌜ Period long × Period wide × SumsOk long wide (now hs) (now vs) ⌝ }
+pub fn fold_transform(scan: SoftScan, hs: &[i64], vs: &[i64], periods: Periods) -> SoftScan
+    requires { ⌜ Period (periods .h) × Period (periods .v) × SumsOk (periods .h) (periods .v) (now hs) (now vs) ⌝ }
     requires { ⌜ scan .count < 8 ⌝ }
-    ensures { λ r. ⌜ r ≡ softFolded long wide (sums (now (hs .entry)) (now (vs .entry))) scan ⌝ }
+    ensures { λ r. ⌜ r ≡ softFolded (periods .h) (periods .v) (sums (now (hs .entry)) (now (vs .entry))) scan ⌝ }
 {
     let listed = scan.count;
-    let two = two_best(hs, vs, long, wide);
-    let winner = candidate_of(hs, vs, two.winner, listed, long, wide);
-    let runner = candidate_of(hs, vs, two.runner, listed, long, wide);
+    let two = two_best(hs, vs, periods);
+    let winner = candidate_of(hs, vs, two.winner, listed, periods);
+    let runner = candidate_of(hs, vs, two.runner, listed, periods);
     let one = offer(scan, winner);
     let both = offer(one, runner);
     let first = both.first;

@@ -7,17 +7,18 @@ ghost use Rattle.sums.specs.Sums.{likelihoods};
 ghost use Rattle.margin.specs.Scan.{softFolded};
 ghost use Rattle.soft.specs.Select.{SoftReady, SoftScanned};
 ghost use Rattle.soft.specs.SelectLaws.{roomSums, RoomReady};
+use laws::Periods;
 use margin::slots::SoftScan;
 
 // One transform's sums, where they were built in the room, folded into the scan.
-fn fold_room(scan: SoftScan, sums: &[i64], long: usize, wide: usize) -> SoftScan
-    requires { ⌜ RoomReady long wide (now sums) ⌝ }
+fn fold_room(scan: SoftScan, sums: &[i64], periods: Periods) -> SoftScan
+    requires { ⌜ RoomReady (periods .h) (periods .v) (now sums) ⌝ }
     requires { ⌜ scan .count < 8 ⌝ }
-    ensures { λ r. ⌜ r ≡ softFolded long wide (roomSums long wide (now (sums .entry))) scan ⌝ }
+    ensures { λ r. ⌜ r ≡ softFolded (periods .h) (periods .v) (roomSums (periods .h) (periods .v) (now (sums .entry))) scan ⌝ }
 {
-    let a = 3 * long;
-    let e = a + 3 * wide;
-    crate::record::fold_transform(scan, &sums[0..a], &sums[a..e], long, wide)
+    let a = 3 * periods.h;
+    let e = a + 3 * periods.v;
+    crate::record::fold_transform(scan, &sums[0..a], &sums[a..e], periods)
 }
 
 // The scan of a list over all its transforms, in order: the sums are built anew for each.
@@ -37,6 +38,10 @@ pub fn scan_transforms<'a>(
     requires { ⌜ SoftReady (tables (now h) (now v)) (edges (now rows) (now cols) (now orientations) (now bits) (now confidences)) (likelihoods (now matches) (now mismatches)) (now transforms) (now sums) ⌝ }
     ensures { λ r. ⌜ SoftScanned (tables (now (h .entry)) (now (v .entry))) (edges (now (rows .entry)) (now (cols .entry)) (now (orientations .entry)) (now (bits .entry)) (now (confidences .entry))) (likelihoods (now (matches .entry)) (now (mismatches .entry))) (now (transforms .entry)) (length (now (transforms .entry))) (now (sums .entry)) (now (sums .exit)) r ⌝ }
 {
+    let periods = Periods {
+        h: h.len(),
+        v: v.len(),
+    };
     let mut scan = crate::record::empty();
     for i in 0..transforms.len() {
         let t = transforms[i];
@@ -53,7 +58,7 @@ pub fn scan_transforms<'a>(
             v,
             sums,
         );
-        scan = fold_room(scan, sums, h.len(), v.len());
+        scan = fold_room(scan, sums, periods);
     }
     scan
 }

@@ -12,10 +12,10 @@ use Rattle.direct.proofs.direct.scan_direct.Statement.{statement}
 use Rattle.direct.proofs.direct.scan_direct.Tie as tie
 
 abbrev Inv-loop : tie.InvT-loop
-Inv-loop hc hw vc vw long wide edges conf limit listed kept₀ ha₀ va₀ row₀ kept ha va row = (row ≤ 3 * long) × (ha ≡ row % long) × (va ≡ row % 3) × (kept ≡ tried long wide edges conf limit listed (cells hc hw vc vw) 0 kept₀ (row * (3 * wide)))
+Inv-loop hc hw vc vw periods asked listed kept₀ ha₀ va₀ row₀ kept ha va row = (row ≤ 3 * periods .h) × (ha ≡ row % periods .h) × (va ≡ row % 3) × (kept ≡ tried (periods .h) (periods .v) (asked .edges) (asked .confidence) (asked .«error_limit») listed (cells hc hw vc vw) 0 kept₀ (row * (3 * periods .v)))
 
 abbrev μ-loop : tie.MeasureT-loop
-μ-loop hc hw vc vw long wide edges conf limit listed kept₀ ha₀ va₀ row₀ kept ha va row = length hc - row
+μ-loop hc hw vc vw periods asked listed kept₀ ha₀ va₀ row₀ kept ha va row = length hc - row
 
 loop-holds : tie.Need-loop-holds Inv-loop μ-loop
 loop-holds c = (omega arith, sym (mod-eq-of-lt (omega (arith, c .before .before .before .before .pre .0 .more))), refl, tried-none _ _ _ _ _ _ _ _)
@@ -46,8 +46,8 @@ loop-again c =
 
 returns : tie.Need-returns Inv-loop μ-loop
 returns c =
-    let e : c .before .loop .row ≡ 3 * c .before .before .before .before .before .before .args .long = omega (arith, c .before .before .before .before .before .before .pre .2 .hcs) in
-    c .before .loop .inv .3 ∙ ap (tried _ _ _ _ _ _ _ _ _) (ap (λ (r : ℕ). r * (3 * c .before .before .before .before .before .before .args .wide)) e)
+    let e : c .before .loop .row ≡ 3 * c .before .before .before .before .before .before .args .periods .h = omega (arith, c .before .before .before .before .before .before .pre .2 .hcs) in
+    c .before .loop .inv .3 ∙ ap (tried _ _ _ _ _ _ _ _ _) (ap (λ (r : ℕ). r * (3 * c .before .before .before .before .before .before .args .periods .v)) e)
 
 pub scan-direct-spec : {M : Type 1} → statement M
 scan-direct-spec =

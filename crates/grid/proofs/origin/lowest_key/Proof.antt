@@ -14,19 +14,19 @@ use Rattle.grid.proofs.origin.lowest_key.Statement.{statement}
 use Rattle.grid.proofs.origin.lowest_key.Tie as tie
 
 abbrev Inv-loop : tie.InvT-loop
-Inv-loop counts weights top heavy h start long wide best₀ v₀ best v = (v ≤ length counts) × (best ≡ lowest (optimal counts weights top heavy) (origins long wide .key h) start v)
+Inv-loop counts weights top heavy h start periods best₀ v₀ best v = (v ≤ length counts) × (best ≡ lowest (optimal counts weights top heavy) (origins (periods .h) (periods .v) .key h) start v)
 
 abbrev μ-loop : tie.MeasureT-loop
-μ-loop counts weights top heavy h start long wide best₀ v₀ best v = length counts - v
+μ-loop counts weights top heavy h start periods best₀ v₀ best v = length counts - v
 
 mul-if1 : tie.Need-mul-if1 Inv-loop μ-loop
 mul-if1 c = search needs
 
 mul-if1-2 : tie.Need-mul-if1-2 Inv-loop μ-loop
-mul-if1-2 c = record { fits = omega (arith, mul-le-mul {n₁ = c .before .before .args .h / 3} {m₁ = 3 * c .before .before .args .wide} {n₂ = 500} {m₂ = 1500} (omega (arith, c .before .before .pre .0 .2, c .before .before .pre .0 .0 .few)) (omega (arith, c .before .before .pre .0 .1 .few))) }
+mul-if1-2 c = record { fits = omega (arith, mul-le-mul {n₁ = c .before .before .before .args .h / 3} {m₁ = 3 * c .before .before .before .args .periods .v} {n₂ = 500} {m₂ = 1500} (omega (arith, c .before .before .before .pre .0 .2, c .before .before .before .pre .0 .0 .few)) (omega (arith, c .before .before .before .pre .0 .1 .few))) }
 
 returns : tie.Need-returns Inv-loop μ-loop
-returns c = let s = c .before .before .before in floor-stays (s .args .long) (s .args .wide) _ (s .args .h) (s .args .start) _ (s .pre .0 .0) (s .pre .0 .2) (c .if1 .taken)
+returns c = let s = c .before .before .before .before in floor-stays (s .args .periods .h) (s .args .periods .v) _ (s .args .h) (s .args .start) _ (s .pre .0 .0) (s .pre .0 .2) (c .if1 .taken)
 
 loop-holds : tie.Need-loop-holds Inv-loop μ-loop
 unfolding lowest
@@ -67,7 +67,7 @@ loop-again c =
     (c .if2 .came)
 
 returns-2 : tie.Need-returns-2 Inv-loop μ-loop
-returns-2 c = let e : c .before .loop .v ≡ length (c .before .before .before .before .before .args .counts .now) = omega arith in rw (← e) (c .before .loop .inv .1)
+returns-2 c = let e : c .before .loop .v ≡ length (c .before .before .before .before .before .before .args .counts .now) = omega arith in rw (← e) (c .before .loop .inv .1)
 
 pub lowest-key-spec : {M : Type 1} → statement M
 lowest-key-spec =

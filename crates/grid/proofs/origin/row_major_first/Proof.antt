@@ -13,10 +13,10 @@ use Rattle.grid.proofs.origin.row_major_first.Statement.{statement}
 use Rattle.grid.proofs.origin.row_major_first.Tie as tie
 
 abbrev Inv-loop : tie.InvT-loop
-Inv-loop hc hw ht hh vc vw vt vh long wide best₀ h₀ best h = (h ≤ length hc) × (best ≡ rowMajor (origins long wide) (length vc) (optimal hc hw ht hh) (optimal vc vw vt vh) h)
+Inv-loop hc hw ht hh vc vw vt vh periods best₀ h₀ best h = (h ≤ length hc) × (best ≡ rowMajor (origins (periods .h) (periods .v)) (length vc) (optimal hc hw ht hh) (optimal vc vw vt vh) h)
 
 abbrev μ-loop : tie.MeasureT-loop
-μ-loop hc hw ht hh vc vw vt vh long wide best₀ h₀ best h = length hc - h
+μ-loop hc hw ht hh vc vw vt vh periods best₀ h₀ best h = length hc - h
 
 mul-best : tie.Need-mul-best Inv-loop μ-loop
 mul-best c = search needs
@@ -26,8 +26,8 @@ mul-best-2 c = search needs
 
 mul-best-3 : tie.Need-mul-best-3 Inv-loop μ-loop
 mul-best-3 c =
-    let s = c .before .before .before .before in
-    record { fits = omega (arith, mul-le-mul {n₁ = 3 * s .args .long} {m₁ = 3 * s .args .wide} {n₂ = 1500} {m₂ = 1500} (omega (arith, s .pre .0 .0 .few)) (omega (arith, s .pre .0 .1 .few))) }
+    let s = c .before .before .before .before .before .before in
+    record { fits = omega (arith, mul-le-mul {n₁ = 3 * s .args .periods .h} {m₁ = 3 * s .args .periods .v} {n₂ = 1500} {m₂ = 1500} (omega (arith, s .pre .0 .0 .few)) (omega (arith, s .pre .0 .1 .few))) }
 
 loop-holds : tie.Need-loop-holds Inv-loop μ-loop
 unfolding rowMajor
@@ -67,7 +67,7 @@ loop-again c =
 
 returns : tie.Need-returns Inv-loop μ-loop
 returns c =
-    let e : c .before .loop .h ≡ length (c .before .before .before .before .before .before .args .hc .now) = omega arith in
+    let e : c .before .loop .h ≡ length (c .before .before .before .before .before .before .before .before .args .hc .now) = omega arith in
     rw (← e) (c .before .loop .inv .1)
 
 pub row-major-first-spec : {M : Type 1} → statement M

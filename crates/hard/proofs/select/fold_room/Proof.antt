@@ -72,16 +72,16 @@ part-fold-tables-end-4 c = search needs
 
 fold-tables-requires : tie.Need-fold-tables-requires
 fold-tables-requires c κs =
-    let s = c .before .before .before .before .before .before in
+    let s = c .before .before .before .before .before .before .before .before in
     let p = s .pre .0 in
     let a = s .args in
-    ((p .long, p .wide, subst (λ (X : CellTables). TablesOk (a .long) (a .wide) (a .edges) X) (sym (parts (a .long) (a .wide) (a .counts .now) (a .weights .now))) (p .tables)), s .pre .1)
+    ((p .h, p .v, subst (λ (X : CellTables). TablesOk (a .periods .h) (a .periods .v) (a .asked .edges) X) (sym (parts (a .periods .h) (a .periods .v) (a .counts .now) (a .weights .now))) (p .tables)), s .pre .1)
 
 returns : tie.Need-returns
 returns c =
-    let s = c .before .before .before .before .before .before .before in
+    let s = c .before .before .before .before .before .before .before .before .before in
     let a = s .args in
-    c .fold-tables .ensures ∙ ap (λ (X : CellTables). foldTransform (a .long) (a .wide) (a .edges) (a .conf) (a .limit) (a .transform) X (a .scan)) (parts (a .long) (a .wide) (a .counts .now) (a .weights .now))
+    c .fold-tables .ensures ∙ ap (λ (X : CellTables). foldTransform (a .periods .h) (a .periods .v) (a .asked .edges) (a .asked .confidence) (a .asked .«error_limit») (a .transform) X (a .scan)) (parts (a .periods .h) (a .periods .v) (a .counts .now) (a .weights .now))
 
 pub fold-room-spec : {M : Type 1} → statement M
 fold-room-spec =

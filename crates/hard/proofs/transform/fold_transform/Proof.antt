@@ -13,8 +13,8 @@ lex-max-requires-2 c κs = v-table _ _ (c .before .before .before .before .befor
 best-origin-requires : tie.Need-best-origin-requires
 best-origin-requires c κs = (c .before .before .before .before .before .before .pre .0 .0, c .before .before .before .before .before .before .pre .0 .1, said-pair _ _ (c .before .before .before .before .before .before .pre .0 .0) (c .before .before .before .before .before .before .pre .0 .1) _ _ (c .before .before .before .before .before .before .pre .0 .2) _ _ (c .before .lex-max .ensures) (c .lex-max2 .ensures))
 
-add-t21 : tie.Need-add-t21
-add-t21 c = record { fits = omega (arith, said-ok _ _ (c .before .before .before .before .before .before .before .before .before .pre .0 .0) (c .before .before .before .before .before .before .before .before .before .pre .0 .1) _ _ (c .before .before .before .before .before .before .before .before .before .pre .0 .2) _ _ _ (c .before .before .before .before .lex-max .ensures) (c .before .before .before .lex-max2 .ensures) (c .before .before .best-origin .ensures) .best .top) }
+add-hits : tie.Need-add-hits
+add-hits c = record { fits = omega (arith, said-ok _ _ (c .before .before .before .before .before .before .before .before .before .pre .0 .0) (c .before .before .before .before .before .before .before .before .before .pre .0 .1) _ _ (c .before .before .before .before .before .before .before .before .before .pre .0 .2) _ _ _ (c .before .before .before .before .lex-max .ensures) (c .before .before .before .lex-max2 .ensures) (c .before .before .best-origin .ensures) .best .top) }
 
 next-origin-requires : tie.Need-next-origin-requires
 next-origin-requires c κs = (c .before .before .before .before .before .before .before .before .before .pre .0 .0, c .before .before .before .before .before .before .before .before .before .pre .0 .1, said-ok _ _ (c .before .before .before .before .before .before .before .before .before .pre .0 .0) (c .before .before .before .before .before .before .before .before .before .pre .0 .1) _ _ (c .before .before .before .before .before .before .before .before .before .pre .0 .2) _ _ _ (c .before .before .before .before .lex-max .ensures) (c .before .before .before .lex-max2 .ensures) (c .before .before .best-origin .ensures) .best)
@@ -44,7 +44,7 @@ fold-transform-spec =
     lex-max-requires
     lex-max-requires-2
     best-origin-requires
-    add-t21
+    add-hits
     next-origin-requires
     summary-requires
     offer-transform-requires

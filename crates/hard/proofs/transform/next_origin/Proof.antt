@@ -9,8 +9,8 @@ use Rattle.hard.proofs.transform.next_origin.Tie as tie
 mul-if1 : tie.Need-mul-if1
 mul-if1 c = record { fits = omega (arith, mul-le-mul (c .before .before .pre .2 .h-level) (c .before .before .pre .2 .v-level)) }
 
-add-t12 : tie.Need-add-t12
-add-t12 c = search needs
+add-hits : tie.Need-add-hits
+add-hits c = search needs
 
 returns : tie.Need-returns
 unfolding nextOrigin
@@ -41,7 +41,7 @@ next-origin-spec =
     tie.close
     (tie.spec
     mul-if1
-    add-t12
+    add-hits
     returns
     add-across
     add-down

@@ -26,25 +26,25 @@ returns-2 : tie.Need-returns-2
 returns-2 c = c .scan-direct .ensures ∙ sym (by-direct _ _ _ _ _ _ _ _ _ _ _ (sym (c .before .before .before .before .before .over-limit .ensures) ∙ c .before .before .before .before .if1 .left) (c .before .if2 .taken))
 
 mul-columns : tie.Need-mul-columns
-mul-columns c = record { fits = omega (arith, c .before .before .before .before .before .before .before .before .before .before .before .before .before .pre .0 .1 .few) }
+mul-columns c = record { fits = omega (arith, c .before .before .before .before .before .before .before .before .before .before .before .before .before .before .before .pre .0 .1 .few) }
 
 div-row : tie.Need-div-row
-div-row c = omega (arith, c .before .before .before .before .before .before .before .before .before .before .before .before .before .pre .0 .1 .more)
+div-row c = omega (arith, c .before .before .before .before .before .before .before .before .before .before .before .before .before .before .before .pre .0 .1 .more)
 
 cast-row : tie.Need-cast-row
-cast-row c = record { fits = omega (arith, div-le-self (c .before .before .before .before .before .before .before .before .before .before .before .before .before .args .key) (3 * c .before .before .before .before .before .before .before .before .before .before .before .before .before .args .wide), c .before .before .before .before .before .before .before .before .before .before .before .before .before .pre .1 .2) }
+cast-row c = record { fits = omega (arith, div-le-self (c .before .before .before .before .before .before .before .before .before .before .before .before .before .before .before .args .key) (3 * c .before .before .before .before .before .before .before .before .before .before .before .before .before .before .before .args .periods .v), c .before .before .before .before .before .before .before .before .before .before .before .before .before .before .before .pre .1 .2) }
 
 rem-col : tie.Need-rem-col
-rem-col c = omega (arith, c .before .before .before .before .before .before .before .before .before .before .before .before .before .pre .0 .1 .more)
+rem-col c = omega (arith, c .before .before .before .before .before .before .before .before .before .before .before .before .before .before .before .pre .0 .1 .more)
 
 cast-col : tie.Need-cast-col
-cast-col c = record { fits = omega (arith, mod-le (c .before .before .before .before .before .before .before .before .before .before .before .before .before .args .key) (3 * c .before .before .before .before .before .before .before .before .before .before .before .before .before .args .wide), c .before .before .before .before .before .before .before .before .before .before .before .before .before .pre .1 .2) }
+cast-col c = record { fits = omega (arith, mod-le (c .before .before .before .before .before .before .before .before .before .before .before .before .before .before .before .args .key) (3 * c .before .before .before .before .before .before .before .before .before .before .before .before .before .before .before .args .periods .v), c .before .before .before .before .before .before .before .before .before .before .before .before .before .before .before .pre .1 .2) }
 
 offer-requires : tie.Need-offer-requires
 offer-requires c κs = search needs
 
 returns-3 : tie.Need-returns-3
-returns-3 c = c .offer .ensures ∙ sym (by-best _ _ _ _ _ _ _ _ _ _ _ (sym (c .before .before .before .before .before .before .before .over-limit .ensures) ∙ c .before .before .before .before .before .before .if1 .left) (c .before .before .before .if2 .left))
+returns-3 c = c .offer .ensures ∙ sym (by-best _ _ _ _ _ _ _ _ _ _ _ (sym (c .before .before .before .before .before .before .before .before .before .over-limit .ensures) ∙ c .before .before .before .before .before .before .before .before .if1 .left) (c .before .before .before .before .before .if2 .left))
 
 pub offer-transform-spec : {M : Type 1} → statement M
 offer-transform-spec =

@@ -18,19 +18,19 @@ use Rattle.pair.proofs.pair.lowest_key.Statement.{statement}
 use Rattle.pair.proofs.pair.lowest_key.Tie as tie
 
 abbrev Inv-loop : tie.InvT-loop
-Inv-loop sums top h start long wide best₀ v₀ best v = (v ≤ length sums) × (best ≡ lowest (level sums (toZ w64 top)) (origins long wide .key h) start v)
+Inv-loop sums top h start periods best₀ v₀ best v = (v ≤ length sums) × (best ≡ lowest (level sums (toZ w64 top)) (origins (periods .h) (periods .v) .key h) start v)
 
 abbrev μ-loop : tie.MeasureT-loop
-μ-loop sums top h start long wide best₀ v₀ best v = length sums - v
+μ-loop sums top h start periods best₀ v₀ best v = length sums - v
 
 mul-if1 : tie.Need-mul-if1 Inv-loop μ-loop
 mul-if1 c = search needs
 
 mul-if1-2 : tie.Need-mul-if1-2 Inv-loop μ-loop
-mul-if1-2 c = record { fits = omega (arith, mul-le-mul {n₁ = c .args .h / 3} {m₁ = 3 * c .args .wide} {n₂ = 500} {m₂ = 1500} (omega (arith, c .pre .3, c .pre .0 .few)) (omega (arith, c .pre .1 .few))) }
+mul-if1-2 c = record { fits = omega (arith, mul-le-mul {n₁ = c .before .args .h / 3} {m₁ = 3 * c .before .args .periods .v} {n₂ = 500} {m₂ = 1500} (omega (arith, c .before .pre .3, c .before .pre .0 .few)) (omega (arith, c .before .pre .1 .few))) }
 
 returns : tie.Need-returns Inv-loop μ-loop
-returns c = let s = c .before in floor-stays (s .args .long) (s .args .wide) _ (s .args .h) (s .args .start) _ (s .pre .0) (s .pre .3) (c .if1 .taken)
+returns c = let s = c .before .before in floor-stays (s .args .periods .h) (s .args .periods .v) _ (s .args .h) (s .args .start) _ (s .pre .0) (s .pre .3) (c .if1 .taken)
 
 loop-holds : tie.Need-loop-holds Inv-loop μ-loop
 unfolding lowest
@@ -57,7 +57,7 @@ loop-less c = search needs
 loop-again : tie.Need-loop-again Inv-loop μ-loop
 loop-again c =
     let at = c .before .before .before .before in
-    let said = read-eq (sAt (at .before .before .args .sums .now) (at .loop .v)) (toZ w64 (ofZ w64 (at .before .before .args .top))) (c .before .is-level .result) (c .before .before .is-level-arg .given) (c .before .is-level .ensures) in
+    let said = read-eq (sAt (at .before .before .before .args .sums .now) (at .loop .v)) (toZ w64 (ofZ w64 (at .before .before .before .args .top))) (c .before .is-level .result) (c .before .before .is-level-arg .given) (c .before .is-level .ensures) in
     ⊎-elim
     (λ w. (omega arith, w .3 ∙ w .1 .ensures ∙ lowest-new _ _ _ _ _ (at .loop .inv .1) (sym said ∙ w .0 .taken) (rw (w .1 .ensures) at (w .2 .taken))))
     (⊎-elim
@@ -67,8 +67,8 @@ loop-again c =
 
 returns-2 : tie.Need-returns-2 Inv-loop μ-loop
 returns-2 c =
-    let e : c .before .loop .v ≡ length (c .before .before .before .args .sums .now) = omega arith in
-    rw (← e) (rw (toZ-ofZ (c .before .before .before .fits .top)) at (c .before .loop .inv .1))
+    let e : c .before .loop .v ≡ length (c .before .before .before .before .args .sums .now) = omega arith in
+    rw (← e) (rw (toZ-ofZ (c .before .before .before .before .fits .top)) at (c .before .loop .inv .1))
 
 pub lowest-key-spec : {M : Type 1} → statement M
 lowest-key-spec =

@@ -16,10 +16,10 @@ use Rattle.pair.proofs.pair.other_in.Statement.{statement}
 use Rattle.pair.proofs.pair.other_in.Tie as tie
 
 abbrev Inv-loop : tie.InvT-loop
-Inv-loop sums top h winner start long wide none found₀ v₀ found v = (v ≤ length sums) × (found ≡ otherIn (origins long wide) (level sums (toZ w64 top)) h winner start v)
+Inv-loop sums top h winner start periods none found₀ v₀ found v = (v ≤ length sums) × (found ≡ otherIn (origins (periods .h) (periods .v)) (level sums (toZ w64 top)) h winner start v)
 
 abbrev μ-loop : tie.MeasureT-loop
-μ-loop sums top h winner start long wide none found₀ v₀ found v = length sums - v
+μ-loop sums top h winner start periods none found₀ v₀ found v = length sums - v
 
 mul-none : tie.Need-mul-none Inv-loop μ-loop
 mul-none c = search needs
@@ -28,7 +28,7 @@ mul-none-2 : tie.Need-mul-none-2 Inv-loop μ-loop
 mul-none-2 c = search needs
 
 mul-none-3 : tie.Need-mul-none-3 Inv-loop μ-loop
-mul-none-3 c = record { fits = omega (arith, none-small _ _ (c .pre .0) (c .pre .1)) }
+mul-none-3 c = record { fits = omega (arith, none-small _ _ (c .before .before .pre .0) (c .before .before .pre .1)) }
 
 returns : tie.Need-returns Inv-loop μ-loop
 returns c = other-kept _ _ _ _ _ _ (c .if1 .taken)
@@ -58,13 +58,13 @@ loop-less c = search needs
 loop-again : tie.Need-loop-again Inv-loop μ-loop
 loop-again c =
     let at = c .before .before .before .before in
-    let said = read-eq (sAt (at .before .before .args .sums .now) (at .loop .v)) (toZ w64 (ofZ w64 (at .before .before .args .top))) (c .before .is-level .result) (c .before .before .is-level-arg .given) (c .before .is-level .ensures) in
+    let said = read-eq (sAt (at .before .before .before .before .args .sums .now) (at .loop .v)) (toZ w64 (ofZ w64 (at .before .before .before .before .args .top))) (c .before .is-level .result) (c .before .before .is-level-arg .given) (c .before .is-level .ensures) in
     (omega arith, c .fill .ensures ∙ rw said (other-step _ _ _ _ _ _ _ (at .loop .inv .1)))
 
 returns-2 : tie.Need-returns-2 Inv-loop μ-loop
 returns-2 c =
-    let e : c .before .loop .v ≡ length (c .before .before .before .args .sums .now) = omega arith in
-    rw (← e) (rw (toZ-ofZ (c .before .before .before .fits .top)) at (c .before .loop .inv .1))
+    let e : c .before .loop .v ≡ length (c .before .before .before .before .before .args .sums .now) = omega arith in
+    rw (← e) (rw (toZ-ofZ (c .before .before .before .before .before .fits .top)) at (c .before .loop .inv .1))
 
 pub other-in-spec : {M : Type 1} → statement M
 other-in-spec =

@@ -17,10 +17,10 @@ use Rattle.pair.proofs.pair.other_pair.Statement.{statement}
 use Rattle.pair.proofs.pair.other_pair.Tie as tie
 
 abbrev Inv-loop : tie.InvT-loop
-Inv-loop hs ht vs vt winner long wide found₀ h₀ found h = (h ≤ length hs) × (found ≡ otherPair (origins long wide) (length vs) (level hs (toZ w64 ht)) (level vs (toZ w64 vt)) winner h)
+Inv-loop hs ht vs vt winner periods found₀ h₀ found h = (h ≤ length hs) × (found ≡ otherPair (origins (periods .h) (periods .v)) (length vs) (level hs (toZ w64 ht)) (level vs (toZ w64 vt)) winner h)
 
 abbrev μ-loop : tie.MeasureT-loop
-μ-loop hs ht vs vt winner long wide found₀ h₀ found h = length hs - h
+μ-loop hs ht vs vt winner periods found₀ h₀ found h = length hs - h
 
 mul-found : tie.Need-mul-found Inv-loop μ-loop
 mul-found c = search needs
@@ -29,7 +29,7 @@ mul-found-2 : tie.Need-mul-found-2 Inv-loop μ-loop
 mul-found-2 c = search needs
 
 mul-found-3 : tie.Need-mul-found-3 Inv-loop μ-loop
-mul-found-3 c = record { fits = omega (arith, none-small _ _ (c .pre .0) (c .pre .1)) }
+mul-found-3 c = record { fits = omega (arith, none-small _ _ (c .before .before .pre .0) (c .before .before .pre .1)) }
 
 loop-holds : tie.Need-loop-holds Inv-loop μ-loop
 unfolding otherPair
@@ -56,7 +56,7 @@ loop-less c = search needs
 loop-again : tie.Need-loop-again Inv-loop μ-loop
 loop-again c =
     let at = c .before .before .before .before in
-    let said = read-eq (sAt (at .before .args .hs .now) (at .loop .h)) (toZ w64 (ofZ w64 (at .before .args .ht))) (c .before .is-level .result) (c .before .before .is-level-arg .given) (c .before .is-level .ensures) in
+    let said = read-eq (sAt (at .before .before .before .args .hs .now) (at .loop .h)) (toZ w64 (ofZ w64 (at .before .before .before .args .ht))) (c .before .is-level .result) (c .before .before .is-level-arg .given) (c .before .is-level .ensures) in
     ⊎-elim
     (λ w. (omega arith, w .2 ∙ w .1 .ensures ∙ pair-yes _ _ _ _ _ _ _ (at .loop .inv .1) (sym said ∙ w .0 .taken)))
     (λ w. (omega arith, w .1 ∙ pair-no _ _ _ _ _ _ _ (at .loop .inv .1) (sym said ∙ w .0 .left)))
@@ -64,8 +64,8 @@ loop-again c =
 
 returns : tie.Need-returns Inv-loop μ-loop
 returns c =
-    let e : c .before .loop .h ≡ length (c .before .before .args .hs .now) = omega arith in
-    rw (← e, ← toZ-ofZ (c .before .before .fits .ht), ← toZ-ofZ (c .before .before .fits .vt)) (c .before .loop .inv .1)
+    let e : c .before .loop .h ≡ length (c .before .before .before .before .args .hs .now) = omega arith in
+    rw (← e, ← toZ-ofZ (c .before .before .before .before .fits .ht), ← toZ-ofZ (c .before .before .before .before .fits .vt)) (c .before .loop .inv .1)
 
 pub other-pair-spec : {M : Type 1} → statement M
 other-pair-spec =

@@ -51,15 +51,15 @@ part-fold-transform-end-2 c = search needs
 
 fold-transform-requires : tie.Need-fold-transform-requires
 fold-transform-requires c κs =
-    let s = c .before .before in
+    let s = c .before .before .before .before in
     let p = s .pre .0 in
     let a = s .args in
-    ((p .long, p .wide, subst (λ (X : SumTables). SumsOk (a .long) (a .wide) (X .hs) (X .vs)) (sym (parts (a .long) (a .wide) (a .sums .now))) (p .sums)), s .pre .1)
+    ((p .h, p .v, subst (λ (X : SumTables). SumsOk (a .periods .h) (a .periods .v) (X .hs) (X .vs)) (sym (parts (a .periods .h) (a .periods .v) (a .sums .now))) (p .sums)), s .pre .1)
 
 returns : tie.Need-returns
 returns c =
-    let a = c .before .before .before .args in
-    c .fold-transform .ensures ∙ ap (λ (X : SumTables). softFolded (a .long) (a .wide) X (a .scan)) (parts (a .long) (a .wide) (a .sums .now))
+    let a = c .before .before .before .before .before .args in
+    c .fold-transform .ensures ∙ ap (λ (X : SumTables). softFolded (a .periods .h) (a .periods .v) X (a .scan)) (parts (a .periods .h) (a .periods .v) (a .sums .now))
 
 pub fold-room-spec : {M : Type 1} → statement M
 fold-room-spec =

@@ -13,11 +13,11 @@ use Rattle.soft.proofs.select.scan_transforms.Statement.{statement}
 use Rattle.soft.proofs.select.scan_transforms.Tie as tie
 
 abbrev Inv-loop : tie.InvT-loop
-Inv-loop rows cols orientations bits confidences matches mismatches transforms h v sums₀ scan₀ i₀ i-end sums scan i =
+Inv-loop rows cols orientations bits confidences matches mismatches transforms h v sums₀ periods scan₀ i₀ i-end sums scan i =
     (i ≤ length transforms) × SoftScanned (tables h v) (edges rows cols orientations bits confidences) (likelihoods matches mismatches) transforms i sums₀ sums scan
 
 abbrev μ-loop : tie.MeasureT-loop
-μ-loop rows cols orientations bits confidences matches mismatches transforms h v sums₀ scan₀ i₀ i-end sums scan i =
+μ-loop rows cols orientations bits confidences matches mismatches transforms h v sums₀ periods scan₀ i₀ i-end sums scan i =
     i-end - i
 
 empty-requires : tie.Need-empty-requires Inv-loop μ-loop

@@ -150,7 +150,7 @@ hard-zero-found call c c' w w' r h e =
 -- ---- soft decode
 verdict-numbered : (t : ℕ) (first : SoftCandidate) (s : ℕ) (w : Candidate) (next : RunnerUp) (edges : ℕ) → Numbered (softVerdict t first s w next edges)
 unfolding softVerdict
-verdict-numbered t first s w next edges r h z = go (eqb t s && (eqb (first .row) (w .row) && eqb (first .col) (w .col))) (passed edges (w .hits) (next .hits)) h
+verdict-numbered t first s w next edges r h z = go (eqb t s && (eqb (first .placing .row) (w .placing .row) && eqb (first .placing .col) (w .placing .col))) (passed edges (w .hits) (next .hits)) h
   where
     go : (a b : Bool) → cond a (cond b admission.Accepted (admission.Refused (numbered why.notFarAhead))) (admission.Refused (numbered why.softHardDisagree)) ≡ admission.Refused r → ⊥
     go true true e = not-accepted r e
@@ -162,8 +162,8 @@ unfolding softJudged
 tells-hard-too call best true c = tells-refused _ (λ z. omega arith)
 tells-hard-too call best false choice.Nothing = tells-refused _ (λ z. omega arith)
 tells-hard-too call best false (choice.Chosen w next) =
-    let t = getD (call .transforms) (best .first .listed) 0 in
-    tells-or (softVerdict t (best .first) (getD (call .transforms) (w .listed) 0) w next (size (call .logical))) (Found (softDecodedOf t best (fitOf (call .board) (call .physical) t (best .first .row) (best .first .col)) (size (call .physical)) next)) (verdict-numbered t (best .first) (getD (call .transforms) (w .listed) 0) w next (size (call .logical))) (tells-found _)
+    let t = getD (call .transforms) (best .first .placing .listed) 0 in
+    tells-or (softVerdict t (best .first) (getD (call .transforms) (w .placing .listed) 0) w next (size (call .logical))) (Found (softDecodedOf t best (fitOf (call .board) (call .physical) t (best .first .placing .row) (best .first .placing .col)) (size (call .physical)) next)) (verdict-numbered t (best .first) (getD (call .transforms) (w .placing .listed) 0) w next (size (call .logical))) (tells-found _)
 
 tells-after-soft : (call : HardCall) (least : Float) (c : SoftChoice) → Tells (afterSoft call least c)
 unfolding selection

@@ -54,9 +54,9 @@ pub record AgreesPhysical (B : Board) (E : EdgeList) (ts : List ℕ) (P : Placin
   pub winner : Candidate
   pub next : RunnerUp
   pub chosen : selection B E ts oneF ≡ Selected winner next
-  pub transform : getD ts (winner .listed) 0 ≡ getD ts (P .listed) 0
-  pub row : winner .row ≡ P .row
-  pub col : winner .col ≡ P .col
+  pub transform : getD ts (winner .placing .listed) 0 ≡ getD ts (P .listed) 0
+  pub row : winner .placing .row ≡ P .row
+  pub col : winner .placing .col ≡ P .col
 
 -- what a found answer says of the placing P and the runner-up Q on the list E
 pub record Tells (B : Board) (E : EdgeList) (ts : List ℕ) (d : Decoded) (P Q : Placing) : Type 0 where

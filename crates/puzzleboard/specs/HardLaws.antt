@@ -81,11 +81,11 @@ module _ (call : HardCall) (c : List ℕ) (w : List Float) (A : HardAccepted cal
   ready-physical c' w' e d = ready (call .board) (call .physical) (call .transforms) c' w' (A .physical) (A .some-physical) (A .board) (A .transforms) (le-trans (A .room .0) (le-of-eq (sym e))) (le-trans (A .room .1) (le-of-eq (sym d)))
 
   -- ---- what the winners are known for
-  pub logical-winner : (r : Selection) (x : Candidate) (next : RunnerUp) → r ≡ selection (call .board) (call .logical) (call .transforms) (call .error-limit) → r ≡ sel.Selected x next → (x .listed < length (call .transforms)) × (x .hits ≤ size (call .logical)) × (next .hits ≤ size (call .logical))
+  pub logical-winner : (r : Selection) (x : Candidate) (next : RunnerUp) → r ≡ selection (call .board) (call .logical) (call .transforms) (call .error-limit) → r ≡ sel.Selected x next → (x .placing .listed < length (call .transforms)) × (x .hits ≤ size (call .logical)) × (next .hits ≤ size (call .logical))
   logical-winner r x next e k =
       let i = selected-in-range (call .board) (call .logical) (call .transforms) (call .error-limit) (A .board) (A .logical) (A .transforms .few) x next (sym e ∙ k) in (i .listed, i .hits, i .next-hits)
 
-  pub physical-winner : (r : Selection) (x : Candidate) (next : RunnerUp) → r ≡ selection (call .board) (call .physical) (call .transforms) oneF → r ≡ sel.Selected x next → x .listed < length (call .transforms)
+  pub physical-winner : (r : Selection) (x : Candidate) (next : RunnerUp) → r ≡ selection (call .board) (call .physical) (call .transforms) oneF → r ≡ sel.Selected x next → x .placing .listed < length (call .transforms)
   physical-winner r x next e k = selected-in-range (call .board) (call .physical) (call .transforms) oneF (A .board) (A .physical) (A .transforms .few) x next (sym e ∙ k) .listed
 
   -- ---- the rooms
@@ -114,7 +114,7 @@ module _ (call : HardCall) (c : List ℕ) (w : List Float) (A : HardAccepted cal
       pub core-physical-refused : (n : Refusal) → q ≡ sel.Refused n → CoreDone call c c'' w w'' (Refused n)
       core-physical-refused n g = record { answer = ap (afterPhysical (call .logical) (call .transforms) x next) (sym g) ∙ core-answer; counts = both .0; weights = both .1 }
 
-      pub core-judged : (p : Candidate) (other : RunnerUp) (a : Answer) → q ≡ sel.Selected p other → a ≡ judged (getD (call .transforms) (x .listed) 0) x next (getD (call .transforms) (p .listed) 0) p (size (call .logical)) → CoreDone call c c'' w w'' a
+      pub core-judged : (p : Candidate) (other : RunnerUp) (a : Answer) → q ≡ sel.Selected p other → a ≡ judged (getD (call .transforms) (x .placing .listed) 0) x next (getD (call .transforms) (p .placing .listed) 0) p (size (call .logical)) → CoreDone call c c'' w w'' a
       core-judged p other a g e = record { answer = e ∙ ap (afterPhysical (call .logical) (call .transforms) x next) (sym g) ∙ core-answer; counts = both .0; weights = both .1 }
 
 -- as many places cleared as were counted to be used

@@ -55,23 +55,23 @@ module _ (call : HardCall) (m n : ℕ) (A : HardAccepted call m n) where
   module _ (d : Decoded) where
     module _ (x : Candidate) (r : RunnerUp) (y : Candidate) (o : RunnerUp) (e : selection (call .board) (call .logical) (call .transforms) (call .error-limit) ≡ sel.Selected x r) (f : selection (call .board) (call .physical) (call .transforms) oneF ≡ sel.Selected y o) where
       abbrev t : ℕ
-      t = getD (call .transforms) (x .listed) 0
+      t = getD (call .transforms) (x .placing .listed) 0
 
       abbrev s : ℕ
-      s = getD (call .transforms) (y .listed) 0
+      s = getD (call .transforms) (y .placing .listed) 0
 
       answered : agreed t x s y ≡ true → passed (size (call .logical)) (x .hits) (r .hits) ≡ true → Found (decodedOf t x r (size (call .logical))) ≡ Found d → Answered d
       unfolding agreed decodedOf
       answered a g k =
           let q : decodedOf t x r (size (call .logical)) ≡ d = cc in
           let u = and-true (eqb t s) _ a in
-          let v = and-true (eqb (x .row) (y .row)) (eqb (x .col) (y .col)) (u .1) in
+          let v = and-true (eqb (x .placing .row) (y .placing .row)) (eqb (x .placing .col) (y .placing .col)) (u .1) in
           let l = A .logical in
           record {
             square = placed x;
             runner-up = nextAt (named (call .board) (call .logical) (call .transforms) (call .error-limit) (A .board) l (A .transforms .few) x r e g .0) r;
             leads = winner-leads (call .board) (call .logical) (call .transforms) (call .error-limit) (A .board) l (A .transforms .few) x r e g;
-            agrees = record { winner = y; next = o; chosen = f; transform = sym (eqb-true t s (u .0)); row = sym (eqb-true (x .row) (y .row) (v .0)); col = sym (eqb-true (x .col) (y .col) (v .1)) };
+            agrees = record { winner = y; next = o; chosen = f; transform = sym (eqb-true t s (u .0)); row = sym (eqb-true (x .placing .row) (y .placing .row) (v .0)); col = sym (eqb-true (x .placing .col) (y .placing .col) (v .1)) };
             runs-up = runs-up (call .board) (call .logical) (call .transforms) (call .error-limit) (A .board) l (A .transforms .few) x r e g;
             tells = subst (λ (z : Decoded). Tells (call .board) (call .logical) (call .transforms) z (placed x) (nextAt (named (call .board) (call .logical) (call .transforms) (call .error-limit) (A .board) l (A .transforms .few) x r e g .0) r)) q (record {
               square = (refl, refl, refl);
@@ -117,9 +117,9 @@ module _ (call : HardCall) (m n : ℕ) (A : HardAccepted call m n) where
       let r = s .1 in
       let k = key-same (call .board) (A .board) (call .transforms) Q (placed x) (l .on-board) (winner-on (call .board) (call .logical) (call .transforms) (call .error-limit) (A .board) (A .logical) (A .transforms .few) x r (s .2)) (s .4, s .5) in
       let y = a .winner in
-      let t = getD (call .transforms) (x .listed) 0 in
-      let v = getD (call .transforms) (y .listed) 0 in
+      let t = getD (call .transforms) (x .placing .listed) 0 in
+      let v = getD (call .transforms) (y .placing .listed) 0 in
       let p1 : eqb t v ≡ true = eq-eqb t v (ap (λ (i : ℕ). getD (call .transforms) i 0) (sym (k .0)) ∙ sym (a .transform)) in
-      let p2 : eqb (x .row) (y .row) ≡ true = eq-eqb (x .row) (y .row) (sym (k .1) ∙ sym (a .row)) in
-      let p3 : eqb (x .col) (y .col) ≡ true = eq-eqb (x .col) (y .col) (sym (k .2) ∙ sym (a .col)) in
+      let p2 : eqb (x .placing .row) (y .placing .row) ≡ true = eq-eqb (x .placing .row) (y .placing .row) (sym (k .1) ∙ sym (a .row)) in
+      let p3 : eqb (x .placing .col) (y .placing .col) ≡ true = eq-eqb (x .placing .col) (y .placing .col) (sym (k .2) ∙ sym (a .col)) in
       (decodedOf t x r (size (call .logical)), rw (s .2, a .chosen, p1, p2, p3, s .3))

@@ -56,8 +56,8 @@ module _ (call : HardCall) where
   unfoldable pub softJudged : SoftBest → Candidate → RunnerUp → Answer
   unfolding softDecodedOf
   softJudged best w next =
-      let t = getD (call .transforms) (best .first .listed) 0 in
-      whenAccepted (softVerdict t (best .first) (getD (call .transforms) (w .listed) 0) w next (size (call .logical))) (Found (softDecodedOf t best (fitOf (call .board) (call .physical) t (best .first .row) (best .first .col)) (size (call .physical)) next))
+      let t = getD (call .transforms) (best .first .placing .listed) 0 in
+      whenAccepted (softVerdict t (best .first) (getD (call .transforms) (w .placing .listed) 0) w next (size (call .logical))) (Found (softDecodedOf t best (fitOf (call .board) (call .physical) t (best .first .placing .row) (best .first .placing .col)) (size (call .physical)) next))
 
   abbrev pub afterHard : SoftBest → Selection → Answer
   afterHard best (sel.Refused r) = Refused r

@@ -28,7 +28,7 @@ total B E X ts P = dequantised (score B E X (getD ts (P .listed) 0) (P .row) (P 
 
 -- the placing with its total
 abbrev pub candidate : Board → EdgeList → Likelihoods → List ℕ → Placing → SoftCandidate
-candidate B E X ts P = record { listed = P .listed; row = P .row; col = P .col; total = total B E X ts P }
+candidate B E X ts P = record { placing = P; total = total B E X ts P }
 
 -- "Margin = (first - second) / edges"
 abbrev pub marginOf : Board → EdgeList → Likelihoods → List ℕ → Placing → Placing → Float

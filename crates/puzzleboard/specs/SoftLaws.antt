@@ -67,8 +67,8 @@ module _ (L M edges : ℕ) (c : List ℕ) (w : List Float) (R : RoomReady L M ed
   pub cells-few : getD c (row % L * 3 + col % 3) 0 + getD c (3 * L + (row % 3 * M + col % M)) 0 ≤ 8192
   unfolding roomCells
   cells-few =
-      let i = h-below L (positive (R .long)) row col in
-      let j = v-below M (positive (R .wide)) row col in
+      let i = h-below L (positive (R .h)) row col in
+      let j = v-below M (positive (R .v)) row col in
       let b = R .tables .bounded _ _ i j in
       let f = R .tables .few in
       let x = getD-take (3 * L) c _ 0 i in
@@ -78,8 +78,8 @@ module _ (L M edges : ℕ) (c : List ℕ) (w : List Float) (R : RoomReady L M ed
   pub fit-read : record { hits = getD c (row % L * 3 + col % 3) 0 + getD c (3 * L + (row % 3 * M + col % M)) 0; weight = add binary32 (getD w (row % L * 3 + col % 3) nan) (getD w (3 * L + (row % 3 * M + col % M)) nan) } ≡ cellFit L M (roomCells L M c w) row col
   unfolding roomCells cellFit
   fit-read =
-      let i = h-below L (positive (R .long)) row col in
-      let j = v-below M (positive (R .wide)) row col in
+      let i = h-below L (positive (R .h)) row col in
+      let j = v-below M (positive (R .v)) row col in
       let x = getD-take (3 * L) c _ 0 i in
       let y = view-at (3 * L) (3 * M) c _ 0 j in
       let z = getD-take (3 * L) w _ nan i in
@@ -106,19 +106,19 @@ module _ (call : HardCall) (c : List ℕ) (w : List Float) (A : HardAccepted cal
   logical-refused n k = record { answer = ap (afterHard call best) (sym k ∙ D .answer); counts = logical-rooms .0; weights = logical-rooms .1 }
 
   -- the tables of its transform can be built
-  pub fit-ready : best .first .listed < length (call .transforms) → TablesReady (call .board) (call .physical) (getD (call .transforms) (best .first .listed) 0) c' w'
+  pub fit-ready : best .first .placing .listed < length (call .transforms) → TablesReady (call .board) (call .physical) (getD (call .transforms) (best .first .placing .listed) 0) c' w'
   fit-ready h =
       record {
         list = A .physical;
         board = A .board;
-        transform = A .transforms .small (best .first .listed) h;
+        transform = A .transforms .small (best .first .placing .listed) h;
         room = (le-trans (A .room .0) (le-of-eq (sym (logical-rooms .0 .len))), le-trans (A .room .1) (le-of-eq (sym (logical-rooms .1 .len))));
       }
 
-  module _ (x : Candidate) (next : RunnerUp) (k : r ≡ sel.Selected x next) (n : Admission) (v : n ≡ softVerdict (getD (call .transforms) (best .first .listed) 0) (best .first) (getD (call .transforms) (x .listed) 0) x next (size (call .logical))) where
+  module _ (x : Candidate) (next : RunnerUp) (k : r ≡ sel.Selected x next) (n : Admission) (v : n ≡ softVerdict (getD (call .transforms) (best .first .placing .listed) 0) (best .first) (getD (call .transforms) (x .placing .listed) 0) x next (size (call .logical))) where
     -- the answer under a verdict
     abbrev under : Admission → Answer
-    under y = let t = getD (call .transforms) (best .first .listed) 0 in whenAccepted y (Found (softDecodedOf t best (fitOf (call .board) (call .physical) t (best .first .row) (best .first .col)) (size (call .physical)) next))
+    under y = let t = getD (call .transforms) (best .first .placing .listed) 0 in whenAccepted y (Found (softDecodedOf t best (fitOf (call .board) (call .physical) t (best .first .placing .row) (best .first .placing .col)) (size (call .physical)) next))
 
     logical-answer : under n ≡ afterHard call best (selection (call .board) (call .logical) (call .transforms) (call .error-limit))
     unfolding softJudged
@@ -127,14 +127,14 @@ module _ (call : HardCall) (c : List ℕ) (w : List Float) (A : HardAccepted cal
     pub verdict-refused : (z : Refusal) → n ≡ admission.Refused z → LogicalDone call best c c' w w' (Refused z)
     verdict-refused z o = record { answer = ap under (sym o) ∙ logical-answer; counts = logical-rooms .0; weights = logical-rooms .1 }
 
-    module _ (c'' : List ℕ) (w'' : List Float) (own : Fit) (F : FitDone (call .board) (call .physical) (getD (call .transforms) (best .first .listed) 0) (best .first .row) (best .first .col) c' c'' w' w'' own) where
+    module _ (c'' : List ℕ) (w'' : List Float) (own : Fit) (F : FitDone (call .board) (call .physical) (getD (call .transforms) (best .first .placing .listed) 0) (best .first .placing .row) (best .first .placing .col) c' c'' w' w'' own) where
       pub own-few : own .hits ≤ size (call .physical)
-      own-few = subst (λ (z : Fit). z .hits ≤ size (call .physical)) (sym (F .answer)) (fit-few (call .board) (call .physical) (getD (call .transforms) (best .first .listed) 0) (best .first .row) (best .first .col) (A .board) (A .physical))
+      own-few = subst (λ (z : Fit). z .hits ≤ size (call .physical)) (sym (F .answer)) (fit-few (call .board) (call .physical) (getD (call .transforms) (best .first .placing .listed) 0) (best .first .placing .row) (best .first .placing .col) (A .board) (A .physical))
 
-      pub verdict-found : (a : Decoded) → n ≡ admission.Accepted → a ≡ softDecodedOf (getD (call .transforms) (best .first .listed) 0) best own (size (call .physical)) next → LogicalDone call best c c'' w w'' (Found a)
+      pub verdict-found : (a : Decoded) → n ≡ admission.Accepted → a ≡ softDecodedOf (getD (call .transforms) (best .first .placing .listed) 0) best own (size (call .physical)) next → LogicalDone call best c c'' w w'' (Found a)
       verdict-found a o e =
           record {
-            answer = ap Found (e ∙ ap (λ (z : Fit). softDecodedOf (getD (call .transforms) (best .first .listed) 0) best z (size (call .physical)) next) (F .answer)) ∙ ap under (sym o) ∙ logical-answer;
+            answer = ap Found (e ∙ ap (λ (z : Fit). softDecodedOf (getD (call .transforms) (best .first .placing .listed) 0) best z (size (call .physical)) next) (F .answer)) ∙ ap under (sym o) ∙ logical-answer;
             counts = beyond-trans 0 (tablesRoom (call .board)) c c' c'' (logical-rooms .0) (record { len = F .rooms .counts .len; same = F .rooms .counts .surplus });
             weights = beyond-trans nan (tablesRoom (call .board)) w w' w'' (logical-rooms .1) (record { len = F .rooms .weights .len; same = F .rooms .weights .surplus });
           }
@@ -143,16 +143,16 @@ module _ (call : HardCall) (c : List ℕ) (w : List Float) (A : HardAccepted cal
 -- the list position that a choice holds in first place
 abbrev firstPlaceOf : SoftChoice → ℕ
 firstPlaceOf Nothing = 0
-firstPlaceOf (Chosen first second) = first .listed
+firstPlaceOf (Chosen first second) = first .placing .listed
 
 module _ (call : SoftCall) (m n o : ℕ) (A : SoftAccepted call m n o) where
   pub likelihoods-ok : LikelihoodsOk (call .hard .physical) (call .likelihoods)
   likelihoods-ok = record { matches = A .matches; mismatches = A .mismatches; match = λ i h. A .likely i h .0; mismatch = λ i h. A .likely i h .1 }
 
-  pub first-listed : (first second : SoftCandidate) → softSelection (call .hard .board) (call .hard .physical) (call .likelihoods) (call .hard .transforms) ≡ Chosen first second → first .listed < length (call .hard .transforms)
+  pub first-listed : (first second : SoftCandidate) → softSelection (call .hard .board) (call .hard .physical) (call .likelihoods) (call .hard .transforms) ≡ Chosen first second → first .placing .listed < length (call .hard .transforms)
   first-listed first second e =
       let b = soft-best-edges (call .hard .board) (call .hard .physical) (call .likelihoods) (call .hard .transforms) (A .hard .board) (A .hard .physical) likelihoods-ok (A .hard .transforms .some) in
-      let p : first .listed ≡ b .p = ap firstPlaceOf (sym e ∙ b .chosen) in
+      let p : first .placing .listed ≡ b .p = ap firstPlaceOf (sym e ∙ b .chosen) in
       omega (arith, b .first .listed)
 
 module _ (call : SoftCall) (c : List ℕ) (w : List Float) (a : List ℤ) (A : SoftAccepted call (length c) (length w) (length a)) where

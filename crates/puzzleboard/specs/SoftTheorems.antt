@@ -60,17 +60,17 @@ use Rattle.puzzleboard.specs.Winners.{placed, nextAt, winner-on, winner-
 -- ---- the verdict
 -- 0: both winners agree, and the gate is passed
 pub verdict-passed : (t : ℕ) (first : SoftCandidate) (s : ℕ) (w : Candidate) (next : RunnerUp) (edges : ℕ) → softVerdict t first s w next edges ≡ admission.Accepted
-    → (t ≡ s) × (first .row ≡ w .row) × (first .col ≡ w .col) × (passed edges (w .hits) (next .hits) ≡ true)
+    → (t ≡ s) × (first .placing .row ≡ w .placing .row) × (first .placing .col ≡ w .placing .col) × (passed edges (w .hits) (next .hits) ≡ true)
 unfolding softVerdict
 verdict-passed t first s w next edges h =
-    go (eqb t s && (eqb (first .row) (w .row) && eqb (first .col) (w .col))) (passed edges (w .hits) (next .hits)) refl refl h
+    go (eqb t s && (eqb (first .placing .row) (w .placing .row) && eqb (first .placing .col) (w .placing .col))) (passed edges (w .hits) (next .hits)) refl refl h
   where
-    go : (a b : Bool) → (eqb t s && (eqb (first .row) (w .row) && eqb (first .col) (w .col))) ≡ a → passed edges (w .hits) (next .hits) ≡ b → cond a (cond b admission.Accepted (admission.Refused (numbered why.notFarAhead))) (admission.Refused (numbered why.softHardDisagree)) ≡ admission.Accepted
-        → (t ≡ s) × (first .row ≡ w .row) × (first .col ≡ w .col) × (passed edges (w .hits) (next .hits) ≡ true)
+    go : (a b : Bool) → (eqb t s && (eqb (first .placing .row) (w .placing .row) && eqb (first .placing .col) (w .placing .col))) ≡ a → passed edges (w .hits) (next .hits) ≡ b → cond a (cond b admission.Accepted (admission.Refused (numbered why.notFarAhead))) (admission.Refused (numbered why.softHardDisagree)) ≡ admission.Accepted
+        → (t ≡ s) × (first .placing .row ≡ w .placing .row) × (first .placing .col ≡ w .placing .col) × (passed edges (w .hits) (next .hits) ≡ true)
     go true true e g k =
         let u = and-true (eqb t s) _ e in
-        let v = and-true (eqb (first .row) (w .row)) (eqb (first .col) (w .col)) (u .1) in
-        (eqb-true t s (u .0), eqb-true (first .row) (w .row) (v .0), eqb-true (first .col) (w .col) (v .1), g)
+        let v = and-true (eqb (first .placing .row) (w .placing .row)) (eqb (first .placing .col) (w .placing .col)) (u .1) in
+        (eqb-true t s (u .0), eqb-true (first .placing .row) (w .placing .row) (v .0), eqb-true (first .placing .col) (w .placing .col) (v .1), g)
     go true false e g k = let z : _≡_ {A = ℕ} 0 1 = cc in absurd (omega arith)
     go false b e g k = let z : _≡_ {A = ℕ} 0 1 = cc in absurd (omega arith)
 
@@ -88,11 +88,11 @@ module _ (call : SoftCall) (m n o : ℕ) (A : SoftAccepted call m n o) where
   best = soft-best-edges (call .hard .board) (call .hard .physical) (call .likelihoods) (call .hard .transforms) (A .hard .board) (A .hard .physical) (likelihoods-ok call m n o A) (A .hard .transforms .some)
 
   -- a placing by its key has the total that its row and column have
-  by-key : (Q : Placing) → OnBoard (call .hard .board) (call .hard .transforms) Q → record { listed = Q .listed; row = keyOf (call .hard .board) (A .hard .board) Q / (3 * periodOf (call .hard .board) false); col = keyOf (call .hard .board) (A .hard .board) Q % (3 * periodOf (call .hard .board) false); total = dequantised (scoreAtKey (call .hard .board) (call .hard .physical) (call .likelihoods) (call .hard .transforms) (Q .listed) (keyOf (call .hard .board) (A .hard .board) Q)) } ≡ candidate (call .hard .board) (call .hard .physical) (call .likelihoods) (call .hard .transforms) Q
+  by-key : (Q : Placing) → OnBoard (call .hard .board) (call .hard .transforms) Q → record { placing = record { listed = Q .listed; row = keyOf (call .hard .board) (A .hard .board) Q / (3 * periodOf (call .hard .board) false); col = keyOf (call .hard .board) (A .hard .board) Q % (3 * periodOf (call .hard .board) false) }; total = dequantised (scoreAtKey (call .hard .board) (call .hard .physical) (call .likelihoods) (call .hard .transforms) (Q .listed) (keyOf (call .hard .board) (A .hard .board) Q)) } ≡ candidate (call .hard .board) (call .hard .physical) (call .likelihoods) (call .hard .transforms) Q
   by-key Q u =
       let r = row-back (call .hard .board) (A .hard .board) (call .hard .transforms) Q u in
       let c = col-back (call .hard .board) (A .hard .board) (call .hard .transforms) Q u in
-      λ i. record { listed = Q .listed; row = r i; col = c i; total = dequantised (score (call .hard .board) (call .hard .physical) (call .likelihoods) (getD (call .hard .transforms) (Q .listed) 0) (r i) (c i)) }
+      λ i. record { placing = record { listed = Q .listed; row = r i; col = c i }; total = dequantised (score (call .hard .board) (call .hard .physical) (call .likelihoods) (getD (call .hard .transforms) (Q .listed) 0) (r i) (c i)) }
 
   -- the two best by likelihood are what soft selection holds
   pub own-best : (Q R : Placing) → BestByLikelihood (call .hard .board) (call .hard .physical) (call .likelihoods) (call .hard .transforms) Q R → softSelection (call .hard .board) (call .hard .physical) (call .likelihoods) (call .hard .transforms) ≡ Chosen (candidate (call .hard .board) (call .hard .physical) (call .likelihoods) (call .hard .transforms) Q) (candidate (call .hard .board) (call .hard .physical) (call .likelihoods) (call .hard .transforms) R)
@@ -130,7 +130,7 @@ module _ (call : SoftCall) (m n o : ℕ) (A : SoftAccepted call m n o) where
     abbrev answer : RunnerUp → Decoded
     answer r = softDecodedOf t (bestOf (candidate (call .hard .board) (call .hard .physical) (call .likelihoods) (call .hard .transforms) Q) (candidate (call .hard .board) (call .hard .physical) (call .likelihoods) (call .hard .transforms) R) (size (call .hard .physical))) (fitOf (call .hard .board) (call .hard .physical) t (Q .row) (Q .col)) (size (call .hard .physical)) r
 
-    module _ (x : Candidate) (r : RunnerUp) (e : selection (call .hard .board) (call .hard .logical) (call .hard .transforms) (call .hard .error-limit) ≡ sel.Selected x r) (p : (t ≡ getD (call .hard .transforms) (x .listed) 0) × (Q .row ≡ x .row) × (Q .col ≡ x .col) × (passed (size (call .hard .logical)) (x .hits) (r .hits) ≡ true)) where
+    module _ (x : Candidate) (r : RunnerUp) (e : selection (call .hard .board) (call .hard .logical) (call .hard .transforms) (call .hard .error-limit) ≡ sel.Selected x r) (p : (t ≡ getD (call .hard .transforms) (x .placing .listed) 0) × (Q .row ≡ x .placing .row) × (Q .col ≡ x .placing .col) × (passed (size (call .hard .logical)) (x .hits) (r .hits) ≡ true)) where
       lead : Leads (call .hard .board) (call .hard .logical) (call .hard .transforms) (call .hard .error-limit) (placed x)
       lead = winner-leads (call .hard .board) (call .hard .logical) (call .hard .transforms) (call .hard .error-limit) (A .hard .board) (A .hard .logical) (A .hard .transforms .few) x r e (p .3)
 
@@ -138,12 +138,12 @@ module _ (call : SoftCall) (m n o : ℕ) (A : SoftAccepted call m n o) where
       same-hits : hitsAt (call .hard .board) (call .hard .logical) (call .hard .transforms) Q ≡ hitsAt (call .hard .board) (call .hard .logical) (call .hard .transforms) (placed x)
       same-hits = λ i. hits (call .hard .board) (call .hard .logical) (p .0 i) (p .1 i) (p .2 i)
 
-      same-place : (e : Bool) → eqb (Q .listed) (x .listed) ≡ e → Q .listed ≡ x .listed
-      same-place true h = eqb-true (Q .listed) (x .listed) h
-      same-place false h = absurd (omega (arith, same-hits, lead .ahead Q (b .on-board) (λ s. eqb-false (Q .listed) (x .listed) h (s .0))))
+      same-place : (e : Bool) → eqb (Q .listed) (x .placing .listed) ≡ e → Q .listed ≡ x .placing .listed
+      same-place true h = eqb-true (Q .listed) (x .placing .listed) h
+      same-place false h = absurd (omega (arith, same-hits, lead .ahead Q (b .on-board) (λ s. eqb-false (Q .listed) (x .placing .listed) h (s .0))))
 
       same-one : placed x ≡ Q
-      same-one = let q = same-place (eqb (Q .listed) (x .listed)) refl in λ i. record { listed = sym q i; row = sym (p .1) i; col = sym (p .2) i }
+      same-one = let q = same-place (eqb (Q .listed) (x .placing .listed)) refl in λ i. record { listed = sym q i; row = sym (p .1) i; col = sym (p .2) i }
 
       soft-answered : Found (answer r) ≡ Found d → SoftAnswered call d
       unfolding softDecodedOf
@@ -168,10 +168,10 @@ module _ (call : SoftCall) (m n o : ℕ) (A : SoftAccepted call m n o) where
           })
 
     abbrev verdict : Candidate → RunnerUp → Admission
-    verdict x r = softVerdict t (candidate (call .hard .board) (call .hard .physical) (call .likelihoods) (call .hard .transforms) Q) (getD (call .hard .transforms) (x .listed) 0) x r (size (call .hard .logical))
+    verdict x r = softVerdict t (candidate (call .hard .board) (call .hard .physical) (call .likelihoods) (call .hard .transforms) Q) (getD (call .hard .transforms) (x .placing .listed) 0) x r (size (call .hard .logical))
 
     by-verdict : (x : Candidate) (r : RunnerUp) (v : Admission) → selection (call .hard .board) (call .hard .logical) (call .hard .transforms) (call .hard .error-limit) ≡ sel.Selected x r → verdict x r ≡ v → whenAccepted v (Found (answer r)) ≡ Found d → SoftAnswered call d
-    by-verdict x r admission.Accepted e h k = soft-answered x r e (verdict-passed t (candidate (call .hard .board) (call .hard .physical) (call .likelihoods) (call .hard .transforms) Q) (getD (call .hard .transforms) (x .listed) 0) x r (size (call .hard .logical)) h) k
+    by-verdict x r admission.Accepted e h k = soft-answered x r e (verdict-passed t (candidate (call .hard .board) (call .hard .physical) (call .likelihoods) (call .hard .transforms) Q) (getD (call .hard .transforms) (x .placing .listed) 0) x r (size (call .hard .logical)) h) k
     by-verdict x r (admission.Refused j) e h k = absurd (no-square d j k)
 
     by-logical : (q : Selection) → selection (call .hard .board) (call .hard .logical) (call .hard .transforms) (call .hard .error-limit) ≡ q → afterHard (call .hard) (bestOf (candidate (call .hard .board) (call .hard .physical) (call .likelihoods) (call .hard .transforms) Q) (candidate (call .hard .board) (call .hard .physical) (call .likelihoods) (call .hard .transforms) R) (size (call .hard .physical))) q ≡ Found d → SoftAnswered call d
@@ -207,7 +207,7 @@ module _ (call : SoftCall) (m n o : ℕ) (A : SoftAccepted call m n o) where
       let r = s .1 in
       let k = key-same (call .hard .board) (A .hard .board) (call .hard .transforms) Q (placed x) (l .on-board) (winner-on (call .hard .board) (call .hard .logical) (call .hard .transforms) (call .hard .error-limit) (A .hard .board) (A .hard .logical) (A .hard .transforms .few) x r (s .2)) (s .4, s .5) in
       let t = getD (call .hard .transforms) (Q .listed) 0 in
-      let p1 : eqb t (getD (call .hard .transforms) (x .listed) 0) ≡ true = eq-eqb t (getD (call .hard .transforms) (x .listed) 0) (ap (λ (i : ℕ). getD (call .hard .transforms) i 0) (k .0)) in
-      let p2 : eqb (Q .row) (x .row) ≡ true = eq-eqb (Q .row) (x .row) (k .1) in
-      let p3 : eqb (Q .col) (x .col) ≡ true = eq-eqb (Q .col) (x .col) (k .2) in
+      let p1 : eqb t (getD (call .hard .transforms) (x .placing .listed) 0) ≡ true = eq-eqb t (getD (call .hard .transforms) (x .placing .listed) 0) (ap (λ (i : ℕ). getD (call .hard .transforms) i 0) (k .0)) in
+      let p2 : eqb (Q .row) (x .placing .row) ≡ true = eq-eqb (Q .row) (x .placing .row) (k .1) in
+      let p3 : eqb (Q .col) (x .placing .col) ≡ true = eq-eqb (Q .col) (x .placing .col) (k .2) in
       (softDecodedOf t (bestOf (candidate (call .hard .board) (call .hard .physical) (call .likelihoods) (call .hard .transforms) Q) (candidate (call .hard .board) (call .hard .physical) (call .likelihoods) (call .hard .transforms) R) (size (call .hard .physical))) (fitOf (call .hard .board) (call .hard .physical) t (Q .row) (Q .col)) (size (call .hard .physical)) r, rw (h, own-best Q R b, clear, s .2, p1, p2, p3, s .3))

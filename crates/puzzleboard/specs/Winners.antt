@@ -23,7 +23,7 @@ use Rattle.puzzleboard.specs.DemandLaws.{same-key, hits-key, sole-leads,
 
 -- the placing of a winner, and of its runner-up at list position p
 abbrev pub placed : Candidate → Placing
-placed x = record { listed = x .listed; row = x .row; col = x .col }
+placed x = x .placing
 
 abbrev pub nextAt : ℕ → RunnerUp → Placing
 nextAt p r = record { listed = p; row = r .row; col = r .col }
@@ -36,9 +36,9 @@ module _ (B : Board) (E : EdgeList) (ts : List ℕ) (limit : Float) (board : Boa
   winner-on = record { in-list = in-range .listed; row = in-range .row; col = in-range .col }
 
   module _ (g : passed (size E) (x .hits) (r .hits) ≡ true) where
-    right : Sole (length ts) (originNumber (periodOf B true) (periodOf B false)) (size E) limit (hitsAtKey B E ts) (x .listed) (keyAt (periodOf B false) (x .row) (x .col))
-        × (x .hits ≡ hitsAtKey B E ts (x .listed) (keyAt (periodOf B false) (x .row) (x .col)))
-        × MostOther (length ts) (originNumber (periodOf B true) (periodOf B false)) (size E) limit (hitsAtKey B E ts) (x .listed) (keyAt (periodOf B false) (x .row) (x .col)) (r .hits)
+    right : Sole (length ts) (originNumber (periodOf B true) (periodOf B false)) (size E) limit (hitsAtKey B E ts) (x .placing .listed) (keyAt (periodOf B false) (x .placing .row) (x .placing .col))
+        × (x .hits ≡ hitsAtKey B E ts (x .placing .listed) (keyAt (periodOf B false) (x .placing .row) (x .placing .col)))
+        × MostOther (length ts) (originNumber (periodOf B true) (periodOf B false)) (size E) limit (hitsAtKey B E ts) (x .placing .listed) (keyAt (periodOf B false) (x .placing .row) (x .placing .col)) (r .hits)
     right = selected-right B E ts limit board list few x r e g
 
     pub winner-leads : Leads B E ts limit (placed x)
@@ -48,7 +48,7 @@ module _ (B : Board) (E : EdgeList) (ts : List ℕ) (limit : Float) (board : Boa
     winner-hits = right .1 ∙ hits-key B board ts E limit (placed x) winner-on
 
     -- the list position of the runner-up, and what is known of it
-    pub named : (p : ℕ) × (p < length ts) × (getD ts p 0 ≡ r .transform) × ((p ≡ x .listed) × (keyAt (periodOf B false) (r .row) (r .col) ≡ keyAt (periodOf B false) (x .row) (x .col)) → ⊥) × (hitsAtKey B E ts p (keyAt (periodOf B false) (r .row) (r .col)) ≡ r .hits)
+    pub named : (p : ℕ) × (p < length ts) × (getD ts p 0 ≡ r .transform) × ((p ≡ x .placing .listed) × (keyAt (periodOf B false) (r .row) (r .col) ≡ keyAt (periodOf B false) (x .placing .row) (x .placing .col)) → ⊥) × (hitsAtKey B E ts p (keyAt (periodOf B false) (r .row) (r .col)) ≡ r .hits)
     named = selected-next B E ts limit board list few x r e g
 
     runner-on : OnBoard B ts (nextAt (named .0) r)

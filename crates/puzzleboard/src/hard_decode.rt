@@ -75,8 +75,8 @@ fn hard_core<'a>(
             match physical {
                 Selection::Refused(refusal) => Answer::Refused(refusal),
                 Selection::Selected(p, _) => {
-                    let at = w.listed;
-                    let other = p.listed;
+                    let at = w.placing.listed;
+                    let other = p.placing.listed;
                     judge(
                         transforms[at],
                         w,

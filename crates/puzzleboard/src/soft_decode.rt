@@ -25,22 +25,16 @@ use verdict::soft_verdict::soft_verdict;
 use verdict::verdict::refuse;
 
 // The hits and the weight of one origin, read off the tables in the room.
-fn fit_at(
-    counts: &[u32],
-    weights: &[f32],
-    long: usize,
-    wide: usize,
-    edges: u32,
-    row: u32,
-    col: u32,
-) -> Fit
-    requires { ⌜ RoomReady long wide edges (now counts) (now weights) ⌝ }
-    ensures { λ r. ⌜ r ≡ cellFit long wide (roomCells long wide (now (counts .entry)) (now (weights .entry))) row col ⌝ }
+fn fit_at(counts: &[u32], weights: &[f32], periods: Periods, edges: u32, row: u32, col: u32) -> Fit
+    requires { ⌜ RoomReady (periods .h) (periods .v) edges (now counts) (now weights) ⌝ }
+    ensures { λ r. ⌜ r ≡ cellFit (periods .h) (periods .v) (roomCells (periods .h) (periods .v) (now (counts .entry)) (now (weights .entry))) row col ⌝ }
 {
     let r = row as usize;
     let c = col as usize;
-    let a = r % long * 3 + c % 3;
-    let b = 3 * long + (r % 3 * wide + c % wide);
+    let h = periods.h;
+    let v = periods.v;
+    let a = r % h * 3 + c % 3;
+    let b = 3 * h + (r % 3 * v + c % v);
     Fit {
         hits: counts[a] + counts[b],
         weight: weights[a] + weights[b],
@@ -80,8 +74,10 @@ fn fit_of<'a>(
     fit_at(
         counts,
         weights,
-        h.len(),
-        v.len(),
+        Periods {
+            h: h.len(),
+            v: v.len(),
+        },
         rows.len() as u32,
         row,
         col,
@@ -113,7 +109,7 @@ fn soft_logical<'a>(
         (edges (now lrows) (now lcols) (now lorientations) (now lbits) (now lconfidences))
         (edges (now prows) (now pcols) (now porientations) (now pbits) (now pconfidences))
         (now transforms) (tables (now h) (now v)) «error_limit») (length (now counts)) (length (now weights)) ⌝ }
-    requires { ⌜ best .first .listed < length (now transforms) ⌝ }
+    requires { ⌜ best .first .placing .listed < length (now transforms) ⌝ }
     ensures { λ r. ⌜ LogicalDone
         (hardCall
         (edges (now (lrows .entry)) (now (lcols .entry)) (now (lorientations .entry)) (now (lbits .entry)) (now (lconfidences .entry)))
@@ -137,8 +133,8 @@ fn soft_logical<'a>(
     match logical {
         Selection::Refused(refusal) => Answer::Refused(refusal),
         Selection::Selected(w, next) => {
-            let at = best.first.listed;
-            let other = w.listed;
+            let at = best.first.placing.listed;
+            let other = w.placing.listed;
             let t = transforms[at];
             let s = transforms[other];
             let verdict = soft_verdict(t, best, s, w, next, lrows.len() as u32);
@@ -152,8 +148,8 @@ fn soft_logical<'a>(
                         pbits,
                         pconfidences,
                         t,
-                        best.first.row,
-                        best.first.col,
+                        best.first.placing.row,
+                        best.first.placing.col,
                         h,
                         v,
                         counts,

@@ -31,13 +31,13 @@ whenAccepted (admission.Refused r) x = Refused r
 
 -- "origin and matrix must agree": the eight matrices differ, so transforms by number (`matrix-tells` in HardLaws)
 unfoldable pub agreed : ℕ → Candidate → ℕ → Candidate → Bool
-agreed t a s b = eqb t s && (eqb (a .row) (b .row) && eqb (a .col) (b .col))
+agreed t a s b = eqb t s && (eqb (a .placing .row) (b .placing .row) && eqb (a .placing .col) (b .placing .col))
 
 -- "The answer holds the logical list's transform, origin, hits, edges, weighted score, rate, mean confidence, best score (= weighted score), runner-up hits
 -- as score, margin, and the runner-up's transform and origin." "margin = best minus runner-up hits, not below 0"
 unfoldable pub decodedOf : ℕ → Candidate → RunnerUp → ℕ → Decoded
 decodedOf t w runner edges = record {
-  square = record { transform = t; row = w .row; col = w .col };
+  square = record { transform = t; row = w .placing .row; col = w .placing .col };
   hits = w .hits;
   edges = edges;
   «weighted_score» = w .score;
@@ -62,7 +62,7 @@ judged t w runner s p edges = pick (agreed t w s p) (pick (passed edges (w .hits
 -- "Then hard selection on the logical list must give the same origin and matrix and pass the gate"
 unfoldable pub softVerdict : ℕ → SoftCandidate → ℕ → Candidate → RunnerUp → ℕ → Admission
 softVerdict t first s w runner edges =
-    cond (eqb t s && (eqb (first .row) (w .row) && eqb (first .col) (w .col)))
+    cond (eqb t s && (eqb (first .placing .row) (w .placing .row) && eqb (first .placing .col) (w .placing .col)))
     (cond (passed edges (w .hits) (runner .hits)) admission.Accepted (admission.Refused (numbered why.notFarAhead)))
     (admission.Refused (numbered why.softHardDisagree))
 
@@ -70,7 +70,7 @@ softVerdict t first s w runner edges =
 -- hits, rate and mean confidence are the physical list's."
 unfoldable pub softDecodedOf : ℕ → SoftBest → Fit → ℕ → RunnerUp → Decoded
 softDecodedOf t best fit edges runner = record {
-  square = record { transform = t; row = best .first .row; col = best .first .col };
+  square = record { transform = t; row = best .first .placing .row; col = best .first .placing .col };
   hits = fit .hits;
   edges = edges;
   «weighted_score» = div binary32 (best .first .total) (ofInt binary32 (pos edges));

@@ -30,8 +30,8 @@ pub fn soft_verdict(
     ensures { λ r. ⌜ r ≡ softVerdict t (best .first) s w runner edges ⌝ }
 {
     if t == s {
-        if best.first.row == w.row {
-            if best.first.col == w.col {
+        if best.first.placing.row == w.placing.row {
+            if best.first.placing.col == w.placing.col {
                 if figures::passes(edges, w.hits, runner.hits) {
                     return Admission::Accepted;
                 }
@@ -53,8 +53,8 @@ pub fn soft_decoded(t: u8, best: SoftBest, fit: Fit, edges: u32, runner: RunnerU
 {
     let square = Square {
         transform: t as u32,
-        row: best.first.row,
-        col: best.first.col,
+        row: best.first.placing.row,
+        col: best.first.placing.col,
     };
     let competitor = Square {
         transform: runner.transform as u32,

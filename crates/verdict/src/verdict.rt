@@ -21,8 +21,8 @@ fn same_square(t: u8, a: Candidate, s: u8, b: Candidate) -> bool
     ensures { λ r. ⌜ r ≡ agreed t a s b ⌝ }
 {
     if t == s {
-        if a.row == b.row {
-            return a.col == b.col;
+        if a.placing.row == b.placing.row {
+            return a.placing.col == b.placing.col;
         }
     }
     false
@@ -35,8 +35,8 @@ fn decoded(t: u8, w: Candidate, runner: RunnerUp, edges: u32) -> Decoded
 {
     let square = Square {
         transform: t as u32,
-        row: w.row,
-        col: w.col,
+        row: w.placing.row,
+        col: w.placing.col,
     };
     let competitor = Square {
         transform: runner.transform as u32,

@@ -27,7 +27,7 @@ abbrev st : tie.After-select → tie.Start
 st c = c .before .before .before .before .before .before .before .before .before .before .before .before .before .before
 
 -- the logical winner and its runner-up, where both selections gave one
-winner : (c : tie.After-logical2) → let d = c .before .before .before .before .before .before in let x = c .logical2 .given .0 .0 in let r = c .logical2 .given .0 .1 .0 in (x .listed < length (call (st d) .transforms)) × (x .hits ≤ size (call (st d) .logical)) × (r .hits ≤ size (call (st d) .logical))
+winner : (c : tie.After-logical2) → let d = c .before .before .before .before .before .before in let x = c .logical2 .given .0 .0 in let r = c .logical2 .given .0 .1 .0 in (x .placing .listed < length (call (st d) .transforms)) × (x .hits ≤ size (call (st d) .logical)) × (r .hits ≤ size (call (st d) .logical))
 winner c = let d = c .before .before .before .before .before .before in let s = st d in logical-winner (call s) (now (s .args .counts)) (now (s .args .weights)) (s .pre) (d .select .result) _ _ (d .select .ensures .answer) (c .logical2 .given .1)
 
 select-requires : tie.Need-select-requires

@@ -25,7 +25,7 @@ abbrev st : tie.After-select → tie.Start
 st c = c .before .before .before .before .before .before .before .before .before .before .before .before .before .before
 
 -- the hard winner of the logical list and its runner-up
-winner : (c : tie.After-logical2) → let d = c .before .before .before .before .before .before in let x = c .logical2 .given .0 .0 in let r = c .logical2 .given .0 .1 .0 in (x .listed < length (call (st d) .transforms)) × (x .hits ≤ size (call (st d) .logical)) × (r .hits ≤ size (call (st d) .logical))
+winner : (c : tie.After-logical2) → let d = c .before .before .before .before .before .before in let x = c .logical2 .given .0 .0 in let r = c .logical2 .given .0 .1 .0 in (x .placing .listed < length (call (st d) .transforms)) × (x .hits ≤ size (call (st d) .logical)) × (r .hits ≤ size (call (st d) .logical))
 winner c = let d = c .before .before .before .before .before .before in let s = st d in logical-winner (call s) (now (s .args .counts)) (now (s .args .weights)) (s .pre .0) (d .select .result) _ _ (d .select .ensures .answer) (c .logical2 .given .1)
 
 select-requires : tie.Need-select-requires
@@ -38,7 +38,7 @@ enum-known-logical-2 : tie.Need-enum-known-logical-2
 enum-known-logical-2 c = search needs
 
 shared-slice-read-t : tie.Need-shared-slice-read-t
-shared-slice-read-t c = search needs
+shared-slice-read-t c = st (c .before .before .before .before .before .before .before .before) .pre .1
 
 shared-slice-read-s : tie.Need-shared-slice-read-s
 shared-slice-read-s c = winner (c .before .before .before) .0

@@ -31,7 +31,7 @@ unfolding softDecodedOf
 returns c =
     let a = c .before .before .before .before .before .before .args in
     λ i. record {
-      square = record { transform = a .t; row = a .best .first .row; col = a .best .first .col };
+      square = record { transform = a .t; row = a .best .first .placing .row; col = a .best .first .placing .col };
       hits = a .fit .hits;
       edges = a .edges;
       «weighted_score» = div binary32 (a .best .first .total) (ofInt binary32 (pos (a .edges)));

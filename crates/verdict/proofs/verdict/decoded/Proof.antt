@@ -34,7 +34,7 @@ unfolding decodedOf
 returns c =
     let a = c .before .before .before .before .before .before .args in
     λ i. record {
-      square = record { transform = a .t; row = a .w .row; col = a .w .col };
+      square = record { transform = a .t; row = a .w .placing .row; col = a .w .placing .col };
       hits = a .w .hits;
       edges = a .edges;
       «weighted_score» = a .w .score;

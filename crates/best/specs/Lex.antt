@@ -31,8 +31,8 @@ abbrev pub lexBest : List ℕ → List Float → ℕ
 lexBest cs ws = firstBest (order cs ws) (length cs)
 
 -- cell i has the count
-abbrev pub level : List ℕ → ℕ → ℕ → Bool
-level cs top i = eqb (cAt cs i) top
+abbrev pub tiedCount : List ℕ → ℕ → ℕ → Bool
+tiedCount cs top i = eqb (cAt cs i) top
 
 -- "the classes with both are optimal"
 abbrev pub isOptimal : ℕ → Float → ℕ → Float → Bool
@@ -42,22 +42,22 @@ abbrev pub optimal : List ℕ → List Float → ℕ → Float → ℕ → Bool
 optimal cs ws top heavy i = isOptimal (cAt cs i) (wAt ws i) top heavy
 
 -- "first second-best .. 'First' is by cell position": the first cell of largest count, of all but cell k
-abbrev pub secondCell : List ℕ → ℕ → ℕ
-secondCell cs k = second (above (cAt cs)) k (length cs)
+abbrev pub lexSecond : List ℕ → ℕ → ℕ
+lexSecond cs k = second (above (cAt cs)) k (length cs)
 
 -- all that the selection asks of one table, around cell k
-abbrev pub aroundOf : List ℕ → List Float → ℕ → LexMax
-aroundOf cs ws k =
+abbrev pub lexAround : List ℕ → List Float → ℕ → LexMax
+lexAround cs ws k =
     record {
       cell = k;
       count = cAt cs k;
       weight = wAt ws k;
-      level = count (length cs) (level cs (cAt cs k));
+      tied = count (length cs) (tiedCount cs (cAt cs k));
       optimal = count (length cs) (optimal cs ws (cAt cs k) (wAt ws k));
-      second = secondCell cs k;
-      under = cAt cs (secondCell cs k);
+      second = lexSecond cs k;
+      under = cAt cs (lexSecond cs k);
     }
 
 -- the same, around its best cell
 unfoldable pub lexOf : List ℕ → List Float → LexMax
-lexOf cs ws = aroundOf cs ws (lexBest cs ws)
+lexOf cs ws = lexAround cs ws (lexBest cs ws)

@@ -16,7 +16,7 @@ use Rattle.laws.specs.Second.{second-in, second-not, second-best}
 use Rattle.laws.specs.Weights.{weightlike, heavier}
 use Rattle.laws.specs.WeightLaws.{heavier-weak, eq-self}
 use Rattle.best.specs.CellTables.{cAt, wAt}
-use Rattle.best.specs.Lex.{order, lexBest, optimal, secondCell}
+use Rattle.best.specs.Lex.{order, lexBest, optimal, lexSecond}
 
 -- ---- no cell has a larger count than cell k
 abbrev pub Most : List ℕ → ℕ → Type 0
@@ -59,12 +59,12 @@ optimal-count cs ws top heavy i e = eqb-true (cAt cs i) top (and-true (eqb (cAt 
 
 -- ---- the second-best cell
 module _ (cs : List ℕ) (k : ℕ) (two : 1 < length cs) where
-  pub second-inside : secondCell cs k < length cs
+  pub second-inside : lexSecond cs k < length cs
   second-inside = second-in (above (cAt cs)) (length cs) k two (length cs) (le-refl (length cs))
 
-  pub second-other : secondCell cs k ≡ k → ⊥
+  pub second-other : lexSecond cs k ≡ k → ⊥
   second-other = second-not (above (cAt cs)) (length cs) k two (length cs)
 
   -- every cell but k has at most its count
-  pub second-most : (j : ℕ) → j < length cs → (j ≡ k → ⊥) → cAt cs j ≤ cAt cs (secondCell cs k)
-  second-most j h ne = ltb-false (cAt cs (secondCell cs k)) (cAt cs j) (second-best (above (cAt cs)) (length cs) k two (above-weak (length cs) (cAt cs)) (length cs) j (le-refl (length cs)) h ne)
+  pub second-most : (j : ℕ) → j < length cs → (j ≡ k → ⊥) → cAt cs j ≤ cAt cs (lexSecond cs k)
+  second-most j h ne = ltb-false (cAt cs (lexSecond cs k)) (cAt cs j) (second-best (above (cAt cs)) (length cs) k two (above-weak (length cs) (cAt cs)) (length cs) j (le-refl (length cs)) h ne)

@@ -2,7 +2,7 @@
 ghost use mathlib.Core.Path.{_≡_};
 ghost use Prim.Native.Nat.{_<_};
 ghost use lib.ListN.{length};
-ghost use Rattle.best.specs.Lex.{TableOk, wins, isOptimal, lexBest, aroundOf, lexOf};
+ghost use Rattle.best.specs.Lex.{TableOk, wins, isOptimal, lexBest, lexAround, lexOf};
 ghost use Rattle.best.specs.LexLaws.{Most};
 
 // What one table says: the first cell of largest count and then largest weight, both, how many cells have the count and how many have both,
@@ -11,7 +11,7 @@ pub struct LexMax {
     pub cell: usize,
     pub count: u32,
     pub weight: f32,
-    pub level: usize,
+    pub tied: usize,
     pub optimal: usize,
     pub second: usize,
     pub under: u32,
@@ -57,13 +57,13 @@ pub fn is_optimal(c: u32, w: f32, top: u32, heavy: f32) -> bool
 
 // What one table says around its best cell: its count and weight, how many cells have the count and how many have both, and the first best of the other
 // cells by count. Most cells stand below the second best so far, and no more is asked of them.
-fn around(counts: &[u32], weights: &[f32], cell: usize) -> LexMax
+fn lex_around(counts: &[u32], weights: &[f32], cell: usize) -> LexMax
     requires { ⌜ TableOk (now counts) (now weights) × (cell < length (now counts)) × Most (now counts) cell ⌝ }
-    ensures { λ r. ⌜ r ≡ aroundOf (now (counts .entry)) (now (weights .entry)) cell ⌝ }
+    ensures { λ r. ⌜ r ≡ lexAround (now (counts .entry)) (now (weights .entry)) cell ⌝ }
 {
     let top = counts[cell];
     let heavy = weights[cell];
-    let mut level: usize = 0;
+    let mut tied: usize = 0;
     let mut optimal: usize = 0;
     let mut second: usize = 0;
     if cell == 0 {
@@ -75,7 +75,7 @@ fn around(counts: &[u32], weights: &[f32], cell: usize) -> LexMax
         let c = counts[i];
         if c >= under {
             if c == top {
-                level += 1;
+                tied += 1;
                 if weights[i] == heavy {
                     optimal += 1;
                 }
@@ -93,7 +93,7 @@ fn around(counts: &[u32], weights: &[f32], cell: usize) -> LexMax
         cell,
         count: top,
         weight: heavy,
-        level,
+        tied,
         optimal,
         second,
         under,
@@ -105,5 +105,5 @@ pub fn lex_max(counts: &[u32], weights: &[f32]) -> LexMax
     requires { ⌜ TableOk (now counts) (now weights) ⌝ }
     ensures { λ r. ⌜ r ≡ lexOf (now (counts .entry)) (now (weights .entry)) ⌝ }
 {
-    around(counts, weights, lex_best(counts, weights))
+    lex_around(counts, weights, lex_best(counts, weights))
 }

@@ -19,13 +19,13 @@ use Rattle.decide.specs.declared.Outcome.the-variants.{Refused, Decided}
 
 -- the winner where the gate is passed
 abbrev pub whenPassed : Bool → Candidate → RunnerUp → Outcome
-whenPassed true w next = Decided w next
-whenPassed false w next = Refused (numbered why.notFarAhead)
+whenPassed true w runner-up = Decided w runner-up
+whenPassed false w runner-up = Refused (numbered why.notFarAhead)
 
 -- a selection of a list of so many edges, asked by the gate
 abbrev pub gated : ℕ → Selection → Outcome
 gated edges (sel.Refused r) = Refused r
-gated edges (sel.Selected w next) = whenPassed (passed edges (w .hits) (next .hits)) w next
+gated edges (sel.Selected w runner-up) = whenPassed (passed edges (w .hits) (runner-up .hits)) w runner-up
 
 -- what deciding a list did: its outcome, and the room as the selection leaves it
 pub record DecideDone (B : Board) (E : EdgeList) (ts : List ℕ) (limit : Float) (c c' : List ℕ) (w w' : List Float) (r : Outcome) : Type 0 where

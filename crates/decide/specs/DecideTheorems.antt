@@ -41,19 +41,19 @@ module _ (B : Board) (E : EdgeList) (ts : List ℕ) (limit : Float) where
   RightOutcome (Refused r) =
       ((r ≡ numbered why.noneWithinLimit) × NoneWithin (length ts) origins (size E) limit (hitsAtKey B E ts))
       ⊎ ((r ≡ numbered why.notFarAhead) × SomeWithin (length ts) origins (size E) limit (hitsAtKey B E ts) × ((p k : ℕ) → Sole (length ts) origins (size E) limit (hitsAtKey B E ts) p k → ⊥))
-  RightOutcome (Decided w next) =
+  RightOutcome (Decided w runner-up) =
       Sole (length ts) origins (size E) limit (hitsAtKey B E ts) (w .placing .listed) (keyOf w)
       × (w .hits ≡ hitsAtKey B E ts (w .placing .listed) (keyOf w))
-      × MostOther (length ts) origins (size E) limit (hitsAtKey B E ts) (w .placing .listed) (keyOf w) (next .hits)
+      × MostOther (length ts) origins (size E) limit (hitsAtKey B E ts) (w .placing .listed) (keyOf w) (runner-up .hits)
 
-  by-gate : (b : Bool) (w : Candidate) (next : RunnerUp)
-      → Right (length ts) origins (size E) limit (hitsAtKey B E ts) (cond b (found (w .placing .listed) (keyOf w) (w .hits) (next .hits)) not-far-ahead) → RightOutcome (whenPassed b w next)
-  by-gate true w next r = r
-  by-gate false w next r = inr (refl, r .0, r .1)
+  by-gate : (b : Bool) (w : Candidate) (runner-up : RunnerUp)
+      → Right (length ts) origins (size E) limit (hitsAtKey B E ts) (cond b (found (w .placing .listed) (keyOf w) (w .hits) (runner-up .hits)) not-far-ahead) → RightOutcome (whenPassed b w runner-up)
+  by-gate true w runner-up r = r
+  by-gate false w runner-up r = inr (refl, r .0, r .1)
 
   by-choice : (x : Choice) → Right (length ts) origins (size E) limit (hitsAtKey B E ts) (outcomeOf (periodOf B false) (size E) x) → RightOutcome (gated (size E) (ofChoice x))
   by-choice Nothing r = inl (refl, r)
-  by-choice (Chosen w next) r = by-gate (passed (size E) (w .hits) (next .hits)) w next r
+  by-choice (Chosen w runner-up) r = by-gate (passed (size E) (w .hits) (runner-up .hits)) w runner-up r
 
   -- ONE LIST, DECIDED: where there is some confidence, the outcome is the right one
   pub decided-by-hits : BoardOk B → ListOk E → length ts ≤ 8 → noConfidence E ≡ false → RightOutcome (gated (size E) (selection B E ts limit))

@@ -20,9 +20,9 @@ fn ask_gate(selection: Selection, edges: u32) -> Outcome
 {
     match selection {
         Selection::Refused(why) => Outcome::Refused(why),
-        Selection::Selected(winner, next) => {
-            if figures::passes(edges, winner.hits, next.hits) {
-                return Outcome::Decided(winner, next);
+        Selection::Selected(winner, runner_up) => {
+            if figures::passes(edges, winner.hits, runner_up.hits) {
+                return Outcome::Decided(winner, runner_up);
             }
             Outcome::Refused(Refusal {
                 number: refusals::NOT_FAR_AHEAD,

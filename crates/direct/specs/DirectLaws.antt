@@ -9,7 +9,7 @@ use lib.Dec.{lit<}
 use lib.Ieee.{Float, add, binary32}
 use Rattle.best.specs.CellTables.{CellTables, Period, cAt, wAt}
 use Rattle.scan.specs.Scan.{offeredWithin}
-use Rattle.direct.specs.Direct.{candidate, originCandidate, tried}
+use Rattle.direct.specs.Direct.{hardCandidate, originCandidate, tried}
 use Rattle.scan.specs.declared.scan.Kept.{Kept}
 
 three : 0 < 3
@@ -57,53 +57,53 @@ row-next L M hbase vbase hb vb col h v t l e d = record {
 }
 
 -- ---- origins tried
-module _ (L M edges : ℕ) (conf limit : Float) (listed : ℕ) (X : CellTables) where
+module _ (L M edges : ℕ) (confidence limit : Float) (listed : ℕ) (X : CellTables) where
   -- one more
-  pub tried-more : (from : ℕ) (start x : Kept) (n : ℕ) → x ≡ tried L M edges conf limit listed X from start n
-      → offeredWithin edges limit x (originCandidate L M edges conf limit listed X (from + n)) ≡ tried L M edges conf limit listed X from start (n + 1)
+  pub tried-more : (from : ℕ) (start x : Kept) (n : ℕ) → x ≡ tried L M edges confidence limit listed X from start n
+      → offeredWithin edges limit x (originCandidate L M edges confidence limit listed X (from + n)) ≡ tried L M edges confidence limit listed X from start (n + 1)
   unfolding tried
   tried-more from start x n e = rw (add-one n, ← e)
 
   -- some, and then some more
   pub tried-on : (from : ℕ) (start : Kept) (a b : ℕ)
-      → tried L M edges conf limit listed X (from + a) (tried L M edges conf limit listed X from start a) b ≡ tried L M edges conf limit listed X from start (a + b)
+      → tried L M edges confidence limit listed X (from + a) (tried L M edges confidence limit listed X from start a) b ≡ tried L M edges confidence limit listed X from start (a + b)
   unfolding tried
   tried-on from start a zero = rw (add-zero a)
   tried-on from start a (suc b) =
-      rw (add-suc a b) (ap₂ (offeredWithin edges limit) (tried-on from start a b) (ap (originCandidate L M edges conf limit listed X) (add-assoc from a b)))
+      rw (add-suc a b) (ap₂ (offeredWithin edges limit) (tried-on from start a b) (ap (originCandidate L M edges confidence limit listed X) (add-assoc from a b)))
 
   -- none yet
-  pub tried-none : (start : Kept) → start ≡ tried L M edges conf limit listed X 0 start (0 * (3 * M))
+  pub tried-none : (start : Kept) → start ≡ tried L M edges confidence limit listed X 0 start (0 * (3 * M))
   unfolding tried
   tried-none start = rw (zero-mul (3 * M))
 
   -- the candidate at a row and a column, by its classes
   pub candidate-at : (row col ha va hb vb : ℕ) → col < 3 * M → ha ≡ row % L → va ≡ row % 3 → hb ≡ col % 3 → vb ≡ col % M
-      → originCandidate L M edges conf limit listed X (row * (3 * M) + col)
-      ≡ candidate (cAt (X .hc) (ha * 3 + hb) + cAt (X .vc) (va * M + vb)) (add binary32 (wAt (X .hw) (ha * 3 + hb)) (wAt (X .vw) (va * M + vb))) conf row col listed
+      → originCandidate L M edges confidence limit listed X (row * (3 * M) + col)
+      ≡ hardCandidate (cAt (X .hc) (ha * 3 + hb) + cAt (X .vc) (va * M + vb)) (add binary32 (wAt (X .hw) (ha * 3 + hb)) (wAt (X .vw) (va * M + vb))) confidence row col listed
   unfolding originCandidate
   candidate-at row col ha va hb vb l a b c d =
-      ap₂ (λ (r k : ℕ). candidate (cAt (X .hc) (r % L * 3 + k % 3) + cAt (X .vc) (r % 3 * M + k % M)) (add binary32 (wAt (X .hw) (r % L * 3 + k % 3)) (wAt (X .vw) (r % 3 * M + k % M))) conf r k listed)
+      ap₂ (λ (r k : ℕ). hardCandidate (cAt (X .hc) (r % L * 3 + k % 3) + cAt (X .vc) (r % 3 * M + k % M)) (add binary32 (wAt (X .hw) (r % L * 3 + k % 3)) (wAt (X .vw) (r % 3 * M + k % M))) confidence r k listed)
       (digits-div row l) (digits-mod row l)
-      ∙ ap₂ (λ (h v : ℕ). candidate (cAt (X .hc) h + cAt (X .vc) v) (add binary32 (wAt (X .hw) h) (wAt (X .vw) v)) conf row col listed)
+      ∙ ap₂ (λ (h v : ℕ). hardCandidate (cAt (X .hc) h + cAt (X .vc) v) (add binary32 (wAt (X .hw) h) (wAt (X .vw) v)) confidence row col listed)
       (ap₂ (λ (x y : ℕ). x * 3 + y) (sym a) (sym c)) (ap₂ (λ (x y : ℕ). x * M + y) (sym b) (sym d))
 
   -- a turn of a row
   pub row-turn : (row col ha va hb vb : ℕ) (start x y : Kept) → col < 3 * M → ha ≡ row % L → va ≡ row % 3 → hb ≡ col % 3 → vb ≡ col % M
-      → x ≡ tried L M edges conf limit listed X (row * (3 * M)) start col
-      → y ≡ offeredWithin edges limit x (candidate (cAt (X .hc) (ha * 3 + hb) + cAt (X .vc) (va * M + vb)) (add binary32 (wAt (X .hw) (ha * 3 + hb)) (wAt (X .vw) (va * M + vb))) conf row col listed)
-      → y ≡ tried L M edges conf limit listed X (row * (3 * M)) start (col + 1)
+      → x ≡ tried L M edges confidence limit listed X (row * (3 * M)) start col
+      → y ≡ offeredWithin edges limit x (hardCandidate (cAt (X .hc) (ha * 3 + hb) + cAt (X .vc) (va * M + vb)) (add binary32 (wAt (X .hw) (ha * 3 + hb)) (wAt (X .vw) (va * M + vb))) confidence row col listed)
+      → y ≡ tried L M edges confidence limit listed X (row * (3 * M)) start (col + 1)
   row-turn row col ha va hb vb start x y l a b c d e f =
       f ∙ ap (offeredWithin edges limit x) (sym (candidate-at row col ha va hb vb l a b c d)) ∙ tried-more (row * (3 * M)) start x col e
 
   -- one row more
-  pub rows-turn : (row : ℕ) (start x y : Kept) → x ≡ tried L M edges conf limit listed X 0 start (row * (3 * M)) → y ≡ tried L M edges conf limit listed X (row * (3 * M)) x (3 * M)
-      → y ≡ tried L M edges conf limit listed X 0 start ((row + 1) * (3 * M))
+  pub rows-turn : (row : ℕ) (start x y : Kept) → x ≡ tried L M edges confidence limit listed X 0 start (row * (3 * M)) → y ≡ tried L M edges confidence limit listed X (row * (3 * M)) x (3 * M)
+      → y ≡ tried L M edges confidence limit listed X 0 start ((row + 1) * (3 * M))
   rows-turn row start x y e f =
       f
-      ∙ ap₂ (λ (k : ℕ) (y : Kept). tried L M edges conf limit listed X k y (3 * M)) (sym (zero-add (row * (3 * M)))) e
+      ∙ ap₂ (λ (k : ℕ) (y : Kept). tried L M edges confidence limit listed X k y (3 * M)) (sym (zero-add (row * (3 * M)))) e
       ∙ tried-on 0 start (row * (3 * M)) (3 * M)
-      ∙ ap (tried L M edges conf limit listed X 0 start) (more row (3 * M))
+      ∙ ap (tried L M edges confidence limit listed X 0 start) (more row (3 * M))
     where
       more : (r m : ℕ) → r * m + m ≡ (r + 1) * m
       more r m = omega arith

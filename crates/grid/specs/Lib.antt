@@ -1,3 +1,4 @@
+pub mod BoardGrid
 pub mod RowFloor
 pub mod RowMajor
 pub mod RowMajorLaws

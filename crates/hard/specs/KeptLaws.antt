@@ -15,7 +15,7 @@ use Rattle.best.specs.CellTables.{CellTables}
 use Rattle.best.specs.Lex.{lexOf}
 use Rattle.scan.specs.Scan.{overLimit, takes, replaced, offeredWithin, emptyScan, SoundKept, SoundScan}
 use Rattle.direct.specs.Direct.{pairHits, originCandidate, tried}
-use Rattle.hard.specs.Transform.{bestOrigin, bestHits, bestCandidate, offeredBy, selected}
+use Rattle.hard.specs.Transform.{bestOrigin, bestHits, bestCandidate, offeredBy, selected, separationProductCap}
 use Rattle.hard.specs.TransformLaws.{by-none, by-direct, by-best, selected-none, selected-count, keptAt, selected-best}
 use Rattle.best.specs.declared.lex.LexMax.{LexMax}
 use Rattle.scan.specs.declared.scan.Candidate.{Candidate}
@@ -50,23 +50,23 @@ most-more S S' (One k) d h new up down = go (takes (One k) (d .hits) (d .score))
         let l = ltb-false (k .hits) (d .hits) (or-false (ltb (k .hits) (d .hits)) (eqb (d .hits) (k .hits) && lt (k .score) (d .score)) e .0) in
         (up k (h .0), λ x s. ⊎-elim (λ a. h .1 x a) (λ a. rw a l) (down x s))
 
-module _ (L M edges : ℕ) (conf limit : Float) where
+module _ (L M edges : ℕ) (confidence limit : Float) where
   -- ---- the direct scan
   -- the candidate of one of n origins from the key `from` on, within the limit
   abbrev Tried : ℕ → CellTables → ℕ → ℕ → Candidate → Type 0
-  Tried listed X from n c = (k : ℕ) × (k < n) × (overLimit edges limit (pairHits (origins L M) X (from + k)) ≡ false) × (c ≡ originCandidate L M edges conf limit listed X (from + k))
+  Tried listed X from n c = (k : ℕ) × (k < n) × (overLimit edges limit (pairHits (origins L M) X (from + k)) ≡ false) × (c ≡ originCandidate L M edges confidence limit listed X (from + k))
 
   tried-most : (listed : ℕ) (X : CellTables) (S : Candidate → Type 0) (start : Kept) → MostOf S start → (from n : ℕ)
-      → MostOf (λ c. S c ⊎ Tried listed X from n c) (tried L M edges conf limit listed X from start n)
+      → MostOf (λ c. S c ⊎ Tried listed X from n c) (tried L M edges confidence limit listed X from start n)
   unfolding tried offeredWithin originCandidate
   tried-most listed X S start h from zero = most-same S (λ c. S c ⊎ Tried listed X from 0 c) start h (λ x s. inl s) (λ x s. ⊎-elim (λ a. a) (λ a. absurd (omega (arith, a .1))) s)
   tried-most listed X S start h from (suc n) = go (overLimit edges limit (new .hits)) refl (tried-most listed X S start h from n)
     where
       new : Candidate
-      new = originCandidate L M edges conf limit listed X (from + n)
+      new = originCandidate L M edges confidence limit listed X (from + n)
 
       old : Kept
-      old = tried L M edges conf limit listed X from start n
+      old = tried L M edges confidence limit listed X from start n
 
       Before : Candidate → Type 0
       Before c = S c ⊎ Tried listed X from n c
@@ -82,7 +82,7 @@ module _ (L M edges : ℕ) (conf limit : Float) where
       down : (x : Candidate) → After x → Before x ⊎ ((x ≡ new) × (overLimit edges limit (new .hits) ≡ false))
       down x (inl s) = inl (inl s)
       down x (inr t) = ⊎-elim
-          (λ e. inr (t .3 ∙ ap (λ (k : ℕ). originCandidate L M edges conf limit listed X (from + k)) e, rw e at (t .2)))
+          (λ e. inr (t .3 ∙ ap (λ (k : ℕ). originCandidate L M edges confidence limit listed X (from + k)) e, rw e at (t .2)))
           (λ l. inl (inr (t .0, l, t .2, t .3)))
           (split (t .0) n (t .1))
 
@@ -94,7 +94,7 @@ module _ (L M edges : ℕ) (conf limit : Float) where
 
   -- the candidate of one of all origins, within the limit
   abbrev pub Among : ℕ → CellTables → Candidate → Type 0
-  Among listed X c = (k : ℕ) × (k < 3 * L * (3 * M)) × (overLimit edges limit (pairHits (origins L M) X k) ≡ false) × (c ≡ originCandidate L M edges conf limit listed X k)
+  Among listed X c = (k : ℕ) × (k < 3 * L * (3 * M)) × (overLimit edges limit (pairHits (origins L M) X k) ≡ false) × (c ≡ originCandidate L M edges confidence limit listed X k)
 
   among : (listed : ℕ) (X : CellTables) (c : Candidate) → Tried listed X 0 (3 * L * (3 * M)) c → Among listed X c
   among listed X c t = (t .0, t .1, rw (zero-add (t .0)) at (t .2), rw (zero-add (t .0)) at (t .3))
@@ -109,12 +109,12 @@ module _ (L M edges : ℕ) (conf limit : Float) where
       let a = lexOf (X .hc) (X .hw) in
       let b = lexOf (X .vc) (X .vw) in
       (overLimit edges limit (bestHits a b) ≡ false)
-      × (((a .optimal * b .optimal ≤ 1024) × (c ≡ bestCandidate M conf listed a b (bestOrigin (origins L M) X)))
-      ⊎ ((1024 < a .optimal * b .optimal) × Among listed X c))
+      × (((a .optimal * b .optimal ≤ separationProductCap) × (c ≡ bestCandidate M confidence listed a b (bestOrigin (origins L M) X)))
+      ⊎ ((separationProductCap < a .optimal * b .optimal) × Among listed X c))
 
   transform-most : (listed : ℕ) (X : CellTables) (S : Candidate → Type 0) (kept : Kept) → MostOf S kept
-      → MostOf (λ c. S c ⊎ Offers listed X c) (offeredBy L M edges conf limit listed X (lexOf (X .hc) (X .hw)) (lexOf (X .vc) (X .vw)) (bestOrigin (origins L M) X) kept)
-  transform-most listed X S kept h = ⊎-elim none-offered (λ e. ⊎-elim (scanned e) (single e) (compared 1024 (a .optimal * b .optimal))) (cases (overLimit edges limit (bestHits a b)))
+      → MostOf (λ c. S c ⊎ Offers listed X c) (offeredBy L M edges confidence limit listed X (lexOf (X .hc) (X .hw)) (lexOf (X .vc) (X .vw)) (bestOrigin (origins L M) X) kept)
+  transform-most listed X S kept h = ⊎-elim none-offered (λ e. ⊎-elim (scanned e) (single e) (compared separationProductCap (a .optimal * b .optimal))) (cases (overLimit edges limit (bestHits a b)))
     where
       a : LexMax
       a = lexOf (X .hc) (X .hw)
@@ -128,22 +128,22 @@ module _ (L M edges : ℕ) (conf limit : Float) where
       After : Candidate → Type 0
       After c = S c ⊎ Offers listed X c
 
-      none-offered : overLimit edges limit (bestHits a b) ≡ true → MostOf After (offeredBy L M edges conf limit listed X a b first kept)
+      none-offered : overLimit edges limit (bestHits a b) ≡ true → MostOf After (offeredBy L M edges confidence limit listed X a b first kept)
       none-offered e =
-          rw (by-none L M edges conf limit listed X a b first kept e)
+          rw (by-none L M edges confidence limit listed X a b first kept e)
           (most-same S After kept h (λ x s. inl s) (λ x s. ⊎-elim (λ t. t) (λ t. clash e (t .0)) s))
 
-      scanned : overLimit edges limit (bestHits a b) ≡ false → 1024 < a .optimal * b .optimal → MostOf After (offeredBy L M edges conf limit listed X a b first kept)
+      scanned : overLimit edges limit (bestHits a b) ≡ false → separationProductCap < a .optimal * b .optimal → MostOf After (offeredBy L M edges confidence limit listed X a b first kept)
       scanned e l =
-          rw (by-direct L M edges conf limit listed X a b first kept e l)
-          (most-same (λ c. S c ⊎ Tried listed X 0 (3 * L * (3 * M)) c) After (tried L M edges conf limit listed X 0 kept (3 * L * (3 * M))) (tried-most listed X S kept h 0 (3 * L * (3 * M)))
+          rw (by-direct L M edges confidence limit listed X a b first kept e l)
+          (most-same (λ c. S c ⊎ Tried listed X 0 (3 * L * (3 * M)) c) After (tried L M edges confidence limit listed X 0 kept (3 * L * (3 * M))) (tried-most listed X S kept h 0 (3 * L * (3 * M)))
           (λ x s. ⊎-elim inl (λ t. inr (e, inr (l, among listed X x t))) s)
           (λ x s. ⊎-elim inl (λ t. ⊎-elim (λ u. absurd (omega (arith, u .0))) (λ u. inr (among-tried listed X x (u .1))) (t .1)) s))
 
-      single : overLimit edges limit (bestHits a b) ≡ false → a .optimal * b .optimal ≤ 1024 → MostOf After (offeredBy L M edges conf limit listed X a b first kept)
+      single : overLimit edges limit (bestHits a b) ≡ false → a .optimal * b .optimal ≤ separationProductCap → MostOf After (offeredBy L M edges confidence limit listed X a b first kept)
       single e l =
-          rw (by-best L M edges conf limit listed X a b first kept e l)
-          (most-more S After kept (bestCandidate M conf listed a b first) h (inr (e, inl (l, refl))) (λ x s. inl s)
+          rw (by-best L M edges confidence limit listed X a b first kept e l)
+          (most-more S After kept (bestCandidate M confidence listed a b first) h (inr (e, inl (l, refl))) (λ x s. inl s)
           (λ x s. ⊎-elim inl (λ t. ⊎-elim (λ u. inr (u .1)) (λ u. absurd (omega (arith, u .0))) (t .1)) s))
 
   -- ---- the list
@@ -152,12 +152,12 @@ module _ (L M edges : ℕ) (conf limit : Float) where
     abbrev pub Listed : ℕ → Candidate → Type 0
     Listed n c = (p : ℕ) × (p < n) × Offers p (tab p) c
 
-    pub kept-most : (n : ℕ) → MostOf (Listed n) (selected L M edges conf limit ts tab n .best)
+    pub kept-most : (n : ℕ) → MostOf (Listed n) (selected L M edges confidence limit ts tab n .best)
     unfolding emptyScan
-    kept-most zero = rw (selected-none L M edges conf limit ts tab) (λ c s. omega (arith, s .1))
+    kept-most zero = rw (selected-none L M edges confidence limit ts tab) (λ c s. omega (arith, s .1))
     kept-most (suc n) =
-        rw (selected-best L M edges conf limit ts tab n)
-        (most-same (λ c. Listed n c ⊎ Offers n (tab n) c) (Listed (suc n)) (keptAt L M edges conf limit tab n (selected L M edges conf limit ts tab n .best)) (transform-most n (tab n) (Listed n) (selected L M edges conf limit ts tab n .best) (kept-most n)) up down)
+        rw (selected-best L M edges confidence limit ts tab n)
+        (most-same (λ c. Listed n c ⊎ Offers n (tab n) c) (Listed (suc n)) (keptAt L M edges confidence limit tab n (selected L M edges confidence limit ts tab n .best)) (transform-most n (tab n) (Listed n) (selected L M edges confidence limit ts tab n .best) (kept-most n)) up down)
       where
         up : (x : Candidate) → Listed n x ⊎ Offers n (tab n) x → Listed (suc n) x
         up x (inl s) = (s .0, omega (arith, s .1), s .2)
@@ -172,8 +172,8 @@ module _ (L M edges : ℕ) (conf limit : Float) where
     offers-place p c o = ⊎-elim (λ u. ap (λ (d : Candidate). d .placing .listed) (u .1)) (λ u. ap (λ (d : Candidate). d .placing .listed) (u .1 .3)) (o .1)
 
     -- so the scan is one that `finish` takes
-    pub selected-sound : (n : ℕ) → n ≤ 8 → SoundScan (selected L M edges conf limit ts tab n)
-    selected-sound n l = rw (selected-count L M edges conf limit ts tab n) (l, go (selected L M edges conf limit ts tab n .best) (kept-most n))
+    pub selected-sound : (n : ℕ) → n ≤ 8 → SoundScan (selected L M edges confidence limit ts tab n)
+    selected-sound n l = rw (selected-count L M edges confidence limit ts tab n) (l, go (selected L M edges confidence limit ts tab n .best) (kept-most n))
       where
         go : (o : Kept) → MostOf (Listed n) o → SoundKept o n
         go Nobody h = tt

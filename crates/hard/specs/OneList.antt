@@ -33,10 +33,10 @@ abbrev pub originNumber : ℕ → ℕ → ℕ
 originNumber L M = 3 * L * (3 * M)
 
 -- a list of `edges` edges and of n positions, of which position p has the transform ts p and the tables tab p
-module _ (L M edges : ℕ) (conf limit : Float) (ts : ℕ → ℕ) (tab : ℕ → CellTables) (n : ℕ) where
+module _ (L M edges : ℕ) (confidence limit : Float) (ts : ℕ → ℕ) (tab : ℕ → CellTables) (n : ℕ) where
   -- what the selection chooses
   abbrev pub choice : Choice
-  choice = chosen (selected L M edges conf limit ts tab n)
+  choice = chosen (selected L M edges confidence limit ts tab n)
 
   -- a placing is chosen, and the gate refuses it
   abbrev pub Stopped : Type 0
@@ -56,7 +56,7 @@ module _ (L M edges : ℕ) (conf limit : Float) (ts : ℕ → ℕ) (tab : ℕ �
     pub sole : Sole n (originNumber L M) edges limit (hitsOf L M tab) (c .placing .listed) (keyAt M (c .placing .row) (c .placing .col))
     pub only : (p k : ℕ) → Sole n (originNumber L M) edges limit (hitsOf L M tab) p k → (p ≡ c .placing .listed) × (k ≡ keyAt M (c .placing .row) (c .placing .col))
     pub hits : c .hits ≡ hitsOf L M tab (c .placing .listed) (keyAt M (c .placing .row) (c .placing .col))
-    pub next : MostOther n (originNumber L M) edges limit (hitsOf L M tab) (c .placing .listed) (keyAt M (c .placing .row) (c .placing .col)) (r .hits)
+    pub runner-up : MostOther n (originNumber L M) edges limit (hitsOf L M tab) (c .placing .listed) (keyAt M (c .placing .row) (c .placing .col)) (r .hits)
     pub named : (p : ℕ) × (p < n) × (ts p ≡ r .transform) × (keyAt M (r .row) (r .col) < originNumber L M)
         × ((p ≡ c .placing .listed) × (keyAt M (r .row) (r .col) ≡ keyAt M (c .placing .row) (c .placing .col)) → ⊥) × (hitsOf L M tab p (keyAt M (r .row) (r .col)) ≡ r .hits)
 
@@ -66,7 +66,7 @@ module _ (L M edges : ℕ) (conf limit : Float) (ts : ℕ → ℕ) (tab : ℕ �
     pub row : c .placing .row < 3 * L
     pub col : c .placing .col < 3 * M
     pub hits : c .hits ≤ edges
-    pub next-place : (p : ℕ) × (p < n) × (ts p ≡ r .transform)
-    pub next-row : r .row < 3 * L
-    pub next-col : r .col < 3 * M
-    pub next-hits : r .hits ≤ edges
+    pub runner-up-listed : (p : ℕ) × (p < n) × (ts p ≡ r .transform)
+    pub runner-up-row : r .row < 3 * L
+    pub runner-up-col : r .col < 3 * M
+    pub runner-up-hits : r .hits ≤ edges

@@ -10,7 +10,7 @@ use Rattle.scan.specs.Scan.{overLimit}
 pub data Outcome : Type 0 where
   none-within-limit : Outcome
   not-far-ahead : Outcome
-  found : (listed key hits next : ℕ) → Outcome
+  found : (listed key hits runner-up : ℕ) → Outcome
 
 -- n list positions, the keys below `none`, of a list of `edges` edges
 module _ (n none edges : ℕ) (limit : Float) (hit : ℕ → ℕ → ℕ) where
@@ -39,4 +39,4 @@ module _ (n none edges : ℕ) (limit : Float) (hit : ℕ → ℕ → ℕ) where
   abbrev pub Right : Outcome → Type 0
   Right none-within-limit = NoneWithin
   Right not-far-ahead = SomeWithin × ((p k : ℕ) → Sole p k → ⊥)
-  Right (found p k hits next) = Sole p k × (hits ≡ hit p k) × MostOther p k next
+  Right (found p k hits runner-up) = Sole p k × (hits ≡ hit p k) × MostOther p k runner-up

@@ -64,5 +64,5 @@ right-ext n none edges limit hit hit' same not-far-ahead h =
       (w .0, w .1, w .2, w .3, ap (overLimit edges limit) (sym (same (w .0) (w .1) (w .2) (w .3))) ∙ w .4),
       λ p k S. h .1 p k (sole-ext n none edges limit hit' hit (λ i j hi hj. sym (same i j hi hj)) p k S),
     )
-right-ext n none edges limit hit hit' same (found p k hits next) h =
-    (sole-ext n none edges limit hit hit' same p k (h .0), h .1 ∙ same p k (h .0 .listed) (h .0 .key), most-other-ext n none edges limit hit hit' same p k next (h .2))
+right-ext n none edges limit hit hit' same (found p k hits runner-up) h =
+    (sole-ext n none edges limit hit hit' same p k (h .0), h .1 ∙ same p k (h .0 .listed) (h .0 .key), most-other-ext n none edges limit hit hit' same p k runner-up (h .2))

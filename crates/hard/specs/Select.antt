@@ -37,7 +37,7 @@ scanOf B E ts limit n =
 -- refused where no transform offered a candidate
 abbrev pub ofChoice : Choice → Selection
 ofChoice Nothing = Refused (numbered why.noneWithinLimit)
-ofChoice (Chosen winner next) = Selected winner next
+ofChoice (Chosen winner runner-up) = Selected winner runner-up
 
 abbrev pub orRefused : Bool → Choice → Selection
 orRefused true c = Refused (numbered why.noConfidence)

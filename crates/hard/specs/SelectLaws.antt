@@ -20,6 +20,7 @@ use Rattle.room.specs.Room.{cellsAt, used, Laid}
 use Rattle.tables.specs.Built.{TablesReady, TablesBuilt}
 use Rattle.tables.specs.TablesTheorems.{length-counts, length-weights, counts-few, weights-weightlike, read-counts, read-weights, rooms-equal}
 use Rattle.best.specs.CellTables.{Period, CellTables, cells, TablesOk, cAt, wAt}
+use Rattle.grid.specs.BoardGrid.{period-h, period-v}
 use Rattle.scan.specs.Scan.{SoundScan, emptyScan, chosen}
 use Rattle.hard.specs.Transform.{foldTransform, selected}
 use Rattle.hard.specs.TransformLaws.{selected-none, selected-more, selected-count}
@@ -43,13 +44,6 @@ pub record RoomReady (L M edges : ℕ) (c : List ℕ) (w : List Float) : Type 0 
   pub v : Period M
   pub room : (3 * L + 3 * M ≤ length c) × (3 * L + 3 * M ≤ length w)
   pub tables : TablesOk L M edges (roomCells L M c w)
-
--- ---- the board's periods
-pub period-h : (B : Board) → BoardOk B → Period (periodOf B true)
-period-h B ok = record { more = ok .h .some; few = ok .h .few; free = ok .h .free }
-
-pub period-v : (B : Board) → BoardOk B → Period (periodOf B false)
-period-v B ok = record { more = ok .v .some; few = ok .v .few; free = ok .v .free }
 
 -- the tables of a transform are as the fold asks
 pub tables-ok : (B : Board) (E : EdgeList) (t : ℕ) → BoardOk B → ListOk E → TablesOk (periodOf B true) (periodOf B false) (size E) (tablesOf B E t)
@@ -117,28 +111,28 @@ module _ (B : Board) (E : EdgeList) (ts : List ℕ) (c : List ℕ) (w : List Flo
 -- ---- the scan
 -- after n transforms, with the total confidence conf
 abbrev pub scanBy : Board → EdgeList → List ℕ → Float → Float → ℕ → HardScan
-scanBy B E ts conf limit n = selected (periodOf B true) (periodOf B false) (size E) conf limit (λ p. getD ts p 0) (λ p. tablesOf B E (getD ts p 0)) n
+scanBy B E ts confidence limit n = selected (periodOf B true) (periodOf B false) (size E) confidence limit (λ p. getD ts p 0) (λ p. tablesOf B E (getD ts p 0)) n
 
 -- what a scan of the first n transforms did, given the list's total confidence: its record is the definition's, and the room holds the last one's tables
-pub record ScanDone (B : Board) (E : EdgeList) (ts : List ℕ) (conf limit : Float) (n : ℕ) (c c' : List ℕ) (w w' : List Float) (r : HardScan) : Type 0 where
-  pub answer : r ≡ scanBy B E ts conf limit n
+pub record ScanDone (B : Board) (E : EdgeList) (ts : List ℕ) (confidence limit : Float) (n : ℕ) (c c' : List ℕ) (w w' : List Float) (r : HardScan) : Type 0 where
+  pub answer : r ≡ scanBy B E ts confidence limit n
   pub rooms : Rooms B E ts n c c' w w'
 
-module _ (B : Board) (E : EdgeList) (ts : List ℕ) (conf limit : Float) (c : List ℕ) (w : List Float) where
-  pub scan-none : ScanDone B E ts conf limit 0 c c w w emptyScan
+module _ (B : Board) (E : EdgeList) (ts : List ℕ) (confidence limit : Float) (c : List ℕ) (w : List Float) where
+  pub scan-none : ScanDone B E ts confidence limit 0 c c w w emptyScan
   unfolding Rooms
-  scan-none = record { answer = sym (selected-none (periodOf B true) (periodOf B false) (size E) conf limit (λ p. getD ts p 0) (λ p. tablesOf B E (getD ts p 0))); rooms = (refl, refl) }
+  scan-none = record { answer = sym (selected-none (periodOf B true) (periodOf B false) (size E) confidence limit (λ p. getD ts p 0) (λ p. tablesOf B E (getD ts p 0))); rooms = (refl, refl) }
 
-  pub scan-count : (n : ℕ) (c' : List ℕ) (w' : List Float) (r : HardScan) → ScanDone B E ts conf limit n c c' w w' r → r .count ≡ n
-  scan-count n c' w' r d = ap (λ (s : HardScan). s .count) (d .answer) ∙ selected-count (periodOf B true) (periodOf B false) (size E) conf limit (λ p. getD ts p 0) (λ p. tablesOf B E (getD ts p 0)) n
+  pub scan-count : (n : ℕ) (c' : List ℕ) (w' : List Float) (r : HardScan) → ScanDone B E ts confidence limit n c c' w w' r → r .count ≡ n
+  scan-count n c' w' r d = ap (λ (s : HardScan). s .count) (d .answer) ∙ selected-count (periodOf B true) (periodOf B false) (size E) confidence limit (λ p. getD ts p 0) (λ p. tablesOf B E (getD ts p 0)) n
 
-  pub scan-more : (R : SelectReady B E ts c w) (n : ℕ) (c' c'' : List ℕ) (w' w'' : List Float) (r r' : HardScan) → n < length ts → ScanDone B E ts conf limit n c c' w w' r → TablesBuilt B E (getD ts n 0) c' c'' w' w''
-      → r' ≡ foldTransform (periodOf B true) (periodOf B false) (size E) conf limit (getD ts n 0) (roomCells (periodOf B true) (periodOf B false) c'' w'') r → ScanDone B E ts conf limit (n + 1) c c'' w w'' r'
+  pub scan-more : (R : SelectReady B E ts c w) (n : ℕ) (c' c'' : List ℕ) (w' w'' : List Float) (r r' : HardScan) → n < length ts → ScanDone B E ts confidence limit n c c' w w' r → TablesBuilt B E (getD ts n 0) c' c'' w' w''
+      → r' ≡ foldTransform (periodOf B true) (periodOf B false) (size E) confidence limit (getD ts n 0) (roomCells (periodOf B true) (periodOf B false) c'' w'') r → ScanDone B E ts confidence limit (n + 1) c c'' w w'' r'
   scan-more R n c' c'' w' w'' r r' h d b e = record {
     answer =
         e
-        ∙ ap (λ (X : CellTables). foldTransform (periodOf B true) (periodOf B false) (size E) conf limit (getD ts n 0) X r) (built-cells B E (getD ts n 0) c' c'' w' w'' (rooms-ready B E ts c w R n c' w' (d .rooms) h) b)
-        ∙ selected-more (periodOf B true) (periodOf B false) (size E) conf limit (λ p. getD ts p 0) (λ p. tablesOf B E (getD ts p 0)) n r (d .answer);
+        ∙ ap (λ (X : CellTables). foldTransform (periodOf B true) (periodOf B false) (size E) confidence limit (getD ts n 0) X r) (built-cells B E (getD ts n 0) c' c'' w' w'' (rooms-ready B E ts c w R n c' w' (d .rooms) h) b)
+        ∙ selected-more (periodOf B true) (periodOf B false) (size E) confidence limit (λ p. getD ts p 0) (λ p. tablesOf B E (getD ts p 0)) n r (d .answer);
     rooms = rooms-more B E ts c w R n c' c'' w' w'' (d .rooms) b;
   }
 
@@ -150,18 +144,18 @@ module _ (B : Board) (E : EdgeList) (ts : List ℕ) (limit : Float) (c : List �
   select-refused h = record { answer = rw h; rooms = rw h (refl, refl) }
 
   -- else what the scan chose
-  pub select-chosen : (c' : List ℕ) (w' : List Float) (s : HardScan) (x y : Choice) (conf : Float) → conf ≡ totalConfidence E → eq (totalConfidence E) zeroF ≡ false → ScanDone B E ts conf limit (length ts) c c' w w' s
+  pub select-chosen : (c' : List ℕ) (w' : List Float) (s : HardScan) (x y : Choice) (confidence : Float) → confidence ≡ totalConfidence E → eq (totalConfidence E) zeroF ≡ false → ScanDone B E ts confidence limit (length ts) c c' w w' s
       → x ≡ chosen s → x ≡ y → SelectDone B E ts limit c c' w w' (ofChoice y)
   unfolding selection noConfidence builtTo scanOf
-  select-chosen c' w' s x y conf k h d e g = record {
+  select-chosen c' w' s x y confidence k h d e g = record {
     answer = rw h (ap ofChoice (sym g ∙ e ∙ ap chosen (d .answer ∙ ap (λ (z : Float). scanBy B E ts z limit (length ts)) k)));
     rooms = rw h (d .rooms);
   }
 
   -- the scan may be finished
-  pub scan-sound : (R : SelectReady B E ts c w) (conf : Float) (c' : List ℕ) (w' : List Float) (s : HardScan) → ScanDone B E ts conf limit (length ts) c c' w w' s → SoundScan s
-  scan-sound R conf c' w' s d =
-      subst (λ (x : HardScan). SoundScan x) (sym (d .answer)) (selected-sound (periodOf B true) (periodOf B false) (size E) conf limit (λ p. getD ts p 0) (λ p. tablesOf B E (getD ts p 0)) (length ts) (R .transforms .1))
+  pub scan-sound : (R : SelectReady B E ts c w) (confidence : Float) (c' : List ℕ) (w' : List Float) (s : HardScan) → ScanDone B E ts confidence limit (length ts) c c' w w' s → SoundScan s
+  scan-sound R confidence c' w' s d =
+      subst (λ (x : HardScan). SoundScan x) (sym (d .answer)) (selected-sound (periodOf B true) (periodOf B false) (size E) confidence limit (λ p. getD ts p 0) (λ p. tablesOf B E (getD ts p 0)) (length ts) (R .transforms .1))
 
   -- whatever it comes to, the surplus of the room is what it was
   pub select-beyond : (R : SelectReady B E ts c w) (c' : List ℕ) (w' : List Float) (r : Selection) → SelectDone B E ts limit c c' w w' r → SameBeyond 0 (used (periodOf B) 1) c c' × SameBeyond nan (used (periodOf B) 1) w w'

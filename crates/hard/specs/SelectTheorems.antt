@@ -30,7 +30,8 @@ use Rattle.refusals.specs.Numbers.{numbered}
 use Rattle.refusals.specs.Numbers as why
 use Rattle.figures.specs.Figures.{totalConfidence, noConfidence}
 use Rattle.hard.specs.Select.{tablesOf, scanOf, ofChoice, orRefused, selection}
-use Rattle.hard.specs.SelectLaws.{period-h, period-v, tables-ok}
+use Rattle.grid.specs.BoardGrid.{period-h, period-v}
+use Rattle.hard.specs.SelectLaws.{tables-ok}
 
 -- the hits of the origin with the key k under the transform at list position p, counted edge by edge: k stands for row k / 3 M and column k mod 3 M
 abbrev pub hitsAtKey : Board → EdgeList → List ℕ → ℕ → ℕ → ℕ
@@ -112,10 +113,10 @@ module _ (B : Board) (E : EdgeList) (ts : List ℕ) (limit : Float) where
     selected-right w r e g = rw g at (subst (λ (x : Choice). Right (length ts) none (size E) limit (hitsAtKey B E ts) (outcomeOf M (size E) x)) (selected-chosen w r e .1) one-list-by-hits)
 
     -- and its runner-up names another placing with as many hits as it says
-    pub selected-next : (w : Candidate) (r : RunnerUp) → selection B E ts limit ≡ Selected w r → passed (size E) (w .hits) (r .hits) ≡ true
+    pub selected-runner-up : (w : Candidate) (r : RunnerUp) → selection B E ts limit ≡ Selected w r → passed (size E) (w .hits) (r .hits) ≡ true
         → (p : ℕ) × (p < length ts) × (getD ts p 0 ≡ r .transform) × ((p ≡ w .placing .listed) × (keyAt M (r .row) (r .col) ≡ keyAt M (w .placing .row) (w .placing .col)) → ⊥) × (hitsAtKey B E ts p (keyAt M (r .row) (r .col)) ≡ r .hits)
     unfolding scanOf
-    selected-next w r e g =
+    selected-runner-up w r e g =
         let n = reported L M (size E) (totalConfidence E) limit (λ p. getD ts p 0) tab (length ts) (period-h B board) (period-v B board) few all-ok w r (selected-chosen w r e .1) g .named in
         (n .0, n .1, n .2, n .4, sym (counted (n .0) (keyAt M (r .row) (r .col))) ∙ n .5)
 

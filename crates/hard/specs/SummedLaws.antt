@@ -16,26 +16,27 @@ use Rattle.laws.specs.Counting.{count-pos, count-one, other-passes}
 use Rattle.laws.specs.Grid.{Grid, Laws, origins}
 use Rattle.laws.specs.Weights.{weightlike}
 use Rattle.best.specs.CellTables.{CellTables, Period, TablesOk, cAt, wAt}
-use Rattle.best.specs.Lex.{level, optimal, lexBest, secondCell, lexOf}
+use Rattle.best.specs.Lex.{tiedCount, optimal, lexBest, lexSecond, lexOf}
 use Rattle.best.specs.LexLaws.{cell-in, largest, best-optimal, optimal-count, second-inside, second-other, second-most}
+use Rattle.grid.specs.BoardGrid.{grid}
 use Rattle.grid.specs.RowMajor.{rowMajor}
 use Rattle.grid.specs.RowMajorLaws.{major-le, major-is}
 use Rattle.direct.specs.Direct.{pairHits}
-use Rattle.hard.specs.Transform.{bestOrigin, bestHits, tied, nextOrigin}
-use Rattle.hard.specs.TransformLaws.{grid, h-table, v-table}
+use Rattle.hard.specs.Transform.{bestOrigin, bestHits, pairsTied, runnerUpWithin, separationProductCap}
+use Rattle.hard.specs.TransformLaws.{h-table, v-table}
 use Rattle.hard.specs.declared.transform.Ranked.{Ranked}
 
 -- what a summary says of the origins with the hits `hit`: the best hits, at the key `first`, and the runner-up's hits, which another origin has; where no two
 -- pairs of cells have the largest counts, the runner-up is named by its own key
-pub record Summed (none : ℕ) (hit : ℕ → ℕ) (best first : ℕ) (next : Ranked) (tie : Bool) : Type 0 where
+pub record Summed (none : ℕ) (hit : ℕ → ℕ) (best first : ℕ) (within : Ranked) (tie : Bool) : Type 0 where
   pub inside : first < none
   pub at : hit first ≡ best
   pub most : (k : ℕ) → hit k ≤ best
-  pub others : (k : ℕ) → k < none → (k ≡ first → ⊥) → hit k ≤ next .hits
-  pub had : (k : ℕ) × (k < none) × (k ≡ first → ⊥) × (hit k ≡ next .hits)
-  pub key-in : next .key < none
-  pub named : tie ≡ false → (next .key < none) × (next .key ≡ first → ⊥) × (hit (next .key) ≡ next .hits)
-  pub level : tie ≡ true → next .hits ≡ best
+  pub others : (k : ℕ) → k < none → (k ≡ first → ⊥) → hit k ≤ within .hits
+  pub had : (k : ℕ) × (k < none) × (k ≡ first → ⊥) × (hit k ≡ within .hits)
+  pub key-in : within .key < none
+  pub named : tie ≡ false → (within .key < none) × (within .key ≡ first → ⊥) × (hit (within .key) ≡ within .hits)
+  pub tied : tie ≡ true → within .hits ≡ best
 
 -- ---- products of numbers of cells
 ones : (x y : ℕ) → 0 < x → 0 < y → x * y ≤ 1 → (x ≡ 1) × (y ≡ 1)
@@ -67,26 +68,26 @@ module _ (cs : List ℕ) (ws : List Float) (two : 1 < length cs) (ok : (i : ℕ)
   abbrev isBest : ℕ → Bool
   isBest = optimal cs ws (cAt cs best) (wAt ws best)
 
-  abbrev levels : ℕ
-  levels = count (length cs) (level cs (cAt cs best))
+  abbrev ties : ℕ
+  ties = count (length cs) (tiedCount cs (cAt cs best))
 
-  best-level : level cs (cAt cs best) best ≡ true
-  best-level = eq-eqb (cAt cs best) (cAt cs best) refl
+  best-tied : tiedCount cs (cAt cs best) best ≡ true
+  best-tied = eq-eqb (cAt cs best) (cAt cs best) refl
 
-  some-level : 0 < levels
-  some-level = count-pos (level cs (cAt cs best)) (length cs) best (cell-in cs ws two) best-level
+  some-tied : 0 < ties
+  some-tied = count-pos (tiedCount cs (cAt cs best)) (length cs) best (cell-in cs ws two) best-tied
 
   -- where one cell has the largest count, it is the best cell
-  only-level : levels ≡ 1 → (i : ℕ) → i < length cs → cAt cs i ≡ cAt cs best → i ≡ best
-  only-level one i l e = count-one (level cs (cAt cs best)) (length cs) i best one l (cell-in cs ws two) (eq-eqb (cAt cs i) (cAt cs best) e) best-level
+  only-tied : ties ≡ 1 → (i : ℕ) → i < length cs → cAt cs i ≡ cAt cs best → i ≡ best
+  only-tied one i l e = count-one (tiedCount cs (cAt cs best)) (length cs) i best one l (cell-in cs ws two) (eq-eqb (cAt cs i) (cAt cs best) e) best-tied
 
   -- where more than one has it, one that is not h has
-  other-level : 1 < levels → (h : ℕ) → (i : ℕ) × (i < length cs) × (cAt cs i ≡ cAt cs best) × (i ≡ h → ⊥)
-  other-level m h = let u = other-passes (level cs (cAt cs best)) (length cs) h m in (u .0, u .1, eqb-true (cAt cs (u .0)) (cAt cs best) (u .2), u .3)
+  other-tied : 1 < ties → (h : ℕ) → (i : ℕ) × (i < length cs) × (cAt cs i ≡ cAt cs best) × (i ≡ h → ⊥)
+  other-tied m h = let u = other-passes (tiedCount cs (cAt cs best)) (length cs) h m in (u .0, u .1, eqb-true (cAt cs (u .0)) (cAt cs best) (u .2), u .3)
 
   -- at most so many cells are optimal
-  optimal-fewer : count (length cs) isBest ≤ levels
-  optimal-fewer = count-implies isBest (level cs (cAt cs best)) (length cs) (λ i l e. eq-eqb (cAt cs i) (cAt cs best) (optimal-count cs ws (cAt cs best) (wAt ws best) i e))
+  optimal-fewer : count (length cs) isBest ≤ ties
+  optimal-fewer = count-implies isBest (tiedCount cs (cAt cs best)) (length cs) (λ i l e. eq-eqb (cAt cs i) (cAt cs best) (optimal-count cs ws (cAt cs best) (wAt ws best) i e))
 
 -- ---- both tables
 module _ (L M : ℕ) (p : Period L) (q : Period M) (edges : ℕ) (X : CellTables) (ok : TablesOk L M edges X) where
@@ -165,34 +166,34 @@ module _ (L M : ℕ) (p : Period L) (q : Period M) (edges : ℕ) (X : CellTables
   apart : (h v h' v' : ℕ) → h < length hc → v < length vc → h' < length hc → v' < length vc → G .key h v ≡ G .key h' v' → (h ≡ h') × (v ≡ v')
   apart h v h' v' i j i' j' e = (sym (E .h-key h v i j) ∙ ap (G .hOf) e ∙ E .h-key h' v' i' j', sym (E .v-key h v i j) ∙ ap (G .vOf) e ∙ E .v-key h' v' i' j')
 
-  abbrev hlevels : ℕ
-  hlevels = count (length hc) (level hc (cAt hc a))
+  abbrev hties : ℕ
+  hties = count (length hc) (tiedCount hc (cAt hc a))
 
-  abbrev vlevels : ℕ
-  vlevels = count (length vc) (level vc (cAt vc b))
+  abbrev vties : ℕ
+  vties = count (length vc) (tiedCount vc (cAt vc b))
 
   -- more than one pair of cells with the largest counts: another origin has the best hits
-  level-other : 1 < hlevels * vlevels → (k : ℕ) × (k < G .none) × (k ≡ first → ⊥) × (pairHits G X k ≡ top)
-  level-other l = ⊎-elim by-h by-v (more-than-one hlevels vlevels l)
+  tied-other : 1 < hties * vties → (k : ℕ) × (k < G .none) × (k ≡ first → ⊥) × (pairHits G X k ≡ top)
+  tied-other l = ⊎-elim by-h by-v (more-than-one hties vties l)
     where
-      by-h : 1 < hlevels → (k : ℕ) × (k < G .none) × (k ≡ first → ⊥) × (pairHits G X k ≡ top)
+      by-h : 1 < hties → (k : ℕ) × (k < G .none) × (k ≡ first → ⊥) × (pairHits G X k ≡ top)
       by-h m =
           let w = pair in
-          let u = other-level hc (X .hw) htwo hok m (w .0) in
+          let u = other-tied hc (X .hw) htwo hok m (w .0) in
           (G .key (u .0) (w .1), E .under (u .0) (w .1) (u .1) (w .3), (λ e. u .3 (apart (u .0) (w .1) (w .0) (w .1) (u .1) (w .3) (w .2) (w .3) (e ∙ w .6) .0)), hit-pair (u .0) (w .1) (u .1) (w .3) ∙ ap₂ _+_ (u .2) (w .5))
 
-      by-v : 1 < vlevels → (k : ℕ) × (k < G .none) × (k ≡ first → ⊥) × (pairHits G X k ≡ top)
+      by-v : 1 < vties → (k : ℕ) × (k < G .none) × (k ≡ first → ⊥) × (pairHits G X k ≡ top)
       by-v m =
           let w = pair in
-          let u = other-level vc (X .vw) vtwo vok m (w .1) in
+          let u = other-tied vc (X .vw) vtwo vok m (w .1) in
           (G .key (w .0) (u .0), E .under (w .0) (u .0) (w .2) (u .1), (λ e. u .3 (apart (w .0) (u .0) (w .0) (w .1) (w .2) (u .1) (w .2) (w .3) (e ∙ w .6) .1)), hit-pair (w .0) (u .0) (w .2) (u .1) ∙ ap₂ _+_ (w .4) (u .2))
 
   -- ---- one pair alone
   abbrev s : ℕ
-  s = secondCell hc a
+  s = lexSecond hc a
 
   abbrev u : ℕ
-  u = secondCell vc b
+  u = lexSecond vc b
 
   abbrev across : ℕ
   across = cAt hc s + cAt vc b
@@ -206,11 +207,11 @@ module _ (L M : ℕ) (p : Period L) (q : Period M) (edges : ℕ) (X : CellTables
   vside : u < length vc
   vside = second-inside vc b vtwo
 
-  module _ (one-h : hlevels ≡ 1) (one-v : vlevels ≡ 1) where
+  module _ (one-h : hties ≡ 1) (one-v : vties ≡ 1) where
     single-pair : first ≡ G .key a b
     single-pair =
         let w = pair in
-        w .6 ∙ ap₂ (G .key) (only-level hc (X .hw) htwo hok one-h (w .0) (w .2) (w .4)) (only-level vc (X .vw) vtwo vok one-v (w .1) (w .3) (w .5))
+        w .6 ∙ ap₂ (G .key) (only-tied hc (X .hw) htwo hok one-h (w .0) (w .2) (w .4)) (only-tied vc (X .vw) vtwo vok one-v (w .1) (w .3) (w .5))
 
     -- another origin has at most one of the two next sums
     rest : (k : ℕ) → k < G .none → (k ≡ first → ⊥) → (pairHits G X k ≤ across) ⊎ (pairHits G X k ≤ down)
@@ -230,17 +231,17 @@ module _ (L M : ℕ) (p : Period L) (q : Period M) (edges : ℕ) (X : CellTables
     down-had : (G .key a u < G .none) × (G .key a u ≡ first → ⊥) × (pairHits G X (G .key a u) ≡ down)
     down-had = (E .under a u hcell vside, (λ e. second-other vc b vtwo (apart a u a b hcell vside hcell vcell (e ∙ single-pair) .1)), hit-pair a u hcell vside)
 
-  alone : ltb 1 (hlevels * vlevels) ≡ false → (hlevels ≡ 1) × (vlevels ≡ 1)
-  alone e = ones hlevels vlevels (some-level hc (X .hw) htwo hok) (some-level vc (X .vw) vtwo vok) (ltb-false 1 (hlevels * vlevels) e)
+  alone : ltb 1 (hties * vties) ≡ false → (hties ≡ 1) × (vties ≡ 1)
+  alone e = ones hties vties (some-tied hc (X .hw) htwo hok) (some-tied vc (X .vw) vtwo vok) (ltb-false 1 (hties * vties) e)
 
   -- the summary of this transform
-  pub summed : Summed (G .none) (pairHits G X) (bestHits (lexOf hc (X .hw)) (lexOf vc (X .vw))) first (nextOrigin L M (lexOf hc (X .hw)) (lexOf vc (X .vw)) first) (tied (lexOf hc (X .hw)) (lexOf vc (X .vw)))
-  unfolding lexOf nextOrigin
-  summed = go (ltb 1 (hlevels * vlevels)) (ltb across down) refl refl
+  pub summed : Summed (G .none) (pairHits G X) (bestHits (lexOf hc (X .hw)) (lexOf vc (X .vw))) first (runnerUpWithin L M (lexOf hc (X .hw)) (lexOf vc (X .vw)) first) (pairsTied (lexOf hc (X .hw)) (lexOf vc (X .vw)))
+  unfolding lexOf runnerUpWithin
+  summed = go (ltb 1 (hties * vties)) (ltb across down) refl refl
     where
-      with-next : (r : Ranked) (t : Bool) → t ≡ false → ((k : ℕ) → k < G .none → (k ≡ first → ⊥) → pairHits G X k ≤ r .hits)
+      with-within : (r : Ranked) (t : Bool) → t ≡ false → ((k : ℕ) → k < G .none → (k ≡ first → ⊥) → pairHits G X k ≤ r .hits)
           → (r .key < G .none) × (r .key ≡ first → ⊥) × (pairHits G X (r .key) ≡ r .hits) → Summed (G .none) (pairHits G X) top first r t
-      with-next r t e most h = record {
+      with-within r t e most h = record {
         inside = under;
         at = at-first;
         most = at-most;
@@ -248,31 +249,31 @@ module _ (L M : ℕ) (p : Period L) (q : Period M) (edges : ℕ) (X : CellTables
         had = (r .key, h .0, h .1, h .2);
         key-in = h .0;
         named = λ d. h;
-        level = λ d. clash d e;
+        tied = λ d. clash d e;
       }
 
-      go : (t c : Bool) → ltb 1 (hlevels * vlevels) ≡ t → ltb across down ≡ c
+      go : (t c : Bool) → ltb 1 (hties * vties) ≡ t → ltb across down ≡ c
           → Summed (G .none) (pairHits G X) top first (cond t (record { hits = top; key = first }) (cond c (record { hits = down; key = G .key a u }) (record { hits = across; key = G .key s b }))) t
       go true c e d = record {
         inside = under;
         at = at-first;
         most = at-most;
         others = λ k l ne. at-most k;
-        had = level-other (ltb-true 1 (hlevels * vlevels) e);
+        had = tied-other (ltb-true 1 (hties * vties) e);
         key-in = under;
         named = λ z. clash refl z;
-        level = λ z. refl;
+        tied = λ z. refl;
       }
       go false true e d =
           let o = alone e in
-          with-next (record { hits = down; key = G .key a u }) false refl
+          with-within (record { hits = down; key = G .key a u }) false refl
           (λ k l ne. ⊎-elim (λ z. omega (arith, ltb-true across down d)) (λ z. z) (rest (o .0) (o .1) k l ne)) (down-had (o .0) (o .1))
       go false false e d =
           let o = alone e in
-          with-next (record { hits = across; key = G .key s b }) false refl
+          with-within (record { hits = across; key = G .key s b }) false refl
           (λ k l ne. ⊎-elim (λ z. z) (λ z. omega (arith, ltb-false across down d)) (rest (o .0) (o .1) k l ne)) (across-had (o .0) (o .1))
 
-  -- more than 1,024 optimal pairs: more than one pair has the largest counts
-  pub many-tied : 1024 < lexOf hc (X .hw) .optimal * lexOf vc (X .vw) .optimal → tied (lexOf hc (X .hw)) (lexOf vc (X .vw)) ≡ true
+  -- more optimal pairs than the cap: more than one pair has the largest counts
+  pub many-tied : separationProductCap < lexOf hc (X .hw) .optimal * lexOf vc (X .vw) .optimal → pairsTied (lexOf hc (X .hw)) (lexOf vc (X .vw)) ≡ true
   unfolding lexOf
-  many-tied l = lt-ltb 1 (hlevels * vlevels) (omega (arith, mul-le-mul (optimal-fewer hc (X .hw) htwo hok) (optimal-fewer vc (X .vw) vtwo vok)))
+  many-tied l = lt-ltb 1 (hties * vties) (omega (arith, mul-le-mul (optimal-fewer hc (X .hw) htwo hok) (optimal-fewer vc (X .vw) vtwo vok)))

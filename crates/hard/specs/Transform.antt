@@ -9,9 +9,10 @@ use Rattle.best.specs.CellTables.{Period, CellTables, TablesOk}
 use Rattle.best.specs.Lex.{optimal, lexOf}
 use Rattle.grid.specs.RowMajor.{rowMajor}
 use Rattle.scan.specs.Scan.{overLimit, replaced, emptyScan, pushed}
-use Rattle.direct.specs.Direct.{candidate, tried}
+use Rattle.direct.specs.Direct.{hardCandidate, tried}
 use Rattle.best.specs.declared.lex.LexMax.{LexMax}
 use Rattle.scan.specs.declared.scan.Candidate.{Candidate}
+use Rattle.scan.specs.declared.scan.RunnerUp.{RunnerUp}
 use Rattle.scan.specs.declared.scan.TransformSummary.{TransformSummary}
 use Rattle.scan.specs.declared.scan.HardScan.{HardScan}
 use Rattle.scan.specs.declared.scan.Kept.{Kept}
@@ -23,8 +24,8 @@ pub record BestOk (L M : ℕ) (a b : LexMax) : Type 0 where
   pub h-second : a .second < 3 * L
   pub v-cell : b .cell < 3 * M
   pub v-second : b .second < 3 * M
-  pub h-level : a .level ≤ 1500
-  pub v-level : b .level ≤ 1500
+  pub h-tied : a .tied ≤ 1500
+  pub v-tied : b .tied ≤ 1500
   pub h-optimal : a .optimal ≤ 1500
   pub v-optimal : b .optimal ≤ 1500
   pub top : a .count + b .count ≤ 8192
@@ -48,54 +49,54 @@ abbrev pub bestAt : (ℕ → CellTables) → ℕ → ℕ
 bestAt tab p = bestHits (lexOf (tab p .hc) (tab p .hw)) (lexOf (tab p .vc) (tab p .vw))
 
 -- "if more than one cell pair has the largest counts"
-abbrev pub tied : LexMax → LexMax → Bool
-tied a b = ltb 1 (a .level * b .level)
+abbrev pub pairsTied : LexMax → LexMax → Bool
+pairsTied a b = ltb 1 (a .tied * b .tied)
 
 -- "inside the winner's transform, if more than one cell pair has the largest counts, hits equal the best (its place never shows, for the gate refuses). Else
 -- the better of (first second-best horizontal, best vertical) and (best horizontal, first second-best vertical), horizontal on a tie."
-unfoldable pub nextOrigin : ℕ → ℕ → LexMax → LexMax → ℕ → Ranked
-nextOrigin L M a b first =
-    cond (tied a b)
+unfoldable pub runnerUpWithin : ℕ → ℕ → LexMax → LexMax → ℕ → Ranked
+runnerUpWithin L M a b first =
+    cond (pairsTied a b)
     (record { hits = bestHits a b; key = first })
     (cond (ltb (a .under + b .count) (a .count + b .under))
     (record { hits = a .count + b .under; key = origins L M .key (a .cell) (b .second) })
     (record { hits = a .under + b .count; key = origins L M .key (a .second) (b .cell) }))
 
--- the best origin and the runner-up inside, by row and column, with the transform's number
+-- an origin of the transform t by row and column
+unfoldable pub competitorOf : ℕ → ℕ → Ranked → RunnerUp
+competitorOf M t origin = record { hits = origin .hits; row = origin .key / (3 * M); col = origin .key % (3 * M); transform = t }
+
+-- the best origin and the runner-up within
 unfoldable pub summaryOf : ℕ → Ranked → Ranked → ℕ → TransformSummary
-summaryOf M best next t =
-    record {
-      best = best .hits;
-      row = best .key / (3 * M);
-      col = best .key % (3 * M);
-      next = next .hits;
-      nextrow = next .key / (3 * M);
-      nextcol = next .key % (3 * M);
-      transform = t;
-    }
+unfolding competitorOf
+summaryOf M first other t = record { best = competitorOf M t first; within = competitorOf M t other }
 
 -- the summary of the transform t with the tables X
 unfoldable pub transformSummary : ℕ → ℕ → ℕ → CellTables → TransformSummary
-unfolding bestOrigin nextOrigin summaryOf
+unfolding bestOrigin runnerUpWithin competitorOf summaryOf
 transformSummary L M t X =
     let a = lexOf (X .hc) (X .hw) in
     let b = lexOf (X .vc) (X .vw) in
     let k = bestOrigin (origins L M) X in
-    summaryOf M (record { hits = bestHits a b; key = k }) (nextOrigin L M a b k) t
+    summaryOf M (record { hits = bestHits a b; key = k }) (runnerUpWithin L M a b k) t
 
 -- "the best origin is the candidate, weight the rounded sum of both"
 abbrev pub bestCandidate : ℕ → Float → ℕ → LexMax → LexMax → ℕ → Candidate
-bestCandidate M conf listed a b first = candidate (bestHits a b) (add binary32 (a .weight) (b .weight)) conf (first / (3 * M)) (first % (3 * M)) listed
+bestCandidate M confidence listed a b first = hardCandidate (bestHits a b) (add binary32 (a .weight) (b .weight)) confidence (first / (3 * M)) (first % (3 * M)) listed
 
-module _ (L M edges : ℕ) (conf limit : Float) where
+-- "If the product of the two optimal class numbers is at most 1,024": the Rust's SEPARATION_PRODUCT_CAP
+abbrev pub separationProductCap : ℕ
+separationProductCap = 1024
+
+module _ (L M edges : ℕ) (confidence limit : Float) where
   -- "rate over the limit: the transform offers no candidate. If the product of the two optimal class numbers is at most 1,024, the best origin is the
   -- candidate .. From 1,025, all origins are tried in row-major order"
   unfoldable pub offeredBy : ℕ → CellTables → LexMax → LexMax → ℕ → Kept → Kept
   offeredBy listed X a b first kept =
       cond (overLimit edges limit (bestHits a b)) kept
-      (cond (ltb 1024 (a .optimal * b .optimal))
-      (tried L M edges conf limit listed X 0 kept (3 * L * (3 * M)))
-      (replaced kept (bestCandidate M conf listed a b first)))
+      (cond (ltb separationProductCap (a .optimal * b .optimal))
+      (tried L M edges confidence limit listed X 0 kept (3 * L * (3 * M)))
+      (replaced kept (bestCandidate M confidence listed a b first)))
 
   -- the transform t, with the tables X, at the scan's next list position
   unfoldable pub foldTransform : ℕ → CellTables → HardScan → HardScan

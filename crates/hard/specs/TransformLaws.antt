@@ -4,7 +4,6 @@ use mathlib.Core.Bool.{Bool, true, false, cond}
 use mathlib.Core.List.{List}
 use mathlib.Core.Logic.{_⊎_, inl, inr}
 use Prim.Native.Nat.{ℕ, zero, suc, _+_, _*_, _≤_, _<_}
-use native.Mathlib.Nat.{mul-le-mul}
 use native.Mathlib.Omega.{arith}
 use native.Mathlib.Numerals.{add-one}
 use lib.Dec.{T, ltb}
@@ -16,15 +15,15 @@ use Rattle.laws.specs.Tests.{split}
 use Rattle.laws.specs.Fold.{count}
 use Rattle.laws.specs.Counting.{count-le}
 use Rattle.laws.specs.Weights.{weightlike}
-use Rattle.laws.specs.Grid.{Laws, origins}
-use Rattle.laws.specs.GridLaws.{origins-laws}
+use Rattle.laws.specs.Grid.{origins}
 use Rattle.best.specs.CellTables.{CellTables, Period, TablesOk, cAt, wAt}
-use Rattle.best.specs.Lex.{TableOk, level, optimal, lexBest, secondCell, lexOf}
+use Rattle.best.specs.Lex.{TableOk, tiedCount, optimal, lexBest, lexSecond, lexOf}
 use Rattle.best.specs.LexLaws.{cell-in, best-optimal, second-inside}
+use Rattle.grid.specs.BoardGrid.{grid, none-small}
 use Rattle.grid.specs.RowMajorLaws.{major-none, major-only}
 use Rattle.scan.specs.Scan.{overLimit, replaced, noSummary, emptyScan, pushed}
 use Rattle.direct.specs.Direct.{tried}
-use Rattle.hard.specs.Transform.{BestOk, firstOf, bestOrigin, bestHits, bestCandidate, tied, nextOrigin, summaryOf, transformSummary, offeredBy, foldTransform, selected}
+use Rattle.hard.specs.Transform.{BestOk, firstOf, bestOrigin, bestHits, bestCandidate, pairsTied, runnerUpWithin, competitorOf, summaryOf, transformSummary, offeredBy, foldTransform, selected, separationProductCap}
 use Rattle.best.specs.declared.lex.LexMax.{LexMax}
 use Rattle.scan.specs.declared.scan.TransformSummary.{TransformSummary}
 use Rattle.scan.specs.declared.scan.HardScan.{HardScan}
@@ -61,19 +60,12 @@ cell-ok n cs ws two c w ok = record {
 }
 
 module _ (L M : ℕ) (p : Period L) (q : Period M) where
-  -- the board's grid
-  pub grid : Laws (origins L M) (3 * L) (3 * M)
-  grid = origins-laws L M (omega (arith, p .more)) (omega (arith, q .more)) (p .free) (q .free)
-
-  pub none-small : 3 * L * (3 * M) ≤ 2250000
-  none-small = mul-le-mul {n₁ = 3 * L} {m₁ = 3 * M} {n₂ = 1500} {m₂ = 1500} (omega (arith, p .few)) (omega (arith, q .few))
-
   -- where each table has one optimal cell, the best origin is theirs
   pub sole-pair : (X : CellTables) (a b : LexMax) → PairOk L M X a b → a .optimal ≡ 1 → b .optimal ≡ 1 → origins L M .key (a .cell) (b .cell) ≡ firstOf (origins L M) X a b
   sole-pair X a b ok one sole =
       let h = ok .0 in
       let v = ok .1 in
-      rw (h .counts, v .counts) (sym (major-only (origins L M) (3 * M) (optimal (X .hc) (X .hw) (a .count) (a .weight)) (optimal (X .vc) (X .vw) (b .count) (b .weight)) (3 * L) (a .cell) (b .cell) (h .inside) (v .inside) (h .itself) (v .itself) (sym (h .number) ∙ one) (sym (v .number) ∙ sole) (grid .under (a .cell) (b .cell) (h .inside) (v .inside))))
+      rw (h .counts, v .counts) (sym (major-only (origins L M) (3 * M) (optimal (X .hc) (X .hw) (a .count) (a .weight)) (optimal (X .vc) (X .vw) (b .count) (b .weight)) (3 * L) (a .cell) (b .cell) (h .inside) (v .inside) (h .itself) (v .itself) (sym (h .number) ∙ one) (sym (v .number) ∙ sole) (grid L M p q .under (a .cell) (b .cell) (h .inside) (v .inside))))
 
   module _ (edges : ℕ) (X : CellTables) (ok : TablesOk L M edges X) where
     pub h-table : TableOk (X .hc) (X .hw)
@@ -95,13 +87,13 @@ module _ (L M : ℕ) (p : Period L) (q : Period M) where
           h-second = omega (arith, ok .hcs);
           v-cell = omega (arith, ok .vcs);
           v-second = omega (arith, ok .vcs);
-          h-level = omega (arith, ok .hcs, p .few, count-le (level (X .hc) (cAt (X .hc) (lexBest (X .hc) (X .hw)))) (length (X .hc)));
-          v-level = omega (arith, ok .vcs, q .few, count-le (level (X .vc) (cAt (X .vc) (lexBest (X .vc) (X .vw)))) (length (X .vc)));
+          h-tied = omega (arith, ok .hcs, p .few, count-le (tiedCount (X .hc) (cAt (X .hc) (lexBest (X .hc) (X .hw)))) (length (X .hc)));
+          v-tied = omega (arith, ok .vcs, q .few, count-le (tiedCount (X .vc) (cAt (X .vc) (lexBest (X .vc) (X .vw)))) (length (X .vc)));
           h-optimal = omega (arith, ok .hcs, p .few, count-le (optimal (X .hc) (X .hw) (cAt (X .hc) (lexBest (X .hc) (X .hw))) (wAt (X .hw) (lexBest (X .hc) (X .hw)))) (length (X .hc)));
           v-optimal = omega (arith, ok .vcs, q .few, count-le (optimal (X .vc) (X .vw) (cAt (X .vc) (lexBest (X .vc) (X .vw))) (wAt (X .vw) (lexBest (X .vc) (X .vw)))) (length (X .vc)));
           top = both (lexBest (X .hc) (X .hw)) (lexBest (X .vc) (X .vw)) hi vi;
-          across = both (secondCell (X .hc) (lexBest (X .hc) (X .hw))) (lexBest (X .vc) (X .vw)) hj vi;
-          down = both (lexBest (X .hc) (X .hw)) (secondCell (X .vc) (lexBest (X .vc) (X .vw))) hi vj;
+          across = both (lexSecond (X .hc) (lexBest (X .hc) (X .hw))) (lexBest (X .vc) (X .vw)) hj vi;
+          down = both (lexBest (X .hc) (X .hw)) (lexSecond (X .vc) (lexBest (X .vc) (X .vw))) hi vj;
         }
       where
         both : (i j : ℕ) → i < length (X .hc) → j < length (X .vc) → cAt (X .hc) i + cAt (X .vc) j ≤ 8192
@@ -132,18 +124,18 @@ module _ (L M : ℕ) (p : Period L) (q : Period M) where
           most = rw (ea, eb) best-under;
           first-small = omega (
             arith,
-            none-small,
+            none-small L M p q,
             major-none (origins L M) (length (X .vc)) (optimal (X .hc) (X .hw) (a .count) (a .weight)) (optimal (X .vc) (X .vw) (b .count) (b .weight)) (length (X .hc)),
           );
         }
 
   -- the runner-up inside a transform is named by a key as small
-  pub next-small : (edges : ℕ) (a b : LexMax) (first : ℕ) (next : Ranked) → SaidOk L M edges a b first → next ≡ nextOrigin L M a b first → next .key ≤ 2250000
-  unfolding nextOrigin
-  next-small edges a b first next ok e = rw e (go (tied a b) (ltb (a .under + b .count) (a .count + b .under)))
+  pub within-small : (edges : ℕ) (a b : LexMax) (first : ℕ) (within : Ranked) → SaidOk L M edges a b first → within ≡ runnerUpWithin L M a b first → within .key ≤ 2250000
+  unfolding runnerUpWithin
+  within-small edges a b first within ok e = rw e (go (pairsTied a b) (ltb (a .under + b .count) (a .count + b .under)))
     where
       under : (h v : ℕ) → h < 3 * L → v < 3 * M → origins L M .key h v ≤ 2250000
-      under h v i j = omega (arith, grid .under h v i j, none-small)
+      under h v i j = omega (arith, grid L M p q .under h v i j, none-small L M p q)
 
       go : (s t : Bool)
           → Ranked.key (cond s (record { hits = bestHits a b; key = first }) (cond t (record { hits = a .count + b .under; key = origins L M .key (a .cell) (b .second) }) (record { hits = a .under + b .count; key = origins L M .key (a .second) (b .cell) })))
@@ -152,72 +144,72 @@ module _ (L M : ℕ) (p : Period L) (q : Period M) where
       go false true = under (a .cell) (b .second) (ok .best .h-cell) (ok .best .v-second)
       go false false = under (a .second) (b .cell) (ok .best .h-second) (ok .best .v-cell)
 
-module _ (L M edges : ℕ) (conf limit : Float) where
+module _ (L M edges : ℕ) (confidence limit : Float) where
   -- ---- what is kept after a transform, case by case
   module _ (listed : ℕ) (X : CellTables) (a b : LexMax) (first : ℕ) (kept : Kept) where
-    pub by-none : overLimit edges limit (bestHits a b) ≡ true → offeredBy L M edges conf limit listed X a b first kept ≡ kept
+    pub by-none : overLimit edges limit (bestHits a b) ≡ true → offeredBy L M edges confidence limit listed X a b first kept ≡ kept
     unfolding offeredBy
     by-none e = rw e
 
-    pub by-direct : overLimit edges limit (bestHits a b) ≡ false → 1024 < a .optimal * b .optimal
-        → offeredBy L M edges conf limit listed X a b first kept ≡ tried L M edges conf limit listed X 0 kept (3 * L * (3 * M))
+    pub by-direct : overLimit edges limit (bestHits a b) ≡ false → separationProductCap < a .optimal * b .optimal
+        → offeredBy L M edges confidence limit listed X a b first kept ≡ tried L M edges confidence limit listed X 0 kept (3 * L * (3 * M))
     unfolding offeredBy
-    by-direct e l = rw (e, lt-ltb 1024 (a .optimal * b .optimal) l)
+    by-direct e l = rw (e, lt-ltb separationProductCap (a .optimal * b .optimal) l)
 
-    pub by-best : overLimit edges limit (bestHits a b) ≡ false → a .optimal * b .optimal ≤ 1024
-        → offeredBy L M edges conf limit listed X a b first kept ≡ replaced kept (bestCandidate M conf listed a b first)
+    pub by-best : overLimit edges limit (bestHits a b) ≡ false → a .optimal * b .optimal ≤ separationProductCap
+        → offeredBy L M edges confidence limit listed X a b first kept ≡ replaced kept (bestCandidate M confidence listed a b first)
     unfolding offeredBy
-    by-best e l = rw (e, le-ltb 1024 (a .optimal * b .optimal) l)
+    by-best e l = rw (e, le-ltb separationProductCap (a .optimal * b .optimal) l)
 
   -- ---- the fold from its parts
-  pub folded : (t : ℕ) (X : CellTables) (scan : HardScan) (a b : LexMax) (first : ℕ) (next : Ranked) (s : TransformSummary) (kept : Kept)
+  pub folded : (t : ℕ) (X : CellTables) (scan : HardScan) (a b : LexMax) (first : ℕ) (within : Ranked) (s : TransformSummary) (kept : Kept)
       → a ≡ lexOf (X .hc) (X .hw)
       → b ≡ lexOf (X .vc) (X .vw)
       → first ≡ firstOf (origins L M) X a b
-      → next ≡ nextOrigin L M a b first
-      → s ≡ summaryOf M (record { hits = bestHits a b; key = first }) next t
-      → kept ≡ offeredBy L M edges conf limit (scan .count) X a b first (scan .best)
-      → pushed scan s kept ≡ foldTransform L M edges conf limit t X scan
+      → within ≡ runnerUpWithin L M a b first
+      → s ≡ summaryOf M (record { hits = bestHits a b; key = first }) within t
+      → kept ≡ offeredBy L M edges confidence limit (scan .count) X a b first (scan .best)
+      → pushed scan s kept ≡ foldTransform L M edges confidence limit t X scan
   unfolding foldTransform transformSummary bestOrigin
-  folded t X scan a b first next s kept ea eb ef en es ek = rw (es, ek, en, ef, ea, eb)
+  folded t X scan a b first within s kept ea eb ef en es ek = rw (es, ek, en, ef, ea, eb)
 
   -- ---- one list position more
-  pub selected-more : (ts : ℕ → ℕ) (tab : ℕ → CellTables) (n : ℕ) (x : HardScan) → x ≡ selected L M edges conf limit ts tab n
-      → foldTransform L M edges conf limit (ts n) (tab n) x ≡ selected L M edges conf limit ts tab (n + 1)
+  pub selected-more : (ts : ℕ → ℕ) (tab : ℕ → CellTables) (n : ℕ) (x : HardScan) → x ≡ selected L M edges confidence limit ts tab n
+      → foldTransform L M edges confidence limit (ts n) (tab n) x ≡ selected L M edges confidence limit ts tab (n + 1)
   unfolding selected
   selected-more ts tab n x e = rw (add-one n, ← e)
 
-  pub selected-none : (ts : ℕ → ℕ) (tab : ℕ → CellTables) → selected L M edges conf limit ts tab 0 ≡ emptyScan
+  pub selected-none : (ts : ℕ → ℕ) (tab : ℕ → CellTables) → selected L M edges confidence limit ts tab 0 ≡ emptyScan
   unfolding selected
   selected-none ts tab = refl
 
   -- the count is the number of list positions
-  pub selected-count : (ts : ℕ → ℕ) (tab : ℕ → CellTables) (n : ℕ) → selected L M edges conf limit ts tab n .count ≡ n
+  pub selected-count : (ts : ℕ → ℕ) (tab : ℕ → CellTables) (n : ℕ) → selected L M edges confidence limit ts tab n .count ≡ n
   unfolding selected foldTransform pushed emptyScan
   selected-count ts tab zero = refl
   selected-count ts tab (suc n) = rw (selected-count ts tab n) (add-one n)
 
   -- what is kept after one list position more
   abbrev pub keptAt : (ℕ → CellTables) → ℕ → Kept → Kept
-  keptAt tab p kept = offeredBy L M edges conf limit p (tab p) (lexOf (tab p .hc) (tab p .hw)) (lexOf (tab p .vc) (tab p .vw)) (bestOrigin (origins L M) (tab p)) kept
+  keptAt tab p kept = offeredBy L M edges confidence limit p (tab p) (lexOf (tab p .hc) (tab p .hw)) (lexOf (tab p .vc) (tab p .vw)) (bestOrigin (origins L M) (tab p)) kept
 
-  pub selected-best : (ts : ℕ → ℕ) (tab : ℕ → CellTables) (n : ℕ) → selected L M edges conf limit ts tab (suc n) .best ≡ keptAt tab n (selected L M edges conf limit ts tab n .best)
+  pub selected-best : (ts : ℕ → ℕ) (tab : ℕ → CellTables) (n : ℕ) → selected L M edges confidence limit ts tab (suc n) .best ≡ keptAt tab n (selected L M edges confidence limit ts tab n .best)
   unfolding selected foldTransform pushed
   selected-best ts tab n = rw (selected-count ts tab n)
 
   -- ---- each position's summary stays where it was stored
-  summaries-eight : (ts : ℕ → ℕ) (tab : ℕ → CellTables) (n : ℕ) → length (selected L M edges conf limit ts tab n .summaries) ≡ 8
+  summaries-eight : (ts : ℕ → ℕ) (tab : ℕ → CellTables) (n : ℕ) → length (selected L M edges confidence limit ts tab n .summaries) ≡ 8
   unfolding selected foldTransform pushed emptyScan
   summaries-eight ts tab zero = length-replicate 8 noSummary
-  summaries-eight ts tab (suc n) = length-set (selected L M edges conf limit ts tab n .summaries) (selected L M edges conf limit ts tab n .count) (transformSummary L M (ts n) (tab n)) ∙ summaries-eight ts tab n
+  summaries-eight ts tab (suc n) = length-set (selected L M edges confidence limit ts tab n .summaries) (selected L M edges confidence limit ts tab n .count) (transformSummary L M (ts n) (tab n)) ∙ summaries-eight ts tab n
 
-  pub summary-at : (ts : ℕ → ℕ) (tab : ℕ → CellTables) (n p : ℕ) → p < n → n ≤ 8 → getD (selected L M edges conf limit ts tab n .summaries) p noSummary ≡ transformSummary L M (ts p) (tab p)
+  pub summary-at : (ts : ℕ → ℕ) (tab : ℕ → CellTables) (n p : ℕ) → p < n → n ≤ 8 → getD (selected L M edges confidence limit ts tab n .summaries) p noSummary ≡ transformSummary L M (ts p) (tab p)
   unfolding selected foldTransform pushed
   summary-at ts tab zero p l h = absurd (omega arith)
   summary-at ts tab (suc n) p l h = rw (selected-count ts tab n) (go (λ k. summary-at ts tab n p k (omega arith)) (split p n l))
     where
       old : List TransformSummary
-      old = selected L M edges conf limit ts tab n .summaries
+      old = selected L M edges confidence limit ts tab n .summaries
 
       new : TransformSummary
       new = transformSummary L M (ts n) (tab n)

@@ -15,10 +15,10 @@ use Rattle.laws.specs.Grid.{origins}
 use Rattle.best.specs.CellTables.{CellTables, Period, TablesOk}
 use Rattle.best.specs.Lex.{lexOf}
 use Rattle.figures.specs.Gate.{passed}
-use Rattle.scan.specs.Scan.{overLimit, noSummary, ofBest, ofNext, runnerUp, chosen, chosenBy}
-use Rattle.scan.specs.ScanLaws.{runner-own, runner-other, runner-is}
+use Rattle.scan.specs.Scan.{overLimit, noSummary, runnerUp, chosen, chosenBy}
+use Rattle.scan.specs.ScanLaws.{runner-up-own, runner-up-other, runner-up-is}
 use Rattle.direct.specs.Direct.{originCandidate}
-use Rattle.hard.specs.Transform.{bestOrigin, bestHits, bestCandidate, tied, nextOrigin, summaryOf, transformSummary, selected}
+use Rattle.hard.specs.Transform.{bestOrigin, bestHits, bestCandidate, pairsTied, runnerUpWithin, competitorOf, summaryOf, transformSummary, selected, separationProductCap}
 use Rattle.hard.specs.TransformLaws.{best-under, selected-count, summary-at}
 use Rattle.hard.specs.KeptLaws.{MostOf, Offers, Listed, kept-most, offers-place}
 use Rattle.hard.specs.RateLaws.{fewer-over, more-within}
@@ -36,7 +36,7 @@ use Rattle.scan.specs.declared.scan.Choice.the-variants.{Nothing, Chosen}
 use Rattle.hard.specs.declared.transform.Ranked.{Ranked}
 
 -- n list positions with the transforms ts and the tables tab, of a list of `edges` edges
-module _ (L M edges : ℕ) (conf limit : Float) (ts : ℕ → ℕ) (tab : ℕ → CellTables) (n : ℕ) where
+module _ (L M edges : ℕ) (confidence limit : Float) (ts : ℕ → ℕ) (tab : ℕ → CellTables) (n : ℕ) where
   abbrev hit : ℕ → ℕ → ℕ
   hit = hitsOf L M tab
 
@@ -57,10 +57,10 @@ module _ (L M edges : ℕ) (conf limit : Float) (ts : ℕ → ℕ) (tab : ℕ �
   O i = bestOrigin (origins L M) (tab i)
 
   abbrev N : ℕ → Ranked
-  N i = nextOrigin L M (ha i) (va i) (O i)
+  N i = runnerUpWithin L M (ha i) (va i) (O i)
 
   abbrev tie : ℕ → Bool
-  tie i = tied (ha i) (va i)
+  tie i = pairsTied (ha i) (va i)
 
   -- the kept candidate c, offered at position w
   pub record Winner (w : ℕ) (c : Candidate) : Type 0 where
@@ -94,18 +94,18 @@ module _ (L M edges : ℕ) (conf limit : Float) (ts : ℕ → ℕ) (tab : ℕ �
 
     -- ---- the kept candidate
     -- a position whose best hits are within the limit offers a candidate with them
-    offers-best : (i : ℕ) → i < n → overLimit edges limit (B i) ≡ false → (c : Candidate) × Offers L M edges conf limit i (tab i) c × (c .hits ≡ B i)
+    offers-best : (i : ℕ) → i < n → overLimit edges limit (B i) ≡ false → (c : Candidate) × Offers L M edges confidence limit i (tab i) c × (c .hits ≡ B i)
     unfolding originCandidate
-    offers-best i l e = go (compared 1024 (ha i .optimal * va i .optimal))
+    offers-best i l e = go (compared separationProductCap (ha i .optimal * va i .optimal))
       where
         s : Summed none (hit i) (B i) (O i) (N i) (tie i)
         s = sums i l
 
-        go : (1024 < ha i .optimal * va i .optimal) ⊎ (ha i .optimal * va i .optimal ≤ 1024) → (c : Candidate) × Offers L M edges conf limit i (tab i) c × (c .hits ≡ B i)
-        go (inl m) = (originCandidate L M edges conf limit i (tab i) (O i), (e, inr (m, (O i, s .inside, ap (overLimit edges limit) (s .at) ∙ e, refl))), s .at)
-        go (inr m) = (bestCandidate M conf i (ha i) (va i) (O i), (e, inl (m, refl)), refl)
+        go : (separationProductCap < ha i .optimal * va i .optimal) ⊎ (ha i .optimal * va i .optimal ≤ separationProductCap) → (c : Candidate) × Offers L M edges confidence limit i (tab i) c × (c .hits ≡ B i)
+        go (inl m) = (originCandidate L M edges confidence limit i (tab i) (O i), (e, inr (m, (O i, s .inside, ap (overLimit edges limit) (s .at) ∙ e, refl))), s .at)
+        go (inr m) = (bestCandidate M confidence i (ha i) (va i) (O i), (e, inl (m, refl)), refl)
 
-    winner : (w : ℕ) (c : Candidate) → w < n → Offers L M edges conf limit w (tab w) c → ((d : Candidate) → Listed L M edges conf limit ts tab n d → d .hits ≤ c .hits) → Winner w c
+    winner : (w : ℕ) (c : Candidate) → w < n → Offers L M edges confidence limit w (tab w) c → ((d : Candidate) → Listed L M edges confidence limit ts tab n d → d .hits ≤ c .hits) → Winner w c
     unfolding originCandidate
     winner w c l o h = ⊎-elim single scanned (o .1)
       where
@@ -121,7 +121,7 @@ module _ (L M edges : ℕ) (conf limit : Float) (ts : ℕ → ℕ) (tab : ℕ �
         with-key k m at best rc f =
             let e : keyAt M (c .placing .row) (c .placing .col) ≡ k = ap₂ (keyAt M) (rc .0) (rc .1) ∙ key-back k in
             record {
-              listed = offers-place L M edges conf limit ts tab w c o;
+              listed = offers-place L M edges confidence limit ts tab w c o;
               in-list = l;
               row = rw (rc .0) (row-in k m);
               col = rw (rc .1) (col-in k);
@@ -133,13 +133,13 @@ module _ (L M edges : ℕ) (conf limit : Float) (ts : ℕ → ℕ) (tab : ℕ �
               first = λ d. e ∙ f d;
             }
 
-        single : (ha w .optimal * va w .optimal ≤ 1024) × (c ≡ bestCandidate M conf w (ha w) (va w) (O w)) → Winner w c
+        single : (ha w .optimal * va w .optimal ≤ separationProductCap) × (c ≡ bestCandidate M confidence w (ha w) (va w) (O w)) → Winner w c
         single u =
             let best : c .hits ≡ B w = ap (λ (d : Candidate). d .hits) (u .1) in
             with-key (O w) (s .inside) (s .at ∙ sym best) best (ap (λ (d : Candidate). d .placing .row) (u .1), ap (λ (d : Candidate). d .placing .col) (u .1)) (λ d. refl)
 
-        scanned : (1024 < ha w .optimal * va w .optimal)
-            × ((k : ℕ) × (k < none) × (overLimit edges limit (hit w k) ≡ false) × (c ≡ originCandidate L M edges conf limit w (tab w) k)) → Winner w c
+        scanned : (separationProductCap < ha w .optimal * va w .optimal)
+            × ((k : ℕ) × (k < none) × (overLimit edges limit (hit w k) ≡ false) × (c ≡ originCandidate L M edges confidence limit w (tab w) k)) → Winner w c
         scanned u =
             let t = u .1 in
             let at : c .hits ≡ hit w (t .0) = ap (λ (d : Candidate). d .hits) (t .3) in
@@ -149,7 +149,7 @@ module _ (L M edges : ℕ) (conf limit : Float) (ts : ℕ → ℕ) (tab : ℕ �
 
     -- ---- the runner-up
     abbrev ss : List TransformSummary
-    ss = selected L M edges conf limit ts tab n .summaries
+    ss = selected L M edges confidence limit ts tab n .summaries
 
     module _ (w : ℕ) (c : Candidate) (W : Winner w c) where
       abbrev key : ℕ
@@ -159,22 +159,22 @@ module _ (L M edges : ℕ) (conf limit : Float) (ts : ℕ → ℕ) (tab : ℕ �
       r = runnerUp ss w n
 
       at-position : (i : ℕ) → i < n → getD ss i noSummary ≡ transformSummary L M (ts i) (tab i)
-      at-position i l = summary-at L M edges conf limit ts tab n i l few
+      at-position i l = summary-at L M edges confidence limit ts tab n i l few
 
       own : N w .hits ≤ r .hits
-      unfolding transformSummary summaryOf
-      own = rw (at-position w (W .in-list)) at (runner-own ss w n)
+      unfolding transformSummary summaryOf competitorOf
+      own = rw (at-position w (W .in-list)) at (runner-up-own ss w n)
 
       other : (i : ℕ) → i < n → (i ≡ w → ⊥) → B i ≤ r .hits
-      unfolding transformSummary summaryOf
-      other i l ne = rw (at-position i l) at (runner-other ss w n i l ne)
+      unfolding transformSummary summaryOf competitorOf
+      other i l ne = rw (at-position i l) at (runner-up-other ss w n i l ne)
 
       -- what it is: the runner-up inside the winner's transform, or another position's best
-      is : (r ≡ ofNext (transformSummary L M (ts w) (tab w))) ⊎ ((i : ℕ) × (i < n) × (i ≡ w → ⊥) × (r ≡ ofBest (transformSummary L M (ts i) (tab i))))
+      is : (r ≡ transformSummary L M (ts w) (tab w) .within) ⊎ ((i : ℕ) × (i < n) × (i ≡ w → ⊥) × (r ≡ transformSummary L M (ts i) (tab i) .best))
       is = ⊎-elim
-          (λ e. inl (e ∙ ap ofNext (at-position w (W .in-list))))
-          (λ u. inr (u .0, u .1, u .2, u .3 ∙ ap ofBest (at-position (u .0) (u .1))))
-          (runner-is ss w n)
+          (λ e. inl (e ∙ ap (λ (x : TransformSummary). x .within) (at-position w (W .in-list))))
+          (λ u. inr (u .0, u .1, u .2, u .3 ∙ ap (λ (x : TransformSummary). x .best) (at-position (u .0) (u .1))))
+          (runner-up-is ss w n)
 
       -- no other placing has more hits
       bounded : (i j : ℕ) → i < n → j < none → ((i ≡ w) × (j ≡ key) → ⊥) → hit i j ≤ r .hits
@@ -184,19 +184,19 @@ module _ (L M edges : ℕ) (conf limit : Float) (ts : ℕ → ℕ) (tab : ℕ �
           s = sums w (W .in-list)
 
           go : (i ≡ w) ⊎ (i ≡ w → ⊥) → (tie w ≡ true) ⊎ (tie w ≡ false) → hit i j ≤ r .hits
-          go (inl e) (inl t) = rw e (omega (arith, s .most j, s .level t, own))
+          go (inl e) (inl t) = rw e (omega (arith, s .most j, s .tied t, own))
           go (inl e) (inr t) = rw e (omega (arith, s .others j hj (λ d. ne (e, d ∙ sym (W .first t))), own))
           go (inr d) t = omega (arith, sums i hi .most j, other i hi d)
 
       -- and one has as many
       attained : (i : ℕ) × (j : ℕ) × (i < n) × (j < none) × ((i ≡ w) × (j ≡ key) → ⊥) × (hit i j ≡ r .hits)
-      unfolding transformSummary summaryOf
+      unfolding transformSummary summaryOf competitorOf
       attained = ⊎-elim inside (λ u. let t = sums (u .0) (u .1) in (u .0, O (u .0), u .1, t .inside, (λ x. u .2 (x .0)), t .at ∙ sym (ap (λ (x : RunnerUp). x .hits) (u .3)))) is
         where
           s : Summed none (hit w) (B w) (O w) (N w) (tie w)
           s = sums w (W .in-list)
 
-          inside : r ≡ ofNext (transformSummary L M (ts w) (tab w)) → (i : ℕ) × (j : ℕ) × (i < n) × (j < none) × ((i ≡ w) × (j ≡ key) → ⊥) × (hit i j ≡ r .hits)
+          inside : r ≡ transformSummary L M (ts w) (tab w) .within → (i : ℕ) × (j : ℕ) × (i < n) × (j < none) × ((i ≡ w) × (j ≡ key) → ⊥) × (hit i j ≡ r .hits)
           inside e = go (decided key (O w)) (cases (tie w))
             where
               hits : N w .hits ≡ r .hits
@@ -204,21 +204,21 @@ module _ (L M edges : ℕ) (conf limit : Float) (ts : ℕ → ℕ) (tab : ℕ �
 
               go : (key ≡ O w) ⊎ (key ≡ O w → ⊥) → (tie w ≡ true) ⊎ (tie w ≡ false) → (i : ℕ) × (j : ℕ) × (i < n) × (j < none) × ((i ≡ w) × (j ≡ key) → ⊥) × (hit i j ≡ r .hits)
               go (inl o) t = let u = s .had in (w, u .0, W .in-list, u .1, (λ x. u .2 (x .1 ∙ o)), u .3 ∙ hits)
-              go (inr d) (inl t) = (w, O w, W .in-list, s .inside, (λ x. d (sym (x .1))), s .at ∙ sym (s .level t) ∙ hits)
+              go (inr d) (inl t) = (w, O w, W .in-list, s .inside, (λ x. d (sym (x .1))), s .at ∙ sym (s .tied t) ∙ hits)
               go (inr d) (inr t) = absurd (d (W .first t))
 
-      pub next-most : MostOther n none edges limit hit w key (r .hits)
-      next-most = record { reached = attained; most = bounded }
+      pub runner-up-most : MostOther n none edges limit hit w key (r .hits)
+      runner-up-most = record { reached = attained; most = bounded }
 
       -- it stands at a list position, on the board
       named : (i : ℕ) × (k : ℕ) × (i < n) × (k < none) × (ts i ≡ r .transform) × (r .row ≡ k / (3 * M)) × (r .col ≡ k % (3 * M))
-      unfolding transformSummary summaryOf
+      unfolding transformSummary summaryOf competitorOf
       named = ⊎-elim
           (λ e. rw e (w, N w .key, W .in-list, sums w (W .in-list) .key-in, refl, refl, refl))
           (λ u. rw (u .3) (u .0, O (u .0), u .1, sums (u .0) (u .1) .inside, refl, refl, refl))
           is
 
-      pub in-range : InRange L M edges conf limit ts tab n c r
+      pub in-range : InRange L M edges confidence limit ts tab n c r
       in-range =
           let v = named in
           let a = attained in
@@ -227,10 +227,10 @@ module _ (L M edges : ℕ) (conf limit : Float) (ts : ℕ → ℕ) (tab : ℕ �
             row = W .row;
             col = W .col;
             hits = omega (arith, W .best, under-edges w (W .in-list));
-            next-place = (v .0, v .2, v .4);
-            next-row = rw (v .5) (row-in (v .1) (v .3));
-            next-col = rw (v .6) (col-in (v .1));
-            next-hits = omega (arith, a .5, sums (a .0) (a .2) .most (a .1), under-edges (a .0) (a .2));
+            runner-up-listed = (v .0, v .2, v .4);
+            runner-up-row = rw (v .5) (row-in (v .1) (v .3));
+            runner-up-col = rw (v .6) (col-in (v .1));
+            runner-up-hits = omega (arith, a .5, sums (a .0) (a .2) .most (a .1), under-edges (a .0) (a .2));
           }
 
       -- ---- the gate
@@ -268,25 +268,25 @@ module _ (L M edges : ℕ) (conf limit : Float) (ts : ℕ → ℕ) (tab : ℕ �
 
       -- passed: no two pairs of cells have the winner's counts
       alone : passed edges (c .hits) (r .hits) ≡ true → tie w ≡ false
-      alone e = not-so (tie w) (λ t. omega (arith, ltb-true (edges - c .hits) (c .hits - r .hits) e, sums w (W .in-list) .level t, W .best, own))
+      alone e = not-so (tie w) (λ t. omega (arith, ltb-true (edges - c .hits) (c .hits - r .hits) e, sums w (W .in-list) .tied t, W .best, own))
 
       -- so the runner-up is named by an origin of its own
       pub place-named : passed edges (c .hits) (r .hits) ≡ true
           → (i : ℕ) × (i < n) × (ts i ≡ r .transform) × (keyAt M (r .row) (r .col) < none) × ((i ≡ w) × (keyAt M (r .row) (r .col) ≡ key) → ⊥) × (hit i (keyAt M (r .row) (r .col)) ≡ r .hits)
-      unfolding transformSummary summaryOf
+      unfolding transformSummary summaryOf competitorOf
       place-named e = ⊎-elim inside outside is
         where
           Named : RunnerUp → Type 0
           Named x = (i : ℕ) × (i < n) × (ts i ≡ x .transform) × (keyAt M (x .row) (x .col) < none) × ((i ≡ w) × (keyAt M (x .row) (x .col) ≡ key) → ⊥) × (hit i (keyAt M (x .row) (x .col)) ≡ x .hits)
 
-          inside : r ≡ ofNext (transformSummary L M (ts w) (tab w)) → Named r
+          inside : r ≡ transformSummary L M (ts w) (tab w) .within → Named r
           inside d =
               let t = alone e in
               let u = sums w (W .in-list) .named t in
               let b = key-back (N w .key) in
               rw d (w, W .in-list, refl, rw b (u .0), (λ x. u .1 (sym b ∙ x .1 ∙ W .first t)), rw b (u .2))
 
-          outside : (i : ℕ) × (i < n) × (i ≡ w → ⊥) × (r ≡ ofBest (transformSummary L M (ts i) (tab i))) → Named r
+          outside : (i : ℕ) × (i < n) × (i ≡ w → ⊥) × (r ≡ transformSummary L M (ts i) (tab i) .best) → Named r
           outside v =
               let i = v .0 in
               let s = sums i (v .1) in
@@ -299,17 +299,17 @@ module _ (L M edges : ℕ) (conf limit : Float) (ts : ℕ → ℕ) (tab : ℕ �
     Chose (Chosen c r) = Winner (c .placing .listed) c × (r ≡ runnerUp ss (c .placing .listed) n)
 
     -- no position's best hits are within the limit, so no placing is
-    nobody : ((c : Candidate) → Listed L M edges conf limit ts tab n c → ⊥) → NoneWithin n none edges limit hit
+    nobody : ((c : Candidate) → Listed L M edges confidence limit ts tab n c → ⊥) → NoneWithin n none edges limit hit
     nobody h i k hi hk =
         fewer-over edges limit (hit i k) (B i) (ok i hi .few) (sums i hi .most k) (under-edges i hi)
         (⊎-elim (λ e. e) (λ e. let b = offers-best i hi e in absurd (h (b .0) (i, hi, b .1))) (cases (overLimit edges limit (B i))))
 
-    pub is-chosen : Chose (choice L M edges conf limit ts tab n)
+    pub is-chosen : Chose (choice L M edges confidence limit ts tab n)
     unfolding chosen
-    is-chosen = go (selected L M edges conf limit ts tab n .best) (kept-most L M edges conf limit ts tab n)
+    is-chosen = go (selected L M edges confidence limit ts tab n .best) (kept-most L M edges confidence limit ts tab n)
       where
-        go : (o : Kept) → MostOf (Listed L M edges conf limit ts tab n) o → Chose (chosenBy (selected L M edges conf limit ts tab n) o)
+        go : (o : Kept) → MostOf (Listed L M edges confidence limit ts tab n) o → Chose (chosenBy (selected L M edges confidence limit ts tab n) o)
         go Nobody h = nobody h
         go (One c) h =
             let W = winner (h .0 .0) c (h .0 .1) (h .0 .2) (h .1) in
-            (subst (λ (w : ℕ). Winner w c) (sym (W .listed)) W, ap (runnerUp ss (c .placing .listed)) (selected-count L M edges conf limit ts tab n))
+            (subst (λ (w : ℕ). Winner w c) (sym (W .listed)) W, ap (runnerUp ss (c .placing .listed)) (selected-count L M edges confidence limit ts tab n))

@@ -139,6 +139,6 @@ pub fn select<'a>(
         Choice::Nothing => Selection::Refused(Refusal {
             number: refusals::NONE_WITHIN_LIMIT,
         }),
-        Choice::Chosen { winner, next } => Selection::Selected(winner, next),
+        Choice::Chosen { winner, runner_up } => Selection::Selected(winner, runner_up),
     }
 }

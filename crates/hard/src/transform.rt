@@ -3,7 +3,7 @@ ghost use mathlib.Core.Path.{_≡_};
 ghost use Prim.Native.Nat.{_+_, _≤_, _<_};
 ghost use Rattle.laws.specs.Grid.{origins};
 ghost use Rattle.best.specs.CellTables.{Period, TablesOk, cells};
-ghost use Rattle.hard.specs.Transform.{BestOk, firstOf, nextOrigin, summaryOf, offeredBy, foldTransform, FoldReady};
+ghost use Rattle.hard.specs.Transform.{BestOk, firstOf, runnerUpWithin, competitorOf, summaryOf, offeredBy, foldTransform, FoldReady};
 ghost use Rattle.hard.specs.TransformLaws.{PairOk};
 use best::lex::LexMax;
 use best::lex::lex_max;
@@ -19,7 +19,11 @@ use scan::scan::Asked;
 use scan::scan::Candidate;
 use scan::scan::HardScan;
 use scan::scan::Kept;
+use scan::scan::RunnerUp;
 use scan::scan::TransformSummary;
+
+// Up to so many pairs of optimal cells the best origin is a transform's only candidate; beyond, every origin is tried.
+const SEPARATION_PRODUCT_CAP: usize = 1024;
 
 // An origin by its key, with its hits.
 pub struct Ranked {
@@ -60,11 +64,11 @@ fn best_origin(
 }
 
 // The runner-up inside a transform whose best origin is `first`, from what its horizontal table a and its vertical table b say.
-fn next_origin(a: LexMax, b: LexMax, first: usize, periods: Periods) -> Ranked
+fn runner_up_within(a: LexMax, b: LexMax, first: usize, periods: Periods) -> Ranked
     requires { ⌜ Period (periods .h) × Period (periods .v) × BestOk (periods .h) (periods .v) a b ⌝ }
-    ensures { λ r. ⌜ r ≡ nextOrigin (periods .h) (periods .v) a b first ⌝ }
+    ensures { λ r. ⌜ r ≡ runnerUpWithin (periods .h) (periods .v) a b first ⌝ }
 {
-    if a.level * b.level > 1 {
+    if a.tied * b.tied > 1 {
         let hits = a.count + b.count;
         return Ranked { hits, key: first };
     }
@@ -78,28 +82,33 @@ fn next_origin(a: LexMax, b: LexMax, first: usize, periods: Periods) -> Ranked
     Ranked { hits: across, key }
 }
 
-// The summary of a transform from its best origin and the runner-up inside it.
-fn summary(best: Ranked, next: Ranked, period: usize, transform: u8) -> TransformSummary
-    requires { ⌜ Period period × (best .key ≤ 2250000) × (next .key ≤ 2250000) ⌝ }
-    ensures { λ r. ⌜ r ≡ summaryOf period best next transform ⌝ }
+// An origin of a transform by row and column, over the vertical period.
+fn competitor(origin: Ranked, period: usize, transform: u8) -> RunnerUp
+    requires { ⌜ Period period × (origin .key ≤ 2250000) ⌝ }
+    ensures { λ r. ⌜ r ≡ competitorOf period transform origin ⌝ }
 {
     let columns = 3 * period;
-    let row = (best.key / columns) as u32;
-    let col = (best.key % columns) as u32;
-    let nextrow = (next.key / columns) as u32;
-    let nextcol = (next.key % columns) as u32;
-    TransformSummary {
-        best: best.hits,
+    let row = (origin.key / columns) as u32;
+    let col = (origin.key % columns) as u32;
+    RunnerUp {
+        hits: origin.hits,
         row,
         col,
-        next: next.hits,
-        nextrow,
-        nextcol,
         transform,
     }
 }
 
-// What is kept after the transform at a list position: no candidate over the limit, the best origin up to 1,024 optimal pairs, else all origins.
+// The summary of a transform from its best origin and the runner-up within it.
+fn summary(first: Ranked, other: Ranked, period: usize, transform: u8) -> TransformSummary
+    requires { ⌜ Period period × (first .key ≤ 2250000) × (other .key ≤ 2250000) ⌝ }
+    ensures { λ r. ⌜ r ≡ summaryOf period first other transform ⌝ }
+{
+    let best = competitor(first, period, transform);
+    let within = competitor(other, period, transform);
+    TransformSummary { best, within }
+}
+
+// What is kept after the transform at a list position: no candidate over the limit, the best origin up to the cap of optimal pairs, else all origins.
 fn offer_transform(
     kept: Kept,
     a: LexMax,
@@ -121,7 +130,7 @@ fn offer_transform(
     if over_limit(asked.edges, hits, asked.error_limit) {
         return kept;
     }
-    if a.optimal * b.optimal > 1024 {
+    if a.optimal * b.optimal > SEPARATION_PRODUCT_CAP {
         return scan_direct(hc, hw, vc, vw, periods, asked, listed, kept);
     }
     let weight = a.weight + b.weight;
@@ -158,8 +167,8 @@ pub fn fold_transform<'a>(
     let key = best_origin(a, b, hc, hw, vc, vw, periods);
     let hits = a.count + b.count;
     let best = Ranked { hits, key };
-    let next = next_origin(a, b, key, periods);
-    let s = summary(best, next, periods.v, transform);
+    let within = runner_up_within(a, b, key, periods);
+    let s = summary(best, within, periods.v, transform);
     let listed = scan.count;
     let old = scan.best;
     let kept = offer_transform(old, a, b, key, hc, hw, vc, vw, periods, asked, listed);

@@ -5,7 +5,7 @@ use lib.Ieee.{Float, lt}
 use Rattle.laws.specs.Grid.{origins}
 use Rattle.likelihood.specs.Likelihood.{dequantised}
 use Rattle.pair.specs.Sums.{SumTables, sumAt}
-use Rattle.pair.specs.Pair.{winnerOf, runnerOf}
+use Rattle.pair.specs.Pair.{winnerOf, secondOf}
 use Rattle.margin.specs.declared.slots.SoftCandidate.{SoftCandidate}
 use Rattle.margin.specs.declared.slots.SoftScan.{SoftScan}
 use Rattle.margin.specs.declared.slots.Slot.{Slot}
@@ -43,10 +43,10 @@ softEmpty = record { first = Free; second = Free; count = 0 }
 module _ (L M : ℕ) where
   -- "Winner and runner-up of each transform are offered in order": the transform with the tables X at the scan's next list position
   unfoldable pub softFolded : SumTables → SoftScan → SoftScan
-  unfolding softCandidate softOffered winnerOf runnerOf
+  unfolding softCandidate softOffered winnerOf secondOf
   softFolded X s =
       let one = softOffered s (softCandidate L M X (s .count) (winnerOf (origins L M) (X .hs) (X .vs))) in
-      let both = softOffered one (softCandidate L M X (s .count) (runnerOf (origins L M) (X .hs) (X .vs))) in
+      let both = softOffered one (softCandidate L M X (s .count) (secondOf (origins L M) (X .hs) (X .vs))) in
       record { first = both .first; second = both .second; count = s .count + 1 }
 
   -- the first n list positions, of which position p has the tables tab p

@@ -24,24 +24,24 @@ abbrev pub levelBest : List ℤ → ℕ
 levelBest xs = firstBest (larger (sAt xs)) (length xs)
 
 -- cell i has the given sum
-abbrev pub level : List ℤ → ℤ → ℕ → Bool
-level xs top i = eqZ (sAt xs i) top
+abbrev pub tiedSum : List ℤ → ℤ → ℕ → Bool
+tiedSum xs top i = eqZ (sAt xs i) top
 
 -- the first second-best cell: the first cell of largest sum, of all but cell k
-abbrev pub secondCell : List ℤ → ℕ → ℕ
-secondCell xs k = second (larger (sAt xs)) k (length xs)
+abbrev pub levelSecond : List ℤ → ℕ → ℕ
+levelSecond xs k = second (larger (sAt xs)) k (length xs)
 
 -- all that the selection asks of one table, around cell k
-abbrev pub aroundOf : List ℤ → ℕ → LevelMax
-aroundOf xs k =
+abbrev pub levelAround : List ℤ → ℕ → LevelMax
+levelAround xs k =
     record {
       cell = k;
       top = sAt xs k;
-      level = count (length xs) (level xs (sAt xs k));
-      second = secondCell xs k;
-      under = sAt xs (secondCell xs k);
+      tied = count (length xs) (tiedSum xs (sAt xs k));
+      second = levelSecond xs k;
+      under = sAt xs (levelSecond xs k);
     }
 
 -- the same, around its best cell
 unfoldable pub levelOf : List ℤ → LevelMax
-levelOf xs = aroundOf xs (levelBest xs)
+levelOf xs = levelAround xs (levelBest xs)

@@ -14,7 +14,7 @@ use Rattle.laws.specs.Counting.{count-le, count-pos}
 use Rattle.laws.specs.Best.{Weak, in-bound, nothing-beats}
 use Rattle.laws.specs.Second.{second-in, second-not, second-best, second-first}
 use Rattle.laws.specs.Whole.{eqZ, eqZ-true, eqZ-refl, lt-raised, le-raised, raised-lt, raised-le}
-use Rattle.pair.specs.Level.{sAt, larger, levelBest, level, secondCell, levelOf}
+use Rattle.pair.specs.Level.{sAt, larger, levelBest, tiedSum, levelSecond, levelOf}
 
 -- ---- whole numbers in their order are weakly ordered
 pub larger-weak : (n : ℕ) (f : ℕ → ℤ) → Weak n (larger f)
@@ -56,28 +56,28 @@ module _ (xs : List ℤ) (two : 1 < length xs) where
   largest j h = nothing-beats (larger (sAt xs)) (length xs) weak (length xs) j (le-refl (length xs)) h
 
   -- it has its own sum, so some cell has it, and of course not more than there are
-  pub best-level : level xs (sAt xs (levelBest xs)) (levelBest xs) ≡ true
-  best-level = eqZ-refl (sAt xs (levelBest xs))
+  pub best-tied : tiedSum xs (sAt xs (levelBest xs)) (levelBest xs) ≡ true
+  best-tied = eqZ-refl (sAt xs (levelBest xs))
 
-  pub some-level : 0 < levelOf xs .level
+  pub some-tied : 0 < levelOf xs .tied
   unfolding levelOf
-  some-level = count-pos (level xs (sAt xs (levelBest xs))) (length xs) (levelBest xs) cell-in best-level
+  some-tied = count-pos (tiedSum xs (sAt xs (levelBest xs))) (length xs) (levelBest xs) cell-in best-tied
 
-  pub few-level : levelOf xs .level ≤ length xs
+  pub few-tied : levelOf xs .tied ≤ length xs
   unfolding levelOf
-  few-level = count-le (level xs (sAt xs (levelBest xs))) (length xs)
+  few-tied = count-le (tiedSum xs (sAt xs (levelBest xs))) (length xs)
 
   -- the second-best cell is another, and no other than k has a greater sum
   module _ (k : ℕ) where
-    pub second-inside : secondCell xs k < length xs
+    pub second-inside : levelSecond xs k < length xs
     second-inside = second-in (larger (sAt xs)) (length xs) k two (length xs) (le-refl (length xs))
 
-    pub second-other : secondCell xs k ≡ k → ⊥
+    pub second-other : levelSecond xs k ≡ k → ⊥
     second-other = second-not (larger (sAt xs)) (length xs) k two (length xs)
 
-    pub second-largest : (j : ℕ) → j < length xs → (j ≡ k → ⊥) → ltZ (sAt xs (secondCell xs k)) (sAt xs j) ≡ false
+    pub second-largest : (j : ℕ) → j < length xs → (j ≡ k → ⊥) → ltZ (sAt xs (levelSecond xs k)) (sAt xs j) ≡ false
     second-largest j h ne = second-best (larger (sAt xs)) (length xs) k two weak (length xs) j (le-refl (length xs)) h ne
 
     -- and each other before it has a smaller one
-    pub second-early : (j : ℕ) → j < secondCell xs k → (j ≡ k → ⊥) → ltZ (sAt xs j) (sAt xs (secondCell xs k)) ≡ true
+    pub second-early : (j : ℕ) → j < levelSecond xs k → (j ≡ k → ⊥) → ltZ (sAt xs j) (sAt xs (levelSecond xs k)) ≡ true
     second-early j h ne = second-first (larger (sAt xs)) (length xs) k two weak (length xs) j (le-refl (length xs)) h ne

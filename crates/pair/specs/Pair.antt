@@ -10,7 +10,7 @@ use lib.ListN.{length}
 use lib.Signed.{ltZ}
 use Rattle.laws.specs.Grid.{Grid}
 use Rattle.grid.specs.RowMajor.{rowMajor}
-use Rattle.pair.specs.Level.{sAt, level, levelBest, levelOf}
+use Rattle.pair.specs.Level.{sAt, tiedSum, levelBest, levelOf}
 use Rattle.pair.specs.declared.level.LevelMax.{LevelMax}
 use Rattle.pair.specs.declared.pair.TwoBest.{TwoBest}
 
@@ -25,7 +25,7 @@ pub record LevelsOk (L M : ℕ) (a b : LevelMax) : Type 0 where
 
 -- cell i is one of "the cells of largest sum"
 abbrev pub isTop : List ℤ → ℕ → Bool
-isTop xs = level xs (sAt xs (levelBest xs))
+isTop xs = tiedSum xs (sAt xs (levelBest xs))
 
 -- a pair that passes is taken where none was found before it
 abbrev pub filled : ℕ → ℕ → Bool → ℕ → ℕ
@@ -43,22 +43,22 @@ module _ (G : Grid) where
   otherPair m p q w (suc h) = cond (p h) (otherIn q h w (otherPair m p q w h) m) (otherPair m p q w h)
 
   -- "else from the second-best cells .., by sums, horizontal on a tie"
-  unfoldable pub nextPair : LevelMax → LevelMax → ℕ
-  nextPair a b = cond (ltZ (a .under +ℤ b .top) (a .top +ℤ b .under)) (G .key (a .cell) (b .second)) (G .key (a .second) (b .cell))
+  unfoldable pub secondPair : LevelMax → LevelMax → ℕ
+  secondPair a b = cond (ltZ (a .under +ℤ b .top) (a .top +ℤ b .under)) (G .key (a .cell) (b .second)) (G .key (a .second) (b .cell))
 
   -- "the winner is the row-major first over the cells of largest sum"
   unfoldable pub winnerOf : List ℤ → List ℤ → ℕ
   winnerOf hs vs = rowMajor G (length vs) (isTop hs) (isTop vs) (length hs)
 
   -- "If several pairs tie, its runner-up is .."
-  unfoldable pub runnerOf : List ℤ → List ℤ → ℕ
-  unfolding levelOf winnerOf nextPair
-  runnerOf hs vs =
-      cond (ltb 1 (levelOf hs .level * levelOf vs .level))
+  unfoldable pub secondOf : List ℤ → List ℤ → ℕ
+  unfolding levelOf winnerOf secondPair
+  secondOf hs vs =
+      cond (ltb 1 (levelOf hs .tied * levelOf vs .tied))
       (otherPair (length vs) (isTop hs) (isTop vs) (winnerOf hs vs) (length hs))
-      (nextPair (levelOf hs) (levelOf vs))
+      (secondPair (levelOf hs) (levelOf vs))
 
   -- both
   unfoldable pub twoOf : List ℤ → List ℤ → TwoBest
-  unfolding winnerOf runnerOf
-  twoOf hs vs = record { winner = winnerOf hs vs; runner = runnerOf hs vs }
+  unfolding winnerOf secondOf
+  twoOf hs vs = record { winner = winnerOf hs vs; second = secondOf hs vs }

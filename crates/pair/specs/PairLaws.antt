@@ -1,4 +1,4 @@
--- The winner and the runner-up put together from what the two tables say, and one cell more in the search for another pair.
+-- The winner and the second put together from what the two tables say, and one cell more in the search for another pair.
 use mathlib.Core.Path.{_≡_, refl, sym, _∙_}
 use mathlib.Core.Bool.{Bool, true, false, not, _&&_, cond}
 use mathlib.Core.List.{List}
@@ -19,13 +19,13 @@ use Rattle.laws.specs.Signed.{read}
 use Rattle.best.specs.CellTables.{Period}
 use Rattle.grid.specs.RowMajor.{rowMajor}
 use Rattle.grid.specs.RowMajorLaws.{major-none, major-only}
-use Rattle.hard.specs.TransformLaws.{grid, none-small}
-use Rattle.pair.specs.Level.{sAt, level, levelBest, levelOf}
-use Rattle.pair.specs.LevelLaws.{cell-in, best-level, some-level, second-inside, few-level}
+use Rattle.grid.specs.BoardGrid.{grid, none-small}
+use Rattle.pair.specs.Level.{sAt, tiedSum, levelBest, levelOf}
+use Rattle.pair.specs.LevelLaws.{cell-in, best-tied, some-tied, second-inside, few-tied}
 use Rattle.pair.specs.Sums.{SumsOk}
 use Rattle.pair.specs.SumsLaws.{small-read, all-bounded, h-two, v-two}
 use Rattle.pair.specs.OtherLaws.{other-small}
-use Rattle.pair.specs.Pair.{LevelsOk, isTop, filled, otherIn, otherPair, nextPair, winnerOf, runnerOf, twoOf}
+use Rattle.pair.specs.Pair.{LevelsOk, isTop, filled, otherIn, otherPair, secondPair, winnerOf, secondOf, twoOf}
 use Rattle.pair.specs.declared.level.LevelMax.{LevelMax}
 use Rattle.pair.specs.declared.pair.TwoBest.{TwoBest}
 
@@ -51,13 +51,13 @@ pair-yes G m p q w i x e t = rw (add-one i, t, ← e)
 
 -- ---- the pair with a second-best cell
 module _ (G : Grid) (a b : LevelMax) (k : ℕ) where
-  pub next-down : ltZ (a .under +ℤ b .top) (a .top +ℤ b .under) ≡ true → k ≡ G .key (a .cell) (b .second) → k ≡ nextPair G a b
-  unfolding nextPair
-  next-down t e = rw t e
+  pub second-down : ltZ (a .under +ℤ b .top) (a .top +ℤ b .under) ≡ true → k ≡ G .key (a .cell) (b .second) → k ≡ secondPair G a b
+  unfolding secondPair
+  second-down t e = rw t e
 
-  pub next-across : ltZ (a .under +ℤ b .top) (a .top +ℤ b .under) ≡ false → k ≡ G .key (a .second) (b .cell) → k ≡ nextPair G a b
-  unfolding nextPair
-  next-across t e = rw t e
+  pub second-across : ltZ (a .under +ℤ b .top) (a .top +ℤ b .under) ≡ false → k ≡ G .key (a .second) (b .cell) → k ≡ secondPair G a b
+  unfolding secondPair
+  second-across t e = rw t e
 
 -- ---- two numbers above 0 with a product of at most 1: the first is 1
 sole-factor : (m n : ℕ) → 0 < m → 0 < n → m * n ≤ 1 → m ≡ 1
@@ -74,8 +74,8 @@ module _ (L M : ℕ) (p : Period L) (q : Period M) (hs vs : List ℤ) (ok : Sums
   two-v : 1 < length vs
   two-v = v-two L M hs vs ok (p .more) (q .more)
 
-  pub pairs-few : a .level * b .level ≤ 2250000
-  pairs-few = rw (ea, eb) (mul-le-mul {n₁ = levelOf hs .level} {m₁ = levelOf vs .level} {n₂ = 1500} {m₂ = 1500} (omega (arith, few-level hs two-h, ok .hlen, p .few)) (omega (arith, few-level vs two-v, ok .vlen, q .few)))
+  pub pairs-few : a .tied * b .tied ≤ 2250000
+  pairs-few = rw (ea, eb) (mul-le-mul {n₁ = levelOf hs .tied} {m₁ = levelOf vs .tied} {n₂ = 1500} {m₂ = 1500} (omega (arith, few-tied hs two-h, ok .hlen, p .few)) (omega (arith, few-tied vs two-v, ok .vlen, q .few)))
 
   pub levels-ok : LevelsOk L M a b
   unfolding levelOf
@@ -98,37 +98,37 @@ module _ (L M : ℕ) (p : Period L) (q : Period M) (hs vs : List ℤ) (ok : Sums
   v-read = small-read (b .top) (rw eb (omega (arith, bound 0 (levelBest vs))))
 
   -- ---- the two, where several pairs tie and where one pair is alone
-  module _ (G : Grid) (t u : ℤ) (et : t ≡ a .top) (eu : u ≡ b .top) (w r : ℕ) (ew : w ≡ rowMajor G (length vs) (level hs t) (level vs u) (length hs)) where
+  module _ (G : Grid) (t u : ℤ) (et : t ≡ a .top) (eu : u ≡ b .top) (w r : ℕ) (ew : w ≡ rowMajor G (length vs) (tiedSum hs t) (tiedSum vs u) (length hs)) where
     winner-is : w ≡ winnerOf G hs vs
     unfolding winnerOf levelOf
     winner-is = ew ∙ rw (et, eu, ea, eb)
 
-    pub two-tied : 1 < a .level * b .level → r ≡ otherPair G (length vs) (level hs t) (level vs u) w (length hs)
-        → _≡_ {A = TwoBest} (record { winner = w; runner = r }) (twoOf G hs vs)
-    unfolding twoOf runnerOf levelOf
+    pub two-tied : 1 < a .tied * b .tied → r ≡ otherPair G (length vs) (tiedSum hs t) (tiedSum vs u) w (length hs)
+        → _≡_ {A = TwoBest} (record { winner = w; second = r }) (twoOf G hs vs)
+    unfolding twoOf secondOf levelOf
     two-tied h er =
-        let g : 1 < levelOf hs .level * levelOf vs .level = rw (ea, eb) at h in
-        let e : r ≡ otherPair G (length vs) (level hs (levelOf hs .top)) (level vs (levelOf vs .top)) (winnerOf G hs vs) (length hs) = er ∙ rw (winner-is, et, eu, ea, eb) in
-        rw (winner-is, e, lt-ltb 1 (levelOf hs .level * levelOf vs .level) g)
+        let g : 1 < levelOf hs .tied * levelOf vs .tied = rw (ea, eb) at h in
+        let e : r ≡ otherPair G (length vs) (tiedSum hs (levelOf hs .top)) (tiedSum vs (levelOf vs .top)) (winnerOf G hs vs) (length hs) = er ∙ rw (winner-is, et, eu, ea, eb) in
+        rw (winner-is, e, lt-ltb 1 (levelOf hs .tied * levelOf vs .tied) g)
 
   -- where one pair is alone, it is the pair of the best cells
-  sole-winner : a .level * b .level ≤ 1 → origins L M .key (a .cell) (b .cell) ≡ winnerOf (origins L M) hs vs
+  sole-winner : a .tied * b .tied ≤ 1 → origins L M .key (a .cell) (b .cell) ≡ winnerOf (origins L M) hs vs
   unfolding winnerOf levelOf
   sole-winner h =
-      let m = levelOf hs .level in
-      let n = levelOf vs .level in
+      let m = levelOf hs .tied in
+      let n = levelOf vs .tied in
       let g : m * n ≤ 1 = rw (ea, eb) at h in
-      let one = sole-factor m n (some-level hs two-h) (some-level vs two-v) g in
-      let sole = sole-factor n m (some-level vs two-v) (some-level hs two-h) (rw (mul-comm n m) g) in
-      rw (ea, eb) (sym (major-only (origins L M) (length vs) (isTop hs) (isTop vs) (length hs) (levelBest hs) (levelBest vs) (cell-in hs two-h) (cell-in vs two-v) (best-level hs two-h) (best-level vs two-v) one sole (grid L M p q .under (levelBest hs) (levelBest vs) (omega (arith, cell-in hs two-h, ok .hlen)) (omega (arith, cell-in vs two-v, ok .vlen)))))
+      let one = sole-factor m n (some-tied hs two-h) (some-tied vs two-v) g in
+      let sole = sole-factor n m (some-tied vs two-v) (some-tied hs two-h) (rw (mul-comm n m) g) in
+      rw (ea, eb) (sym (major-only (origins L M) (length vs) (isTop hs) (isTop vs) (length hs) (levelBest hs) (levelBest vs) (cell-in hs two-h) (cell-in vs two-v) (best-tied hs two-h) (best-tied vs two-v) one sole (grid L M p q .under (levelBest hs) (levelBest vs) (omega (arith, cell-in hs two-h, ok .hlen)) (omega (arith, cell-in vs two-v, ok .vlen)))))
 
-  pub two-single : (w r : ℕ) → w ≡ origins L M .key (a .cell) (b .cell) → a .level * b .level ≤ 1 → r ≡ nextPair (origins L M) a b
-      → _≡_ {A = TwoBest} (record { winner = w; runner = r }) (twoOf (origins L M) hs vs)
-  unfolding twoOf runnerOf
+  pub two-single : (w r : ℕ) → w ≡ origins L M .key (a .cell) (b .cell) → a .tied * b .tied ≤ 1 → r ≡ secondPair (origins L M) a b
+      → _≡_ {A = TwoBest} (record { winner = w; second = r }) (twoOf (origins L M) hs vs)
+  unfolding twoOf secondOf
   two-single w r ew h er =
-      let g : levelOf hs .level * levelOf vs .level ≤ 1 = rw (ea, eb) at h in
-      let e : r ≡ nextPair (origins L M) (levelOf hs) (levelOf vs) = er ∙ rw (ea, eb) in
-      rw (ew ∙ sole-winner h, e, le-ltb 1 (levelOf hs .level * levelOf vs .level) g)
+      let g : levelOf hs .tied * levelOf vs .tied ≤ 1 = rw (ea, eb) at h in
+      let e : r ≡ secondPair (origins L M) (levelOf hs) (levelOf vs) = er ∙ rw (ea, eb) in
+      rw (ew ∙ sole-winner h, e, le-ltb 1 (levelOf hs .tied * levelOf vs .tied) g)
 
 -- ---- both keys are small
 module _ (L M : ℕ) (p : Period L) (q : Period M) (hs vs : List ℤ) (ok : SumsOk L M hs vs) where
@@ -136,9 +136,9 @@ module _ (L M : ℕ) (p : Period L) (q : Period M) (hs vs : List ℤ) (ok : Sums
   pub board-grid : Laws (origins L M) (length hs) (length vs)
   board-grid = rw (ok .hlen, ok .vlen) (grid L M p q)
 
-  pub two-small : (two : TwoBest) → two ≡ twoOf (origins L M) hs vs → (two .winner ≤ 2250000) × (two .runner ≤ 2250000)
-  unfolding twoOf winnerOf runnerOf nextPair
-  two-small two e = rw e (first, go (ltb 1 (levelOf hs .level * levelOf vs .level)) (ltZ (levelOf hs .under +ℤ levelOf vs .top) (levelOf hs .top +ℤ levelOf vs .under)))
+  pub two-small : (two : TwoBest) → two ≡ twoOf (origins L M) hs vs → (two .winner ≤ 2250000) × (two .second ≤ 2250000)
+  unfolding twoOf winnerOf secondOf secondPair
+  two-small two e = rw e (first, go (ltb 1 (levelOf hs .tied * levelOf vs .tied)) (ltZ (levelOf hs .under +ℤ levelOf vs .top) (levelOf hs .top +ℤ levelOf vs .under)))
     where
       l : LevelsOk L M (levelOf hs) (levelOf vs)
       l = levels-ok L M p q hs vs ok (levelOf hs) (levelOf vs) refl refl

@@ -3,14 +3,14 @@ ghost use mathlib.Core.Path.{_≡_};
 ghost use Prim.Native.Nat.{_<_};
 ghost use lib.ListN.{length};
 ghost use Rattle.laws.specs.Whole.{eqZ};
-ghost use Rattle.pair.specs.Level.{levelBest, aroundOf, levelOf};
+ghost use Rattle.pair.specs.Level.{levelBest, levelAround, levelOf};
 ghost use Rattle.pair.specs.LevelLaws.{Top};
 
 // The first cell of largest sum, that sum, how many cells have it, and the first of the second-best cells with its sum.
 pub struct LevelMax {
     pub cell: usize,
     pub top: i64,
-    pub level: usize,
+    pub tied: usize,
     pub second: usize,
     pub under: i64,
 }
@@ -35,7 +35,7 @@ fn level_best(sums: &[i64]) -> usize
 }
 
 // Whether a cell's sum is the given one.
-pub fn is_level(sum: i64, top: i64) -> bool
+pub fn is_tied(sum: i64, top: i64) -> bool
     ensures { λ r. ⌜ r ≡ eqZ sum top ⌝ }
 {
     sum == top
@@ -43,12 +43,12 @@ pub fn is_level(sum: i64, top: i64) -> bool
 
 // What one table says around its best cell: its sum, how many cells have it, and the first best of the other cells with its sum. Most cells stand below
 // the second best so far, and no more is asked of them.
-fn around(sums: &[i64], cell: usize) -> LevelMax
+fn level_around(sums: &[i64], cell: usize) -> LevelMax
     requires { ⌜ (1 < length (now sums)) × (cell < length (now sums)) × Top (now sums) cell ⌝ }
-    ensures { λ r. ⌜ r ≡ aroundOf (now (sums .entry)) cell ⌝ }
+    ensures { λ r. ⌜ r ≡ levelAround (now (sums .entry)) cell ⌝ }
 {
     let top = sums[cell];
-    let mut level: usize = 0;
+    let mut tied: usize = 0;
     let mut second: usize = 0;
     if cell == 0 {
         second = 1;
@@ -58,8 +58,8 @@ fn around(sums: &[i64], cell: usize) -> LevelMax
     while i < sums.len() {
         let s = sums[i];
         if s >= under {
-            if is_level(s, top) {
-                level += 1;
+            if is_tied(s, top) {
+                tied += 1;
             }
             if s > under {
                 if i != cell {
@@ -73,7 +73,7 @@ fn around(sums: &[i64], cell: usize) -> LevelMax
     LevelMax {
         cell,
         top,
-        level,
+        tied,
         second,
         under,
     }
@@ -84,5 +84,5 @@ pub fn level_max(sums: &[i64]) -> LevelMax
     requires { ⌜ 1 < length (now sums) ⌝ }
     ensures { λ r. ⌜ r ≡ levelOf (now (sums .entry)) ⌝ }
 {
-    around(sums, level_best(sums))
+    level_around(sums, level_best(sums))
 }

@@ -43,8 +43,11 @@ behind (One k) hits = ltb hits (k .hits)
 
 -- ---- the scan record
 -- what stands in a place of the array that holds no summary yet
+abbrev pub noRunnerUp : RunnerUp
+noRunnerUp = record { hits = 0; row = 0; col = 0; transform = 0 }
+
 abbrev pub noSummary : TransformSummary
-noSummary = record { best = 0; row = 0; col = 0; next = 0; nextrow = 0; nextcol = 0; transform = 0 }
+noSummary = record { best = noRunnerUp; within = noRunnerUp }
 
 -- of no transforms
 unfoldable pub emptyScan : HardScan
@@ -55,20 +58,13 @@ unfoldable pub pushed : HardScan → TransformSummary → Kept → HardScan
 pushed h s best = record { summaries = set (h .summaries) (h .count) s; count = h .count + 1; best = best }
 
 -- ---- the runner-up
--- a position's best origin as a runner-up, and the runner-up inside it
-abbrev pub ofBest : TransformSummary → RunnerUp
-ofBest s = record { hits = s .best; row = s .row; col = s .col; transform = s .transform }
-
-abbrev pub ofNext : TransformSummary → RunnerUp
-ofNext s = record { hits = s .next; row = s .nextrow; col = s .nextcol; transform = s .transform }
-
 -- "each other list position, in order, with its best hits and best origin, replaces it only on strictly more hits"
 abbrev pub stepped : RunnerUp → TransformSummary → Bool → RunnerUp
-stepped r s own = cond own r (cond (ltb (r .hits) (s .best)) (ofBest s) r)
+stepped r s own = cond own r (cond (ltb (r .hits) (s .best .hits)) (s .best) r)
 
 -- "Runner-up: inside the winner's transform, .. Then each other list position": of the winner at position w, over the first n positions
 unfoldable pub runnerUp : List TransformSummary → ℕ → ℕ → RunnerUp
-runnerUp ss w zero = ofNext (getD ss w noSummary)
+runnerUp ss w zero = getD ss w noSummary .within
 runnerUp ss w (suc i) = stepped (runnerUp ss w i) (getD ss i noSummary) (eqb i w)
 
 -- ---- the choice

@@ -10,7 +10,7 @@ use lib.Ieee.{Float}
 use lib.ListN.{getD}
 use borrow.Author.Tests.{ltb-true, ltb-false, le-ltb, eqb-true, eqb-false, ne-eqb}
 use Rattle.laws.specs.Tests.{clash, split}
-use Rattle.scan.specs.Scan.{overLimit, takes, behind, replaced, offeredWithin, noSummary, ofBest, ofNext, stepped, runnerUp}
+use Rattle.scan.specs.Scan.{overLimit, takes, behind, replaced, offeredWithin, noSummary, stepped, runnerUp}
 use Rattle.scan.specs.declared.scan.Candidate.{Candidate}
 use Rattle.scan.specs.declared.scan.TransformSummary.{TransformSummary}
 use Rattle.scan.specs.declared.scan.RunnerUp.{RunnerUp}
@@ -47,44 +47,44 @@ module _ (ss : List TransformSummary) (w : ℕ) where
   abbrev at : ℕ → TransformSummary
   at p = getD ss p noSummary
 
-  either : (r : RunnerUp) (s : TransformSummary) → ((stepped r s false ≡ ofBest s) × (r .hits < s .best)) ⊎ ((stepped r s false ≡ r) × (s .best ≤ r .hits))
-  either r s = go (ltb (r .hits) (s .best)) refl
+  either : (r : RunnerUp) (s : TransformSummary) → ((stepped r s false ≡ s .best) × (r .hits < s .best .hits)) ⊎ ((stepped r s false ≡ r) × (s .best .hits ≤ r .hits))
+  either r s = go (ltb (r .hits) (s .best .hits)) refl
     where
-      go : (t : Bool) → ltb (r .hits) (s .best) ≡ t → ((cond t (ofBest s) r ≡ ofBest s) × (r .hits < s .best)) ⊎ ((cond t (ofBest s) r ≡ r) × (s .best ≤ r .hits))
-      go true e = inl (refl, ltb-true (r .hits) (s .best) e)
-      go false e = inr (refl, ltb-false (r .hits) (s .best) e)
+      go : (t : Bool) → ltb (r .hits) (s .best .hits) ≡ t → ((cond t (s .best) r ≡ s .best) × (r .hits < s .best .hits)) ⊎ ((cond t (s .best) r ≡ r) × (s .best .hits ≤ r .hits))
+      go true e = inl (refl, ltb-true (r .hits) (s .best .hits) e)
+      go false e = inr (refl, ltb-false (r .hits) (s .best .hits) e)
 
   -- one step: no fewer hits than before, nor than the other position has
-  step-up : (r : RunnerUp) (s : TransformSummary) → (r .hits ≤ stepped r s false .hits) × (s .best ≤ stepped r s false .hits)
+  step-up : (r : RunnerUp) (s : TransformSummary) → (r .hits ≤ stepped r s false .hits) × (s .best .hits ≤ stepped r s false .hits)
   step-up r s = ⊎-elim (λ a. rw (a .0) (omega (arith, a .1), omega arith)) (λ a. rw (a .0) (omega arith, a .1)) (either r s)
 
-  pub runner-own : (n : ℕ) → at w .next ≤ runnerUp ss w n .hits
+  pub runner-up-own : (n : ℕ) → at w .within .hits ≤ runnerUp ss w n .hits
   unfolding runnerUp
-  runner-own zero = omega arith
-  runner-own (suc n) = go (eqb n w) (runner-own n)
+  runner-up-own zero = omega arith
+  runner-up-own (suc n) = go (eqb n w) (runner-up-own n)
     where
-      go : (t : Bool) → at w .next ≤ runnerUp ss w n .hits → at w .next ≤ stepped (runnerUp ss w n) (at n) t .hits
+      go : (t : Bool) → at w .within .hits ≤ runnerUp ss w n .hits → at w .within .hits ≤ stepped (runnerUp ss w n) (at n) t .hits
       go true h = h
       go false h = omega (arith, step-up (runnerUp ss w n) (at n) .0)
 
-  pub runner-other : (n p : ℕ) → p < n → (p ≡ w → ⊥) → at p .best ≤ runnerUp ss w n .hits
+  pub runner-up-other : (n p : ℕ) → p < n → (p ≡ w → ⊥) → at p .best .hits ≤ runnerUp ss w n .hits
   unfolding runnerUp
-  runner-other zero p h ne = absurd (omega arith)
-  runner-other (suc n) p h ne = go (eqb n w) refl (λ l. runner-other n p l ne) (split p n h)
+  runner-up-other zero p h ne = absurd (omega arith)
+  runner-up-other (suc n) p h ne = go (eqb n w) refl (λ l. runner-up-other n p l ne) (split p n h)
     where
-      go : (t : Bool) → eqb n w ≡ t → (p < n → at p .best ≤ runnerUp ss w n .hits) → (p ≡ n) ⊎ (p < n) → at p .best ≤ stepped (runnerUp ss w n) (at n) t .hits
+      go : (t : Bool) → eqb n w ≡ t → (p < n → at p .best .hits ≤ runnerUp ss w n .hits) → (p ≡ n) ⊎ (p < n) → at p .best .hits ≤ stepped (runnerUp ss w n) (at n) t .hits
       go true e ih (inl q) = absurd (ne (q ∙ eqb-true n w e))
       go true e ih (inr l) = ih l
       go false e ih (inl q) = rw q (step-up (runnerUp ss w n) (at n) .1)
       go false e ih (inr l) = omega (arith, ih l, step-up (runnerUp ss w n) (at n) .0)
 
-  pub runner-is : (n : ℕ) → (runnerUp ss w n ≡ ofNext (at w)) ⊎ ((p : ℕ) × (p < n) × (p ≡ w → ⊥) × (runnerUp ss w n ≡ ofBest (at p)))
+  pub runner-up-is : (n : ℕ) → (runnerUp ss w n ≡ at w .within) ⊎ ((p : ℕ) × (p < n) × (p ≡ w → ⊥) × (runnerUp ss w n ≡ at p .best))
   unfolding runnerUp
-  runner-is zero = inl refl
-  runner-is (suc n) = go (eqb n w) refl (runner-is n)
+  runner-up-is zero = inl refl
+  runner-up-is (suc n) = go (eqb n w) refl (runner-up-is n)
     where
       Is : ℕ → RunnerUp → Type 0
-      Is m r = (r ≡ ofNext (at w)) ⊎ ((p : ℕ) × (p < m) × (p ≡ w → ⊥) × (r ≡ ofBest (at p)))
+      Is m r = (r ≡ at w .within) ⊎ ((p : ℕ) × (p < m) × (p ≡ w → ⊥) × (r ≡ at p .best))
 
       later : (r : RunnerUp) → Is n r → Is (suc n) r
       later r (inl e) = inl e

@@ -90,15 +90,13 @@ pub fn offer_within(kept: Kept, c: Candidate, asked: Asked) -> Kept
 pub fn empty() -> HardScan
     ensures { λ r. ⌜ r ≡ emptyScan ⌝ }
 {
-    let s = TransformSummary {
-        best: 0,
+    let r = RunnerUp {
+        hits: 0,
         row: 0,
         col: 0,
-        next: 0,
-        nextrow: 0,
-        nextcol: 0,
         transform: 0,
     };
+    let s = TransformSummary { best: r, within: r };
     let summaries = [s; 8];
     let best = Kept::Nobody;
     HardScan {
@@ -131,13 +129,9 @@ fn step(r: RunnerUp, s: TransformSummary, own: bool) -> RunnerUp
     if own {
         return r;
     }
-    if s.best > r.hits {
-        return RunnerUp {
-            hits: s.best,
-            row: s.row,
-            col: s.col,
-            transform: s.transform,
-        };
+    let best = s.best;
+    if best.hits > r.hits {
+        return best;
     }
     r
 }
@@ -149,12 +143,7 @@ fn runner_up(scan: HardScan, winner: usize) -> RunnerUp
 {
     let n = scan.count;
     let w = scan.summaries[winner];
-    let mut r = RunnerUp {
-        hits: w.next,
-        row: w.nextrow,
-        col: w.nextcol,
-        transform: w.transform,
-    };
+    let mut r = w.within;
     let mut i: usize = 0;
     while i < n {
         let s = scan.summaries[i];
@@ -174,8 +163,8 @@ pub fn finish(scan: HardScan) -> Choice
         Kept::Nobody => Choice::Nothing,
         Kept::One(winner) => {
             let placing = winner.placing;
-            let next = runner_up(scan, placing.listed);
-            Choice::Chosen { winner, next }
+            let runner_up = runner_up(scan, placing.listed);
+            Choice::Chosen { winner, runner_up }
         }
     }
 }

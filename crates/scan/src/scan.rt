@@ -8,15 +8,18 @@ pub struct Asked {
     pub error_limit: f32,
 }
 
-// One transform: its most hits and best origin, the hits and origin of the runner-up inside it, and its number.
-pub struct TransformSummary {
-    pub best: u32,
+// An origin of a transform, by number, that competes with the winner: its hits, and where it is.
+pub struct RunnerUp {
+    pub hits: u32,
     pub row: u32,
     pub col: u32,
-    pub next: u32,
-    pub nextrow: u32,
-    pub nextcol: u32,
     pub transform: u8,
+}
+
+// One transform: its best origin, which competes with the winner of another list position, and the runner-up within the transform.
+pub struct TransformSummary {
+    pub best: RunnerUp,
+    pub within: RunnerUp,
 }
 
 // A placing with its hits, its weight and its score.
@@ -40,16 +43,11 @@ pub struct HardScan {
     pub best: Kept,
 }
 
-// The closest competitor: its hits, origin and transform number.
-pub struct RunnerUp {
-    pub hits: u32,
-    pub row: u32,
-    pub col: u32,
-    pub transform: u8,
-}
-
 // What a list of transforms comes to before the gate: no candidate, or a winner with its runner-up.
 pub enum Choice {
     Nothing,
-    Chosen { winner: Candidate, next: RunnerUp },
+    Chosen {
+        winner: Candidate,
+        runner_up: RunnerUp,
+    },
 }

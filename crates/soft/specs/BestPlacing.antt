@@ -37,8 +37,8 @@ pub record Down (G : Grid) (s : ℕ → ℤ) (k j : ℕ) : Type 0 where
   pub first : (i : ℕ) → i < G .none → (i ≡ k → ⊥) → G .hOf i ≡ G .hOf k → G .vOf i < G .vOf j → ltZ (s i) (s j) ≡ true
   pub greater : (i : ℕ) → i < G .none → (i ≡ k → ⊥) → G .vOf i ≡ G .vOf k → ltZ (s i) (s j) ≡ true
 
--- j is the runner-up to k: another origin, and no origin but k has a greater whole sum
-pub record RunnerUp (G : Grid) (s : ℕ → ℤ) (k j : ℕ) : Type 0 where
+-- j is second to k: another origin, and no origin but k has a greater whole sum
+pub record OwnSecond (G : Grid) (s : ℕ → ℤ) (k j : ℕ) : Type 0 where
   pub key : j < G .none
   pub other : j ≡ k → ⊥
   pub largest : (i : ℕ) → i < G .none → (i ≡ k → ⊥) → ltZ (s j) (s i) ≡ false
@@ -57,7 +57,7 @@ module _ (G : Grid) (n : ℕ) (S : ℕ → ℕ → ℤ) where
     pub earliest : (r i : ℕ) → r < p → i < G .none → lt (dequantised (S r i)) (dequantised (S p k)) ≡ true
 
   -- second place after (p, k): another placing, no placing but the first has a greater f32 total, and each of an earlier list position but the first has a
-  -- smaller one; in another transform it is its own best placing, in the first's the runner-up there
+  -- smaller one; in another transform it is its own best placing, in the first's the second there
   pub record SecondPlace (p k q j : ℕ) : Type 0 where
     pub listed : q < n
     pub key : j < G .none
@@ -65,12 +65,12 @@ module _ (G : Grid) (n : ℕ) (S : ℕ → ℕ → ℤ) where
     pub greatest : (r i : ℕ) → r < n → i < G .none → ((r ≡ p) × (i ≡ k) → ⊥) → lt (dequantised (S q j)) (dequantised (S r i)) ≡ false
     pub earliest : (r i : ℕ) → r < q → i < G .none → ((r ≡ p) × (i ≡ k) → ⊥) → lt (dequantised (S r i)) (dequantised (S q j)) ≡ true
     pub elsewhere : (q ≡ p → ⊥) → OwnBest G (S q) j
-    pub inside : q ≡ p → RunnerUp G (S q) k j
+    pub inside : q ≡ p → OwnSecond G (S q) k j
 
 -- ---- the choice
 -- a placing with its total, by row and column on a board of 3 M columns
-abbrev pub placed : ℕ → (ℕ → ℕ → ℤ) → ℕ → ℕ → SoftCandidate
-placed M S p k = record { placing = record { listed = p; row = k / (3 * M); col = k % (3 * M) }; total = dequantised (S p k) }
+abbrev pub candidateAt : ℕ → (ℕ → ℕ → ℤ) → ℕ → ℕ → SoftCandidate
+candidateAt M S p k = record { placing = record { listed = p; row = k / (3 * M); col = k % (3 * M) }; total = dequantised (S p k) }
 
 -- the choice holds first place and second place, with their totals
 pub record BestTwo (L M n : ℕ) (S : ℕ → ℕ → ℤ) (choice : SoftChoice) : Type 0 where
@@ -78,6 +78,6 @@ pub record BestTwo (L M n : ℕ) (S : ℕ → ℕ → ℤ) (choice : SoftChoice)
   pub k : ℕ
   pub q : ℕ
   pub j : ℕ
-  pub chosen : choice ≡ Chosen (placed M S p k) (placed M S q j)
+  pub chosen : choice ≡ Chosen (candidateAt M S p k) (candidateAt M S q j)
   pub first : FirstPlace (origins L M) n S p k
   pub second : SecondPlace (origins L M) n S p k q j

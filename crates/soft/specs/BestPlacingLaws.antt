@@ -14,12 +14,12 @@ use Rattle.laws.specs.Grid.{Grid, origins}
 use Rattle.likelihood.specs.Likelihood.{dequantised}
 use Rattle.best.specs.CellTables.{Period}
 use Rattle.pair.specs.Sums.{SumTables, SumsOk, sumAt}
-use Rattle.pair.specs.Pair.{winnerOf, runnerOf}
+use Rattle.pair.specs.Pair.{winnerOf, secondOf}
 use Rattle.margin.specs.Scan.{softCandidate, softOffered, softEmpty, softFolded, softSelected, choiceOf, softChosen}
 use Rattle.soft.specs.ScanLaws.{folded-with, soft-selected-count}
 use Rattle.soft.specs.SeparationLaws.{OnGrid, on-grid, sum-under}
-use Rattle.soft.specs.RunnerLaws.{winner-own, runner-up}
-use Rattle.soft.specs.BestPlacing.{OwnBest, Across, Down, RunnerUp, placed, BestTwo}
+use Rattle.soft.specs.SecondLaws.{winner-own, second-own}
+use Rattle.soft.specs.BestPlacing.{OwnBest, Across, Down, OwnSecond, candidateAt, BestTwo}
 use Rattle.soft.specs.SlotLaws.{above, SlotsIn, slots-two, slots-more}
 use Rattle.soft.specs.PlaceLaws.{offers-weak, places}
 use Rattle.margin.specs.declared.slots.SoftCandidate.{SoftCandidate}
@@ -27,13 +27,13 @@ use Rattle.margin.specs.declared.slots.SoftScan.{SoftScan}
 use Rattle.margin.specs.declared.slots.SoftChoice.{SoftChoice}
 use Rattle.margin.specs.declared.slots.SoftChoice.the-variants.{Chosen}
 
--- ---- the offers: winner and runner-up of each list position in turn
+-- ---- the offers: winner and second of each list position in turn
 unfoldable pairOf : (ℕ → ℕ) → (ℕ → ℕ) → ℕ → ℕ
 pairOf W R m = cond (eqb (m % 2) 0) (W (m / 2)) (R (m / 2))
 
 unfoldable offerOf : ℕ → (ℕ → ℕ → ℤ) → (ℕ → ℕ) → (ℕ → ℕ) → ℕ → SoftCandidate
 unfolding pairOf
-offerOf M S W R m = placed M S (m / 2) (pairOf W R m)
+offerOf M S W R m = candidateAt M S (m / 2) (pairOf W R m)
 
 even-half : (r : ℕ) → (2 * r) / 2 ≡ r
 even-half r = omega arith
@@ -48,17 +48,17 @@ odd-rest : (r : ℕ) → suc (2 * r) % 2 ≡ 1
 odd-rest r = omega arith
 
 module _ (M : ℕ) (S : ℕ → ℕ → ℤ) (W R : ℕ → ℕ) where
-  offer-even : (r : ℕ) → offerOf M S W R (2 * r) ≡ placed M S r (W r)
+  offer-even : (r : ℕ) → offerOf M S W R (2 * r) ≡ candidateAt M S r (W r)
   unfolding offerOf pairOf
   offer-even r = rw (even-half r, even-rest r)
 
-  offer-odd : (r : ℕ) → offerOf M S W R (suc (2 * r)) ≡ placed M S r (R r)
+  offer-odd : (r : ℕ) → offerOf M S W R (suc (2 * r)) ≡ candidateAt M S r (R r)
   unfolding offerOf pairOf
   offer-odd r = rw (odd-half r, odd-rest r)
 
 -- ---- the tables of n list positions
 module _ (L M : ℕ) (u : Period L) (v : Period M) (tab : ℕ → SumTables) (n : ℕ) (ok : (r : ℕ) → r < n → SumsOk L M (tab r .hs) (tab r .vs)) where
-  -- the whole sum of a placing by its two cells, and the winner and the runner-up of a position
+  -- the whole sum of a placing by its two cells, and the winner and the second of a position
   abbrev pub tableSum : ℕ → ℕ → ℤ
   tableSum r k = sumAt (origins L M) (tab r .hs) (tab r .vs) k
 
@@ -66,7 +66,7 @@ module _ (L M : ℕ) (u : Period L) (v : Period M) (tab : ℕ → SumTables) (n 
   W r = winnerOf (origins L M) (tab r .hs) (tab r .vs)
 
   abbrev R : ℕ → ℕ
-  R r = runnerOf (origins L M) (tab r .hs) (tab r .vs)
+  R r = secondOf (origins L M) (tab r .hs) (tab r .vs)
 
   abbrev off : ℕ → SoftCandidate
   off = offerOf M tableSum W R
@@ -75,11 +75,11 @@ module _ (L M : ℕ) (u : Period L) (v : Period M) (tab : ℕ → SumTables) (n 
   board r l = on-grid L M u v (tab r .hs) (tab r .vs) (ok r l)
 
   weak : Weak (2 * n) (above off)
-  weak = offers-weak M (origins L M) n tableSum W R (λ r l. winner-own (board r l)) (λ r l. runner-up (board r l)) (λ r k l m. sum-under (board r l) k) off (offer-even M tableSum W R) (offer-odd M tableSum W R)
+  weak = offers-weak M (origins L M) n tableSum W R (λ r l. winner-own (board r l)) (λ r l. second-own (board r l)) (λ r k l m. sum-under (board r l) k) off (offer-even M tableSum W R) (offer-odd M tableSum W R)
 
   -- ---- the scan
   -- a candidate is a placing with its total
-  candidate-is : (r k : ℕ) → softCandidate L M (tab r) r k ≡ placed M tableSum r k
+  candidate-is : (r k : ℕ) → softCandidate L M (tab r) r k ≡ candidateAt M tableSum r k
   unfolding softCandidate
   candidate-is r k = refl
 
@@ -113,7 +113,7 @@ module _ (L M : ℕ) (u : Period L) (v : Period M) (tab : ℕ → SumTables) (n 
   unfolding softChosen
   table-best l =
       let s = softSelected L M tab n in
-      let P = places M (origins L M) n tableSum W R (λ r l. winner-own (board r l)) (λ r l. runner-up (board r l)) (λ r k l m. sum-under (board r l) k) off (offer-even M tableSum W R) (offer-odd M tableSum W R) (s .first) (s .second) (full l) in
+      let P = places M (origins L M) n tableSum W R (λ r l. winner-own (board r l)) (λ r l. second-own (board r l)) (λ r k l m. sum-under (board r l) k) off (offer-even M tableSum W R) (offer-odd M tableSum W R) (s .first) (s .second) (full l) in
       record { p = P .p; k = P .k; q = P .q; j = P .j; chosen = ap₂ choiceOf (P .x-held) (P .y-held); first = P .first; second = P .second }
 
 -- ---- the same sums, said another way
@@ -132,8 +132,8 @@ module _ (G : Grid) (s t : ℕ → ℤ) (e : (i : ℕ) → i < G .none → t i �
   alone-same k j m (inl a) = inl (record { shared = a .shared; first = λ i l n x y. lt-same i j l m ∙ a .first i l n x y })
   alone-same k j m (inr a) = inr (record { shared = a .shared; first = λ i l n x y. lt-same i j l m ∙ a .first i l n x y; greater = λ i l n x. lt-same i j l m ∙ a .greater i l n x })
 
-  runner-same : (k j : ℕ) → k < G .none → RunnerUp G s k j → RunnerUp G t k j
-  runner-same k j l A = record {
+  second-same : (k j : ℕ) → k < G .none → OwnSecond G s k j → OwnSecond G t k j
+  second-same k j l A = record {
     key = A .key;
     other = A .other;
     largest = λ i m n. lt-same j i (A .key) m ∙ A .largest i m n;
@@ -145,8 +145,8 @@ module _ (L M n : ℕ) (S T : ℕ → ℕ → ℤ) (e : (r k : ℕ) → r < n �
   total-same : (r k : ℕ) → r < n → k < 3 * L * (3 * M) → dequantised (T r k) ≡ dequantised (S r k)
   total-same r k l m = ap dequantised (e r k l m)
 
-  placed-same : (r k : ℕ) → r < n → k < 3 * L * (3 * M) → placed M S r k ≡ placed M T r k
-  placed-same r k l m = rw (e r k l m)
+  candidate-same : (r k : ℕ) → r < n → k < 3 * L * (3 * M) → candidateAt M S r k ≡ candidateAt M T r k
+  candidate-same r k l m = rw (e r k l m)
 
   -- two ways of counting that agree have the same first and second
   pub best-two-same : BestTwo L M n T choice
@@ -160,7 +160,7 @@ module _ (L M n : ℕ) (S T : ℕ → ℕ → ℤ) (e : (r k : ℕ) → r < n �
         k = B .k;
         q = B .q;
         j = B .j;
-        chosen = B .chosen ∙ ap₂ Chosen (placed-same (B .p) (B .k) (a .listed) f) (placed-same (B .q) (B .j) (b .listed) g);
+        chosen = B .chosen ∙ ap₂ Chosen (candidate-same (B .p) (B .k) (a .listed) f) (candidate-same (B .q) (B .j) (b .listed) g);
         first = record {
           listed = a .listed;
           own = own-same (origins L M) (S (B .p)) (T (B .p)) (λ i l. e (B .p) i (a .listed) l) (B .k) (a .own);
@@ -174,7 +174,7 @@ module _ (L M n : ℕ) (S T : ℕ → ℕ → ℤ) (e : (r k : ℕ) → r < n �
           greatest = λ r i l m n. ap₂ lt (total-same (B .q) (B .j) (b .listed) g) (total-same r i l m) ∙ b .greatest r i l m n;
           earliest = λ r i l m n. ap₂ lt (total-same r i (omega (arith, b .listed)) m) (total-same (B .q) (B .j) (b .listed) g) ∙ b .earliest r i l m n;
           elsewhere = λ n. own-same (origins L M) (S (B .q)) (T (B .q)) (λ i l. e (B .q) i (b .listed) l) (B .j) (b .elsewhere n);
-          inside = λ z. runner-same (origins L M) (S (B .q)) (T (B .q)) (λ i l. e (B .q) i (b .listed) l) (B .k) (B .j) f (b .inside z);
+          inside = λ z. second-same (origins L M) (S (B .q)) (T (B .q)) (λ i l. e (B .q) i (b .listed) l) (B .k) (B .j) f (b .inside z);
         };
       }
 

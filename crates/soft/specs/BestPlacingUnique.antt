@@ -9,9 +9,9 @@ use lib.Signed.{ltZ}
 use Rattle.laws.specs.Tests.{clash, cases, apart, decided}
 use Rattle.laws.specs.Grid.{Grid, Laws, origins}
 use Rattle.best.specs.CellTables.{Period}
-use Rattle.hard.specs.TransformLaws.{grid}
+use Rattle.grid.specs.BoardGrid.{grid}
 use Rattle.soft.specs.TotalOrderLaws.{not-less, less-through}
-use Rattle.soft.specs.BestPlacing.{OwnBest, NotAfter, Across, Down, RunnerUp, FirstPlace, SecondPlace, placed, BestTwo}
+use Rattle.soft.specs.BestPlacing.{OwnBest, NotAfter, Across, Down, OwnSecond, FirstPlace, SecondPlace, candidateAt, BestTwo}
 use Rattle.margin.specs.declared.slots.SoftChoice.{SoftChoice}
 use Rattle.margin.specs.declared.slots.SoftChoice.the-variants.{Chosen}
 
@@ -34,36 +34,36 @@ module _ (G : Grid) (hn vn : ℕ) (E : Laws G hn vn) (s : ℕ → ℤ) (k : ℕ)
   same-place i j l m (inr a) (inl b) = absurd (omega (arith, a .0))
   same-place i j l m (inr a) (inr b) = let e : G .vOf i ≡ G .vOf j = omega (arith, a .1, b .1) in same-cells i j l m (a .0) e
 
-  module _ (i j : ℕ) (A : RunnerUp G s k i) (B : RunnerUp G s k j) where
-    level : ltZ (s i) (s j) ≡ false
-    level = A .largest j (B .key) (B .other)
+  module _ (i j : ℕ) (A : OwnSecond G s k i) (B : OwnSecond G s k j) where
+    no-less : ltZ (s i) (s j) ≡ false
+    no-less = A .largest j (B .key) (B .other)
 
-    level-back : ltZ (s j) (s i) ≡ false
-    level-back = B .largest i (A .key) (A .other)
+    no-less-back : ltZ (s j) (s i) ≡ false
+    no-less-back = B .largest i (A .key) (A .other)
 
     both-across : Across G s k i → Across G s k j → i ≡ j
     both-across a b =
         ⊎-elim (λ e. same-cells i j (A .key) (B .key) e (a .shared ∙ sym (b .shared)))
-        (⊎-elim (λ l. clash (b .first i (A .key) (A .other) (a .shared) l) level) (λ l. clash (a .first j (B .key) (B .other) (b .shared) l) level-back))
+        (⊎-elim (λ l. clash (b .first i (A .key) (A .other) (a .shared) l) no-less) (λ l. clash (a .first j (B .key) (B .other) (b .shared) l) no-less-back))
         (apart (G .hOf i) (G .hOf j))
 
     both-down : Down G s k i → Down G s k j → i ≡ j
     both-down a b =
         ⊎-elim (λ e. same-cells i j (A .key) (B .key) (a .shared ∙ sym (b .shared)) e)
-        (⊎-elim (λ l. clash (b .first i (A .key) (A .other) (a .shared) l) level) (λ l. clash (a .first j (B .key) (B .other) (b .shared) l) level-back))
+        (⊎-elim (λ l. clash (b .first i (A .key) (A .other) (a .shared) l) no-less) (λ l. clash (a .first j (B .key) (B .other) (b .shared) l) no-less-back))
         (apart (G .vOf i) (G .vOf j))
 
     both-alone : Across G s k i ⊎ Down G s k i → Across G s k j ⊎ Down G s k j → i ≡ j
     both-alone (inl a) (inl b) = both-across a b
-    both-alone (inl a) (inr b) = clash (b .greater i (A .key) (A .other) (a .shared)) level
-    both-alone (inr a) (inl b) = clash (a .greater j (B .key) (B .other) (b .shared)) level-back
+    both-alone (inl a) (inr b) = clash (b .greater i (A .key) (A .other) (a .shared)) no-less
+    both-alone (inr a) (inl b) = clash (a .greater j (B .key) (B .other) (b .shared)) no-less-back
     both-alone (inr a) (inr b) = both-down a b
 
-    -- one origin is the runner-up
-    pub runner-only : i ≡ j
-    runner-only = ⊎-elim
-        (λ e. both-alone (A .alone e) (B .alone (less-through (s j) (s i) (s k) e level)))
-        (λ e. let d : ltZ (s j) (s k) ≡ false = not-less (s j) (s i) (s k) level-back e in same-place i j (A .key) (B .key) (A .tied e j (B .key) (B .other) d) (B .tied d i (A .key) (A .other) e))
+    -- one origin is the second there
+    pub own-second-only : i ≡ j
+    own-second-only = ⊎-elim
+        (λ e. both-alone (A .alone e) (B .alone (less-through (s j) (s i) (s k) e no-less)))
+        (λ e. let d : ltZ (s j) (s k) ≡ false = not-less (s j) (s i) (s k) no-less-back e in same-place i j (A .key) (B .key) (A .tied e j (B .key) (B .other) d) (B .tied d i (A .key) (A .other) e))
         (cases (ltZ (s i) (s k)))
 
 -- ---- the list
@@ -84,7 +84,7 @@ module _ (G : Grid) (n : ℕ) (S : ℕ → ℕ → ℤ) where
     where
       inner : SecondPlace G n S p k q i → j ≡ i
       inner C = ⊎-elim
-          (λ d. runner-only G hn vn E (S q) k j i (A .inside d) (C .inside d))
+          (λ d. own-second-only G hn vn E (S q) k j i (A .inside d) (C .inside d))
           (λ d. own-only G (S q) j i (A .elsewhere d) (C .elsewhere d))
           (decided q p)
 
@@ -94,7 +94,7 @@ pub best-two-only : (L M n : ℕ) → Period L → Period M → (S : ℕ → ℕ
 best-two-only L M n u v S a b A B =
     let f = first-only (origins L M) n S (A .p) (A .k) (B .p) (B .k) (A .first) (B .first) in
     let s = second-only (origins L M) n S (3 * L) (3 * M) (grid L M u v) (B .p) (B .k) (A .q) (A .j) (B .q) (B .j) (moved (f .0) (f .1)) (B .second) in
-    A .chosen ∙ ap₂ Chosen (ap₂ (placed M S) (f .0) (f .1)) (ap₂ (placed M S) (s .0) (s .1)) ∙ sym (B .chosen)
+    A .chosen ∙ ap₂ Chosen (ap₂ (candidateAt M S) (f .0) (f .1)) (ap₂ (candidateAt M S) (s .0) (s .1)) ∙ sym (B .chosen)
   where
     moved : A .p ≡ B .p → A .k ≡ B .k → SecondPlace (origins L M) n S (B .p) (B .k) (A .q) (A .j)
     moved e d = subst (λ (x : ℕ). SecondPlace (origins L M) n S x (B .k) (A .q) (A .j)) e (subst (λ (x : ℕ). SecondPlace (origins L M) n S (A .p) x (A .q) (A .j)) d (A .second))

@@ -2,7 +2,7 @@ pub mod BestPlacing
 pub mod BestPlacingLaws
 pub mod BestPlacingUnique
 pub mod PlaceLaws
-pub mod RunnerLaws
+pub mod SecondLaws
 pub mod ScanLaws
 pub mod Select
 pub mod SelectLaws

@@ -1,4 +1,4 @@
--- From offers to placings: of n list positions each winner and then each runner-up is offered, and first and second place are then first and second of all
+-- From offers to placings: of n list positions each winner and then each second is offered, and first and second place are then first and second of all
 -- placings, offered or not.
 use mathlib.Core.Path.{_≡_, sym, ap, ap₂, subst, _∙_}
 use mathlib.Core.Bool.{true, false}
@@ -12,7 +12,7 @@ use Rattle.laws.specs.Best.{Weak}
 use Rattle.laws.specs.Grid.{Grid}
 use Rattle.likelihood.specs.Likelihood.{dequantised}
 use Rattle.soft.specs.TotalOrderLaws.{Small, total-mono, total-less-not, total-not-less, total-less-through}
-use Rattle.soft.specs.BestPlacing.{OwnBest, RunnerUp, FirstPlace, SecondPlace, placed}
+use Rattle.soft.specs.BestPlacing.{OwnBest, OwnSecond, FirstPlace, SecondPlace, candidateAt}
 use Rattle.soft.specs.SlotLaws.{above, Slots}
 use Rattle.margin.specs.declared.slots.SoftCandidate.{SoftCandidate}
 use Rattle.margin.specs.declared.slots.Slot.{Slot}
@@ -24,19 +24,19 @@ pub record Places (M : ℕ) (G : Grid) (n : ℕ) (S : ℕ → ℕ → ℤ) (x y 
   pub k : ℕ
   pub q : ℕ
   pub j : ℕ
-  pub x-held : x ≡ Held (placed M S p k)
-  pub y-held : y ≡ Held (placed M S q j)
+  pub x-held : x ≡ Held (candidateAt M S p k)
+  pub y-held : y ≡ Held (candidateAt M S q j)
   pub first : FirstPlace G n S p k
   pub second : SecondPlace G n S p k q j
 
--- an offer is a winner's or a runner-up's
+-- an offer is a winner's or a second's
 parity : (m : ℕ) → ((r : ℕ) × (m ≡ 2 * r)) ⊎ ((r : ℕ) × (m ≡ suc (2 * r)))
 parity m = ⊎-elim (λ e. inr (m / 2, omega arith)) (λ l. inl (m / 2, omega arith)) (split (m % 2) 1 (omega arith))
 
--- position r has the winner W r and the runner-up R r, offered one after the other
+-- position r has the winner W r and the second R r, offered one after the other
 module _ (M : ℕ) (G : Grid) (n : ℕ) (S : ℕ → ℕ → ℤ) (W R : ℕ → ℕ)
-    (own : (r : ℕ) → r < n → OwnBest G (S r) (W r)) (run : (r : ℕ) → r < n → RunnerUp G (S r) (W r) (R r)) (small : (r k : ℕ) → r < n → k < G .none → Small (S r k))
-    (off : ℕ → SoftCandidate) (even : (r : ℕ) → off (2 * r) ≡ placed M S r (W r)) (odd : (r : ℕ) → off (suc (2 * r)) ≡ placed M S r (R r)) where
+    (own : (r : ℕ) → r < n → OwnBest G (S r) (W r)) (run : (r : ℕ) → r < n → OwnSecond G (S r) (W r) (R r)) (small : (r k : ℕ) → r < n → k < G .none → Small (S r k))
+    (off : ℕ → SoftCandidate) (even : (r : ℕ) → off (2 * r) ≡ candidateAt M S r (W r)) (odd : (r : ℕ) → off (suc (2 * r)) ≡ candidateAt M S r (R r)) where
   w-small : (r : ℕ) → r < n → Small (S r (W r))
   w-small r l = small r (W r) l (own r l .key)
 
@@ -69,12 +69,12 @@ module _ (M : ℕ) (G : Grid) (n : ℕ) (S : ℕ → ℕ → ℤ) (W R : ℕ →
         ap₂ lt (b .2) (a .2) ∙ total-less-through (b .0) (c .0) (a .0) (b .1) (c .1) (a .1) (sym (ap₂ lt (c .2) (a .2)) ∙ h) (sym (ap₂ lt (c .2) (b .2)) ∙ g);
   }
 
-  -- no origin of a transform has a greater total than its winner, and none but the winner a greater one than its runner-up
+  -- no origin of a transform has a greater total than its winner, and none but the winner a greater one than its second
   under-winner : (r i : ℕ) → r < n → i < G .none → lt (dequantised (S r (W r))) (dequantised (S r i)) ≡ false
   under-winner r i l m = total-mono (S r (W r)) (S r i) (w-small r l) (small r i l m) (own r l .largest i m)
 
-  under-runner : (r i : ℕ) → r < n → i < G .none → (i ≡ W r → ⊥) → lt (dequantised (S r (R r))) (dequantised (S r i)) ≡ false
-  under-runner r i l m ne = total-mono (S r (R r)) (S r i) (r-small r l) (small r i l m) (run r l .largest i m ne)
+  under-second : (r i : ℕ) → r < n → i < G .none → (i ≡ W r → ⊥) → lt (dequantised (S r (R r))) (dequantised (S r i)) ≡ false
+  under-second r i l m ne = total-mono (S r (R r)) (S r i) (r-small r l) (small r i l m) (run r l .largest i m ne)
 
   module _ (x y : Slot) (F : Slots off (2 * n) x y) where
     -- ---- first place is held by a winner
@@ -120,19 +120,19 @@ module _ (M : ℕ) (G : Grid) (n : ℕ) (S : ℕ → ℕ → ℤ) (W R : ℕ →
 
       not-over : (r i : ℕ) → r < n → i < G .none → ((r ≡ P) × (i ≡ W P) → ⊥) → lt (dequantised (S q j)) (dequantised (S r i)) ≡ false
       not-over r i l m ne = ⊎-elim
-          (λ e. rw e (sym (ap₂ lt held (even-total r)) ∙ F .next-top (2 * r) (omega arith) (even-other r i e ne)))
-          (λ d. total-not-less (S q j) (S r (R r)) (S r i) s-small (r-small r l) (small r i l m) (sym (ap₂ lt held (odd-total r)) ∙ F .next-top (suc (2 * r)) (omega arith) (odd-other r)) (under-runner r i l m d))
+          (λ e. rw e (sym (ap₂ lt held (even-total r)) ∙ F .second-top (2 * r) (omega arith) (even-other r i e ne)))
+          (λ d. total-not-less (S q j) (S r (R r)) (S r i) s-small (r-small r l) (small r i l m) (sym (ap₂ lt held (odd-total r)) ∙ F .second-top (suc (2 * r)) (omega arith) (odd-other r)) (under-second r i l m d))
           (decided i (W r))
 
       under : (r i : ℕ) → r < q → i < G .none → ((r ≡ P) × (i ≡ W P) → ⊥) → lt (dequantised (S r i)) (dequantised (S q j)) ≡ true
       under r i l m ne =
           let k : r < n = omega (arith, q-in) in
           ⊎-elim
-          (λ e. rw e (sym (ap₂ lt (even-total r) held) ∙ F .next-early (2 * r) (omega arith) (even-other r i e ne)))
-          (λ d. total-less-through (S r i) (S r (R r)) (S q j) (small r i k m) (r-small r k) s-small (sym (ap₂ lt (odd-total r) held) ∙ F .next-early (suc (2 * r)) (omega arith) (odd-other r)) (under-runner r i k m d))
+          (λ e. rw e (sym (ap₂ lt (even-total r) held) ∙ F .second-early (2 * r) (omega arith) (even-other r i e ne)))
+          (λ d. total-less-through (S r i) (S r (R r)) (S q j) (small r i k m) (r-small r k) s-small (sym (ap₂ lt (odd-total r) held) ∙ F .second-early (suc (2 * r)) (omega arith) (odd-other r)) (under-second r i k m d))
           (decided i (W r))
 
-      second-place : ((q ≡ P) × (j ≡ W P) → ⊥) → ((q ≡ P → ⊥) → OwnBest G (S q) j) → (q ≡ P → RunnerUp G (S q) (W P) j) → SecondPlace G n S P (W P) q j
+      second-place : ((q ≡ P) × (j ≡ W P) → ⊥) → ((q ≡ P → ⊥) → OwnBest G (S q) j) → (q ≡ P → OwnSecond G (S q) (W P) j) → SecondPlace G n S P (W P) q j
       second-place other elsewhere inside = record { listed = q-in; key = j-in; other = other; greatest = not-over; earliest = under; elsewhere = elsewhere; inside = inside }
 
     -- by the winner of another position
@@ -145,20 +145,20 @@ module _ (M : ℕ) (G : Grid) (n : ℕ) (S : ℕ → ℕ → ℤ) (W R : ℕ →
         not-first : r ≡ P → ⊥
         not-first z = F .two (omega (arith, first-even .1))
 
-    -- or by the runner-up of the first's
-    by-runner : (r : ℕ) → F .g ≡ suc (2 * r) → SecondPlace G n S P (W P) r (R r)
-    by-runner r e =
+    -- or by the second of the first's
+    by-second : (r : ℕ) → F .g ≡ suc (2 * r) → SecondPlace G n S P (W P) r (R r)
+    by-second r e =
         let l : r < n = omega (arith, F .g-in) in
         second-place r (R r) l (run r l .key) (ap (λ (m : ℕ). off m .total) e ∙ odd-total r) (omega arith)
-        (λ z. run r l .other (z .1 ∙ ap W (sym (z .0)))) (λ z. clash (winner-less z) (under-winner r (R r) l (run r l .key))) (λ z. subst (λ (k : ℕ). RunnerUp G (S r) k (R r)) (ap W z) (run r l))
+        (λ z. run r l .other (z .1 ∙ ap W (sym (z .0)))) (λ z. clash (winner-less z) (under-winner r (R r) l (run r l .key))) (λ z. subst (λ (k : ℕ). OwnSecond G (S r) k (R r)) (ap W z) (run r l))
       where
         winner-less : (r ≡ P → ⊥) → lt (dequantised (S r (W r))) (dequantised (S r (R r))) ≡ true
         winner-less z =
             sym (ap₂ lt (even-total r) (ap (λ (m : ℕ). off m .total) e ∙ odd-total r))
-            ∙ F .next-early (2 * r) (omega arith) (λ d. let c : r ≡ P = omega (arith, first-even .1) in z c)
+            ∙ F .second-early (2 * r) (omega arith) (λ d. let c : r ≡ P = omega (arith, first-even .1) in z c)
 
     -- ---- both
-    x-is : x ≡ Held (placed M S P (W P))
+    x-is : x ≡ Held (candidateAt M S P (W P))
     x-is = F .first ∙ ap (λ (m : ℕ). Held (off m)) (first-even .1) ∙ ap Held (even P)
 
     pub places : Places M G n S x y
@@ -181,6 +181,6 @@ module _ (M : ℕ) (G : Grid) (n : ℕ) (S : ℕ → ℕ → ℤ) (W R : ℕ →
           x-held = x-is;
           y-held = F .second ∙ ap (λ (m : ℕ). Held (off m)) (o .1) ∙ ap Held (odd (o .0));
           first = first-place;
-          second = by-runner (o .0) (o .1);
+          second = by-second (o .0) (o .1);
         })
         (parity (F .g))

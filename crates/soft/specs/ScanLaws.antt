@@ -8,7 +8,7 @@ use lib.Ieee.{Float}
 use Rattle.laws.specs.Grid.{origins}
 use Rattle.likelihood.specs.Likelihood.{dequantised}
 use Rattle.pair.specs.Sums.{SumTables, sumAt}
-use Rattle.pair.specs.Pair.{winnerOf, runnerOf, twoOf}
+use Rattle.pair.specs.Pair.{winnerOf, secondOf, twoOf}
 use Rattle.margin.specs.Scan.{yields, softCandidate, softOffered, softEmpty, softFolded, softSelected}
 use Rattle.pair.specs.declared.pair.TwoBest.{TwoBest}
 use Rattle.margin.specs.declared.slots.SoftCandidate.{SoftCandidate}
@@ -30,7 +30,7 @@ module _ (s : SoftScan) (c : SoftCandidate) where
     unfolding softOffered
     offer-none u = rw (t, u)
 
--- a scan with a winner and a runner-up offered, one list position on
+-- a scan with a winner and a second offered, one list position on
 abbrev pub withBoth : SoftScan → SoftCandidate → SoftCandidate → SoftScan
 withBoth s a b =
     let both = softOffered (softOffered s a) b in
@@ -47,17 +47,17 @@ module _ (L M : ℕ) where
   pub folded : (X : SumTables) (s one both : SoftScan) (two : TwoBest) (a b : SoftCandidate)
       → two ≡ twoOf (origins L M) (X .hs) (X .vs)
       → a ≡ softCandidate L M X (s .count) (two .winner)
-      → b ≡ softCandidate L M X (s .count) (two .runner)
+      → b ≡ softCandidate L M X (s .count) (two .second)
       → one ≡ softOffered s a
       → both ≡ softOffered one b
       → _≡_ {A = SoftScan} (record { first = both .first; second = both .second; count = s .count + 1 }) (softFolded L M X s)
   unfolding softFolded twoOf
   folded X s one both two a b e ea eb eo ep = rw (ep, eo, eb, ea, e)
 
-  -- the same of a winner and a runner-up that are known otherwise
+  -- the same of a winner and a second that are known otherwise
   pub folded-with : (X : SumTables) (s : SoftScan) (a b : SoftCandidate)
       → softCandidate L M X (s .count) (winnerOf (origins L M) (X .hs) (X .vs)) ≡ a
-      → softCandidate L M X (s .count) (runnerOf (origins L M) (X .hs) (X .vs)) ≡ b
+      → softCandidate L M X (s .count) (secondOf (origins L M) (X .hs) (X .vs)) ≡ b
       → softFolded L M X s ≡ withBoth s a b
   unfolding softFolded
   folded-with X s a b ea eb = ap₂ (withBoth s) ea eb

@@ -17,7 +17,7 @@ use Rattle.sums.specs.Sums.{Likelihoods, LikelihoodsOk, sumsOf, score}
 use Rattle.sums.specs.SumsRoom.{SumsReady, SumsBuilt}
 use Rattle.sums.specs.SumsTheorems.{length-sums, sums-small, read-sums, sums-again, key-sum, sum-rooms-equal}
 use Rattle.best.specs.CellTables.{Period}
-use Rattle.hard.specs.SelectLaws.{period-h, period-v}
+use Rattle.grid.specs.BoardGrid.{period-h, period-v}
 use Rattle.pair.specs.Sums.{SumTables, sums, SumsOk}
 use Rattle.margin.specs.Scan.{softEmpty, softFolded, softSelected, softChosen}
 use Rattle.soft.specs.ScanLaws.{soft-selected-none, soft-selected-more, soft-selected-count}
@@ -32,7 +32,7 @@ unfoldable pub roomSums : ℕ → ℕ → List ℤ → SumTables
 roomSums L M a = sums (view 0 (3 * L) a) (view (3 * L) (3 * M) a)
 
 -- a room whose cells can be folded into the scan: both periods in range, all cells there, and their sums in range
-pub record RoomReady (L M : ℕ) (a : List ℤ) : Type 0 where
+pub record SumsRoomReady (L M : ℕ) (a : List ℤ) : Type 0 where
   pub h : Period L
   pub v : Period M
   pub room : 3 * L + 3 * M ≤ length a
@@ -68,7 +68,7 @@ module _ (B : Board) (E : EdgeList) (X : Likelihoods) (ts : List ℕ) (a : List 
   unfolding roomSums sumTables
   built-sums t a' a'' ready b = ap₂ sums (read-sums B E X t a' a'' ready b true) (read-sums B E X t a' a'' ready b false)
 
-  pub room-ready : (t : ℕ) (a' a'' : List ℤ) → SumsReady B E X t a' → SumsBuilt B E X t a' a'' → RoomReady (periodOf B true) (periodOf B false) a''
+  pub room-ready : (t : ℕ) (a' a'' : List ℤ) → SumsReady B E X t a' → SumsBuilt B E X t a' a'' → SumsRoomReady (periodOf B true) (periodOf B false) a''
   room-ready t a' a'' ready b = record {
     h = period-h B (R .board);
     v = period-v B (R .board);

@@ -15,8 +15,8 @@ use Rattle.laws.specs.Whole.{raised, raised-order, raised-add, raised-same, eqZ
 use Rattle.laws.specs.Grid.{Grid, Laws, origins}
 use Rattle.best.specs.CellTables.{Period}
 use Rattle.grid.specs.RowMajorLaws.{major-le, major-is}
-use Rattle.pair.specs.Level.{sAt, levelBest, secondCell}
-use Rattle.pair.specs.LevelLaws.{cell-in, largest, second-largest, best-level}
+use Rattle.pair.specs.Level.{sAt, levelBest, levelSecond}
+use Rattle.pair.specs.LevelLaws.{cell-in, largest, second-largest, best-tied}
 use Rattle.pair.specs.Sums.{SumsOk, sumAt}
 use Rattle.pair.specs.SumsLaws.{sum-small, all-bounded, h-two, v-two}
 use Rattle.pair.specs.Pair.{isTop, winnerOf}
@@ -36,9 +36,9 @@ module _ (xs : List ℤ) (two : 1 < length xs) (small : (i : ℕ) → natAbs (sA
   pub is-top : (i : ℕ) → rank xs i ≡ rank xs (levelBest xs) → isTop xs i ≡ true
   is-top i e = eq-eqZ (sAt xs i) (sAt xs (levelBest xs)) (raised-same (2 ^ 53) (sAt xs i) (sAt xs (levelBest xs)) (small i) (small (levelBest xs)) e)
 
-  pub next-rank : (i : ℕ) → i < length xs → (i ≡ levelBest xs → ⊥) → rank xs i ≤ rank xs (secondCell xs (levelBest xs))
-  next-rank i h ne =
-      le-raised (2 ^ 53) (sAt xs (secondCell xs (levelBest xs))) (sAt xs i) (small (secondCell xs (levelBest xs))) (small i) (second-largest xs two (levelBest xs) i h ne)
+  pub second-rank : (i : ℕ) → i < length xs → (i ≡ levelBest xs → ⊥) → rank xs i ≤ rank xs (levelSecond xs (levelBest xs))
+  second-rank i h ne =
+      le-raised (2 ^ 53) (sAt xs (levelSecond xs (levelBest xs))) (sAt xs i) (small (levelSecond xs (levelBest xs))) (small i) (second-largest xs two (levelBest xs) i h ne)
 
 -- ---- two tables on a grid of keys
 pub record OnGrid (G : Grid) (hs vs : List ℤ) : Type 0 where
@@ -107,7 +107,7 @@ module _ {G : Grid} {hs vs : List ℤ} (t : OnGrid G hs vs) where
   winner-under =
       omega (
         arith,
-        major-le G (length vs) (isTop hs) (isTop vs) (length hs) (levelBest hs) (levelBest vs) (cell-in hs (t .two-h)) (cell-in vs (t .two-v)) (best-level hs (t .two-h)) (best-level vs (t .two-v)),
+        major-le G (length vs) (isTop hs) (isTop vs) (length hs) (levelBest hs) (levelBest vs) (cell-in hs (t .two-h)) (cell-in vs (t .two-v)) (best-tied hs (t .two-h)) (best-tied vs (t .two-v)),
         t .laws .under (levelBest hs) (levelBest vs) (cell-in hs (t .two-h)) (cell-in vs (t .two-v)),
       )
 
@@ -128,9 +128,9 @@ module _ {G : Grid} {hs vs : List ℤ} (t : OnGrid G hs vs) where
   unfolding winnerOf
   winner-first k l =
       sum-order k (winnerOf G hs vs)
-      ∙ lt-ltb (whole G hs vs k) (whole G hs vs (winnerOf G hs vs)) (⊎-elim (λ m. m) (λ m. absurd (level m)) (compared (whole G hs vs k) (whole G hs vs (winnerOf G hs vs))))
+      ∙ lt-ltb (whole G hs vs k) (whole G hs vs (winnerOf G hs vs)) (⊎-elim (λ m. m) (λ m. absurd (reached m)) (compared (whole G hs vs k) (whole G hs vs (winnerOf G hs vs))))
     where
-      level : whole G hs vs (winnerOf G hs vs) ≤ whole G hs vs k → ⊥
-      level m =
+      reached : whole G hs vs (winnerOf G hs vs) ≤ whole G hs vs k → ⊥
+      reached m =
           let w = whole-cells k (omega (arith, whole-winner, whole-most k)) in
           omega (arith, major-le G (length vs) (isTop hs) (isTop vs) (length hs) (G .hOf k) (G .vOf k) (t .laws .h-in k) (t .laws .v-in k) (w .0) (w .1), t .laws .back k (omega (arith, winner-under)))

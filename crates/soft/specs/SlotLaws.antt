@@ -29,8 +29,8 @@ pub record Slots (off : ℕ → SoftCandidate) (n : ℕ) (x y : Slot) : Type 0 w
   pub second : y ≡ Held (off g)
   pub top : (j : ℕ) → j < n → above off j f ≡ false
   pub early : (j : ℕ) → j < f → above off f j ≡ true
-  pub next-top : (j : ℕ) → j < n → (j ≡ f → ⊥) → above off j g ≡ false
-  pub next-early : (j : ℕ) → j < g → (j ≡ f → ⊥) → above off g j ≡ true
+  pub second-top : (j : ℕ) → j < n → (j ≡ f → ⊥) → above off j g ≡ false
+  pub second-early : (j : ℕ) → j < g → (j ≡ f → ⊥) → above off g j ≡ true
 
 -- the places of a scan
 abbrev pub SlotsIn : (ℕ → SoftCandidate) → ℕ → SoftScan → Type 0
@@ -60,8 +60,8 @@ module _ (off : ℕ → SoftCandidate) (N : ℕ) (W : Weak N (above off)) where
         second = refl;
         top = λ j h. ⊎-elim (λ z. rw z (W .asym 1 0 (omega arith) (omega arith) e)) (λ z. rw z (same 1 (omega arith))) (zero-or-one j h);
         early = λ j h. let z : j ≡ 0 = omega arith in rw z e;
-        next-top = λ j h ne. ⊎-elim (λ z. rw z (same 0 (omega arith))) (λ z. absurd (ne z)) (zero-or-one j h);
-        next-early = λ j h ne. absurd (omega arith);
+        second-top = λ j h ne. ⊎-elim (λ z. rw z (same 0 (omega arith))) (λ z. absurd (ne z)) (zero-or-one j h);
+        second-early = λ j h ne. absurd (omega arith);
       }
       go false e = record {
         f = 0;
@@ -73,8 +73,8 @@ module _ (off : ℕ → SoftCandidate) (N : ℕ) (W : Weak N (above off)) where
         second = refl;
         top = λ j h. ⊎-elim (λ z. rw z (same 0 (omega arith))) (λ z. rw z e) (zero-or-one j h);
         early = λ j h. absurd (omega arith);
-        next-top = λ j h ne. ⊎-elim (λ z. absurd (ne z)) (λ z. rw z (same 1 (omega arith))) (zero-or-one j h);
-        next-early = λ j h ne. let z : j ≡ 0 = omega arith in absurd (ne z);
+        second-top = λ j h ne. ⊎-elim (λ z. absurd (ne z)) (λ z. rw z (same 1 (omega arith))) (zero-or-one j h);
+        second-early = λ j h ne. let z : j ≡ 0 = omega arith in absurd (ne z);
       }
 
   -- ---- one offer more
@@ -107,8 +107,8 @@ module _ (off : ℕ → SoftCandidate) (N : ℕ) (W : Weak N (above off)) where
           second = S .first;
           top = λ j h. ⊎-elim (λ z. rw z (same n hn)) (λ l. W .asym n j hn (omega arith) (over (S .f) j (S .f-in) l e (S .top j l))) (split j n h);
           early = λ j h. over (S .f) j (S .f-in) h e (S .top j h);
-          next-top = λ j h ne. ⊎-elim (λ z. absurd (ne z)) (λ l. S .top j l) (split j n h);
-          next-early = λ j h ne. S .early j h;
+          second-top = λ j h ne. ⊎-elim (λ z. absurd (ne z)) (λ l. S .top j l) (split j n h);
+          second-early = λ j h ne. S .early j h;
         })
         go false true e d = subst (λ (x : SoftScan). SlotsIn off (suc n) x) (offer-second s (off n) (first-yields false e) (second-yields true d)) (record {
           f = S .f;
@@ -120,8 +120,8 @@ module _ (off : ℕ → SoftCandidate) (N : ℕ) (W : Weak N (above off)) where
           second = refl;
           top = λ j h. ⊎-elim (λ z. rw z e) (λ l. S .top j l) (split j n h);
           early = S .early;
-          next-top = λ j h ne. ⊎-elim (λ z. rw z (same n hn)) (λ l. W .asym n j hn (omega arith) (over (S .g) j (S .g-in) l d (S .next-top j l ne))) (split j n h);
-          next-early = λ j h ne. over (S .g) j (S .g-in) h d (S .next-top j h ne);
+          second-top = λ j h ne. ⊎-elim (λ z. rw z (same n hn)) (λ l. W .asym n j hn (omega arith) (over (S .g) j (S .g-in) l d (S .second-top j l ne))) (split j n h);
+          second-early = λ j h ne. over (S .g) j (S .g-in) h d (S .second-top j h ne);
         })
         go false false e d = subst (λ (x : SoftScan). SlotsIn off (suc n) x) (offer-none s (off n) (first-yields false e) (second-yields false d)) (record {
           f = S .f;
@@ -133,6 +133,6 @@ module _ (off : ℕ → SoftCandidate) (N : ℕ) (W : Weak N (above off)) where
           second = S .second;
           top = λ j h. ⊎-elim (λ z. rw z e) (λ l. S .top j l) (split j n h);
           early = S .early;
-          next-top = λ j h ne. ⊎-elim (λ z. rw z d) (λ l. S .next-top j l ne) (split j n h);
-          next-early = S .next-early;
+          second-top = λ j h ne. ⊎-elim (λ z. rw z d) (λ l. S .second-top j l ne) (split j n h);
+          second-early = S .second-early;
         })

@@ -1,5 +1,5 @@
 -- How f32 totals are ordered: they compare as whole numbers of 2^-149 do, and a sum that is not smaller has a total that is not smaller. So a placing with the
--- largest whole sum has the largest total, and two sums that round to the same f32 are level.
+-- largest whole sum has the largest total, and two sums that round to the same f32 are tied.
 use mathlib.Core.Path.{_≡_, refl, ap₂, subst, sym, _∙_}
 use mathlib.Core.Bool.{Bool, true, false, cond, _&&_, _||_, true≢false}
 use mathlib.Core.Logic.{⊎-elim}

@@ -87,7 +87,7 @@ fn candidate_of(
     SoftCandidate { placing, total }
 }
 
-// The transform at the next list position: its winner is offered, then its runner-up.
+// The transform at the next list position: its winner is offered, then its second.
 pub fn fold_transform(scan: SoftScan, hs: &[i64], vs: &[i64], periods: Periods) -> SoftScan
     requires { ⌜ Period (periods .h) × Period (periods .v) × SumsOk (periods .h) (periods .v) (now hs) (now vs) ⌝ }
     requires { ⌜ scan .count < 8 ⌝ }
@@ -96,9 +96,9 @@ pub fn fold_transform(scan: SoftScan, hs: &[i64], vs: &[i64], periods: Periods) 
     let listed = scan.count;
     let two = two_best(hs, vs, periods);
     let winner = candidate_of(hs, vs, two.winner, listed, periods);
-    let runner = candidate_of(hs, vs, two.runner, listed, periods);
+    let second = candidate_of(hs, vs, two.second, listed, periods);
     let one = offer(scan, winner);
-    let both = offer(one, runner);
+    let both = offer(one, second);
     let first = both.first;
     let second = both.second;
     let count = listed + 1;

@@ -6,13 +6,13 @@ ghost use Rattle.board.specs.Hits.{edges, tables};
 ghost use Rattle.sums.specs.Sums.{likelihoods};
 ghost use Rattle.margin.specs.Scan.{softFolded};
 ghost use Rattle.soft.specs.Select.{SoftReady, SoftScanned};
-ghost use Rattle.soft.specs.SelectLaws.{roomSums, RoomReady};
+ghost use Rattle.soft.specs.SelectLaws.{roomSums, SumsRoomReady};
 use laws::Periods;
 use margin::slots::SoftScan;
 
 // One transform's sums, where they were built in the room, folded into the scan.
 fn fold_room(scan: SoftScan, sums: &[i64], periods: Periods) -> SoftScan
-    requires { ⌜ RoomReady (periods .h) (periods .v) (now sums) ⌝ }
+    requires { ⌜ SumsRoomReady (periods .h) (periods .v) (now sums) ⌝ }
     requires { ⌜ scan .count < 8 ⌝ }
     ensures { λ r. ⌜ r ≡ softFolded (periods .h) (periods .v) (roomSums (periods .h) (periods .v) (now (sums .entry))) scan ⌝ }
 {

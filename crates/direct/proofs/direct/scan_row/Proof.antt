@@ -9,7 +9,7 @@ use lib.ListN.{length}
 use Rattle.best.specs.CellTables.{cells, cAt, wAt}
 use Rattle.scan.specs.Scan.{takes}
 use Rattle.scan.specs.ScanLaws.{behind-left, offered-left}
-use Rattle.direct.specs.Direct.{candidate, tried}
+use Rattle.direct.specs.Direct.{hardCandidate, tried}
 use Rattle.direct.specs.DirectLaws.{RowTurn, row-start, row-next, row-turn}
 use Rattle.scan.specs.Lead.{leadOf, aheadOf, ahead-takes, below-behind}
 use Rattle.scan.specs.declared.record.Lead.{Lead}
@@ -102,7 +102,7 @@ loop-again c =
     let v = a .va * a .periods .v + t .vb in
     let n : ℕ = cAt (a .hc .now) h + cAt (a .vc .now) v in
     let w : Float = add binary32 (wAt (a .hw .now) h) (wAt (a .vw .now) v) in
-    let k : Candidate = candidate n w (a .asked .confidence) (a .row) (t .col) (a .listed) in
+    let k : Candidate = hardCandidate n w (a .asked .confidence) (a .row) (t .col) (a .listed) in
     let l : t .col < 3 * a .periods .v = omega (arith, c .before .before .before .before .before .before .before .before .before .before .before .before .before .before .pre .0 .2 .vcs) in
     let next = row-next _ _ _ _ _ _ _ _ _ (inv .0) l (c .before .next-class .ensures) (c .next-class2 .ensures) in
     ⊎-elim

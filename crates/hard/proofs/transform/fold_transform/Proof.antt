@@ -1,5 +1,5 @@
 use mathlib.Core.Path.{_∙_}
-use Rattle.hard.specs.TransformLaws.{h-table, v-table, said-pair, said-ok, next-small, folded}
+use Rattle.hard.specs.TransformLaws.{h-table, v-table, said-pair, said-ok, within-small, folded}
 use native.Mathlib.Omega.{arith}
 use Rattle.hard.proofs.transform.fold_transform.Statement.{statement}
 use Rattle.hard.proofs.transform.fold_transform.Tie as tie
@@ -16,14 +16,14 @@ best-origin-requires c κs = (c .before .before .before .before .before .before 
 add-hits : tie.Need-add-hits
 add-hits c = record { fits = omega (arith, said-ok _ _ (c .before .before .before .before .before .before .before .before .before .pre .0 .0) (c .before .before .before .before .before .before .before .before .before .pre .0 .1) _ _ (c .before .before .before .before .before .before .before .before .before .pre .0 .2) _ _ _ (c .before .before .before .before .lex-max .ensures) (c .before .before .before .lex-max2 .ensures) (c .before .before .best-origin .ensures) .best .top) }
 
-next-origin-requires : tie.Need-next-origin-requires
-next-origin-requires c κs = (c .before .before .before .before .before .before .before .before .before .pre .0 .0, c .before .before .before .before .before .before .before .before .before .pre .0 .1, said-ok _ _ (c .before .before .before .before .before .before .before .before .before .pre .0 .0) (c .before .before .before .before .before .before .before .before .before .pre .0 .1) _ _ (c .before .before .before .before .before .before .before .before .before .pre .0 .2) _ _ _ (c .before .before .before .before .lex-max .ensures) (c .before .before .before .lex-max2 .ensures) (c .before .before .best-origin .ensures) .best)
+runner-up-within-requires : tie.Need-runner-up-within-requires
+runner-up-within-requires c κs = (c .before .before .before .before .before .before .before .before .before .pre .0 .0, c .before .before .before .before .before .before .before .before .before .pre .0 .1, said-ok _ _ (c .before .before .before .before .before .before .before .before .before .pre .0 .0) (c .before .before .before .before .before .before .before .before .before .pre .0 .1) _ _ (c .before .before .before .before .before .before .before .before .before .pre .0 .2) _ _ _ (c .before .before .before .before .lex-max .ensures) (c .before .before .before .lex-max2 .ensures) (c .before .before .best-origin .ensures) .best)
 
 summary-requires : tie.Need-summary-requires
 summary-requires c κs =
     let s = c .before .before .before .before .before .before .before .before .before .before .pre .0 in
     let k = said-ok _ _ (s .0) (s .1) _ _ (s .2) _ _ _ (c .before .before .before .before .before .lex-max .ensures) (c .before .before .before .before .lex-max2 .ensures) (c .before .before .before .best-origin .ensures) in
-    (s .1, k .first-small, next-small _ _ (s .0) (s .1) _ _ _ _ _ k (c .next-origin .ensures))
+    (s .1, k .first-small, within-small _ _ (s .0) (s .1) _ _ _ _ _ k (c .runner-up-within .ensures))
 
 offer-transform-requires : tie.Need-offer-transform-requires
 offer-transform-requires c κs =
@@ -35,7 +35,7 @@ push-requires : tie.Need-push-requires
 push-requires c κs = c .before .before .before .before .before .before .before .before .before .before .before .before .pre .1
 
 returns : tie.Need-returns
-returns c = c .push .ensures ∙ folded _ _ _ _ _ _ _ _ _ _ _ _ _ _ (c .before .before .before .before .before .before .before .before .lex-max .ensures) (c .before .before .before .before .before .before .before .lex-max2 .ensures) (c .before .before .before .before .before .before .best-origin .ensures) (c .before .before .before .next-origin .ensures) (c .before .before .summary .ensures) (c .before .offer-transform .ensures)
+returns c = c .push .ensures ∙ folded _ _ _ _ _ _ _ _ _ _ _ _ _ _ (c .before .before .before .before .before .before .before .before .lex-max .ensures) (c .before .before .before .before .before .before .before .lex-max2 .ensures) (c .before .before .before .before .before .before .best-origin .ensures) (c .before .before .before .runner-up-within .ensures) (c .before .before .summary .ensures) (c .before .offer-transform .ensures)
 
 pub fold-transform-spec : {M : Type 1} → statement M
 fold-transform-spec =
@@ -45,7 +45,7 @@ fold-transform-spec =
     lex-max-requires-2
     best-origin-requires
     add-hits
-    next-origin-requires
+    runner-up-within-requires
     summary-requires
     offer-transform-requires
     push-requires

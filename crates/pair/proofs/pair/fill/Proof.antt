@@ -15,13 +15,13 @@ returns : tie.Need-returns
 returns c =
     let k = c .before in
     let a = k .before .before .before .args in
-    subst (λ (x : ℕ). k .key-of .result ≡ filled (a .none) (a .found) (a .level && not (eqb x (a .winner))) x) (k .key-of .ensures) (simp (eq-eqb _ _ (k .before .before .if1 .taken), k .before .if2 .taken, ne-eqb _ _ (c .if3 .taken)))
+    subst (λ (x : ℕ). k .key-of .result ≡ filled (a .none) (a .found) (a .tied && not (eqb x (a .winner))) x) (k .key-of .ensures) (simp (eq-eqb _ _ (k .before .before .if1 .taken), k .before .if2 .taken, ne-eqb _ _ (c .if3 .taken)))
 
 returns-2 : tie.Need-returns-2
 returns-2 c =
     let k = c .before in
     let a = k .before .before .before .args in
-    subst (λ (x : ℕ). a .found ≡ filled (a .none) (a .found) (a .level && not (eqb x (a .winner))) x) (k .key-of .ensures) (simp (eq-eqb _ _ (k .before .before .if1 .taken), k .before .if2 .taken, eq-eqb _ _ (c .if3 .left)))
+    subst (λ (x : ℕ). a .found ≡ filled (a .none) (a .found) (a .tied && not (eqb x (a .winner))) x) (k .key-of .ensures) (simp (eq-eqb _ _ (k .before .before .if1 .taken), k .before .if2 .taken, eq-eqb _ _ (c .if3 .left)))
 
 returns-3 : tie.Need-returns-3
 returns-3 c = simp (eq-eqb _ _ (c .before .if1 .taken), c .if2 .left)

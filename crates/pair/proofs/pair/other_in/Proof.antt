@@ -7,8 +7,8 @@ use mir.Syntax.{w64}
 use mir.Val.{toZ, ofZ}
 use mir.Facts.{toZ-ofZ}
 use Rattle.laws.specs.Grid.{origins}
-use Rattle.hard.specs.TransformLaws.{none-small}
-use Rattle.pair.specs.Level.{sAt, level}
+use Rattle.grid.specs.BoardGrid.{none-small}
+use Rattle.pair.specs.Level.{sAt, tiedSum}
 use Rattle.pair.specs.Pair.{otherIn}
 use Rattle.pair.specs.PairLaws.{other-step, other-kept}
 use Rattle.pair.specs.SumsLaws.{read-eq}
@@ -16,7 +16,7 @@ use Rattle.pair.proofs.pair.other_in.Statement.{statement}
 use Rattle.pair.proofs.pair.other_in.Tie as tie
 
 abbrev Inv-loop : tie.InvT-loop
-Inv-loop sums top h winner start periods none found₀ v₀ found v = (v ≤ length sums) × (found ≡ otherIn (origins (periods .h) (periods .v)) (level sums (toZ w64 top)) h winner start v)
+Inv-loop sums top h winner start periods none found₀ v₀ found v = (v ≤ length sums) × (found ≡ otherIn (origins (periods .h) (periods .v)) (tiedSum sums (toZ w64 top)) h winner start v)
 
 abbrev μ-loop : tie.MeasureT-loop
 μ-loop sums top h winner start periods none found₀ v₀ found v = length sums - v
@@ -37,14 +37,14 @@ loop-holds : tie.Need-loop-holds Inv-loop μ-loop
 unfolding otherIn
 loop-holds c = (search needs, refl)
 
-mul-is-level : tie.Need-mul-is-level Inv-loop μ-loop
-mul-is-level c = search needs
+mul-is-tied : tie.Need-mul-is-tied Inv-loop μ-loop
+mul-is-tied c = search needs
 
-shared-slice-copy-out-is-level : tie.Need-shared-slice-copy-out-is-level Inv-loop μ-loop
-shared-slice-copy-out-is-level c = search needs
+shared-slice-copy-out-is-tied : tie.Need-shared-slice-copy-out-is-tied Inv-loop μ-loop
+shared-slice-copy-out-is-tied c = search needs
 
-is-level-requires : tie.Need-is-level-requires Inv-loop μ-loop
-is-level-requires c κs = search needs
+is-tied-requires : tie.Need-is-tied-requires Inv-loop μ-loop
+is-tied-requires c κs = search needs
 
 fill-requires : tie.Need-fill-requires Inv-loop μ-loop
 fill-requires c κs = search needs
@@ -58,7 +58,7 @@ loop-less c = search needs
 loop-again : tie.Need-loop-again Inv-loop μ-loop
 loop-again c =
     let at = c .before .before .before .before in
-    let said = read-eq (sAt (at .before .before .before .before .args .sums .now) (at .loop .v)) (toZ w64 (ofZ w64 (at .before .before .before .before .args .top))) (c .before .is-level .result) (c .before .before .is-level-arg .given) (c .before .is-level .ensures) in
+    let said = read-eq (sAt (at .before .before .before .before .args .sums .now) (at .loop .v)) (toZ w64 (ofZ w64 (at .before .before .before .before .args .top))) (c .before .is-tied .result) (c .before .before .is-tied-arg .given) (c .before .is-tied .ensures) in
     (omega arith, c .fill .ensures ∙ rw said (other-step _ _ _ _ _ _ _ (at .loop .inv .1)))
 
 returns-2 : tie.Need-returns-2 Inv-loop μ-loop
@@ -77,9 +77,9 @@ other-in-spec =
     mul-none-3
     returns
     loop-holds
-    mul-is-level
-    shared-slice-copy-out-is-level
-    is-level-requires
+    mul-is-tied
+    shared-slice-copy-out-is-tied
+    is-tied-requires
     fill-requires
     add-v
     loop-less

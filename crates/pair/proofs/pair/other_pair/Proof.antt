@@ -8,8 +8,8 @@ use mir.Syntax.{w64}
 use mir.Val.{toZ, ofZ}
 use mir.Facts.{toZ-ofZ}
 use Rattle.laws.specs.Grid.{origins}
-use Rattle.hard.specs.TransformLaws.{none-small}
-use Rattle.pair.specs.Level.{sAt, level}
+use Rattle.grid.specs.BoardGrid.{none-small}
+use Rattle.pair.specs.Level.{sAt, tiedSum}
 use Rattle.pair.specs.Pair.{otherPair}
 use Rattle.pair.specs.PairLaws.{pair-no, pair-yes}
 use Rattle.pair.specs.SumsLaws.{read-eq}
@@ -17,7 +17,7 @@ use Rattle.pair.proofs.pair.other_pair.Statement.{statement}
 use Rattle.pair.proofs.pair.other_pair.Tie as tie
 
 abbrev Inv-loop : tie.InvT-loop
-Inv-loop hs ht vs vt winner periods found₀ h₀ found h = (h ≤ length hs) × (found ≡ otherPair (origins (periods .h) (periods .v)) (length vs) (level hs (toZ w64 ht)) (level vs (toZ w64 vt)) winner h)
+Inv-loop hs ht vs vt winner periods found₀ h₀ found h = (h ≤ length hs) × (found ≡ otherPair (origins (periods .h) (periods .v)) (length vs) (tiedSum hs (toZ w64 ht)) (tiedSum vs (toZ w64 vt)) winner h)
 
 abbrev μ-loop : tie.MeasureT-loop
 μ-loop hs ht vs vt winner periods found₀ h₀ found h = length hs - h
@@ -35,14 +35,14 @@ loop-holds : tie.Need-loop-holds Inv-loop μ-loop
 unfolding otherPair
 loop-holds c = (search needs, refl)
 
-mul-is-level : tie.Need-mul-is-level Inv-loop μ-loop
-mul-is-level c = search needs
+mul-is-tied : tie.Need-mul-is-tied Inv-loop μ-loop
+mul-is-tied c = search needs
 
-shared-slice-copy-out-is-level : tie.Need-shared-slice-copy-out-is-level Inv-loop μ-loop
-shared-slice-copy-out-is-level c = search needs
+shared-slice-copy-out-is-tied : tie.Need-shared-slice-copy-out-is-tied Inv-loop μ-loop
+shared-slice-copy-out-is-tied c = search needs
 
-is-level-requires : tie.Need-is-level-requires Inv-loop μ-loop
-is-level-requires c κs = search needs
+is-tied-requires : tie.Need-is-tied-requires Inv-loop μ-loop
+is-tied-requires c κs = search needs
 
 other-in-requires : tie.Need-other-in-requires Inv-loop μ-loop
 other-in-requires c κs = search needs
@@ -56,7 +56,7 @@ loop-less c = search needs
 loop-again : tie.Need-loop-again Inv-loop μ-loop
 loop-again c =
     let at = c .before .before .before .before in
-    let said = read-eq (sAt (at .before .before .before .args .hs .now) (at .loop .h)) (toZ w64 (ofZ w64 (at .before .before .before .args .ht))) (c .before .is-level .result) (c .before .before .is-level-arg .given) (c .before .is-level .ensures) in
+    let said = read-eq (sAt (at .before .before .before .args .hs .now) (at .loop .h)) (toZ w64 (ofZ w64 (at .before .before .before .args .ht))) (c .before .is-tied .result) (c .before .before .is-tied-arg .given) (c .before .is-tied .ensures) in
     ⊎-elim
     (λ w. (omega arith, w .2 ∙ w .1 .ensures ∙ pair-yes _ _ _ _ _ _ _ (at .loop .inv .1) (sym said ∙ w .0 .taken)))
     (λ w. (omega arith, w .1 ∙ pair-no _ _ _ _ _ _ _ (at .loop .inv .1) (sym said ∙ w .0 .left)))
@@ -77,9 +77,9 @@ other-pair-spec =
     mul-found-2
     mul-found-3
     loop-holds
-    mul-is-level
-    shared-slice-copy-out-is-level
-    is-level-requires
+    mul-is-tied
+    shared-slice-copy-out-is-tied
+    is-tied-requires
     other-in-requires
     add-h
     loop-less

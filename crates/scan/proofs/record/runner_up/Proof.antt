@@ -44,7 +44,7 @@ loop-again c = (omega arith, rw (add-one, ← c .before .before .before .loop .i
 
 returns : tie.Need-returns Inv-loop μ-loop
 returns c =
-    let e : c .before .loop .i ≡ c .before .before .before .args .t1 .count = omega arith in
+    let e : c .before .loop .i ≡ c .before .before .before .before .args .t1 .count = omega arith in
     rw (← e) (c .before .loop .inv .1)
 
 pub runner-up-spec : {M : Type 1} → statement M

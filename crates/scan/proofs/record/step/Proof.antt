@@ -7,10 +7,10 @@ returns : tie.Need-returns
 returns c = search needs
 
 returns-2 : tie.Need-returns-2
-returns-2 c = simp (c .before .before .before .if1 .left, lt-ltb _ _ (c .if2 .taken))
+returns-2 c = simp (c .before .before .before .before .if1 .left, lt-ltb _ _ (c .if2 .taken))
 
 returns-3 : tie.Need-returns-3
-returns-3 c = simp (c .before .before .before .if1 .left, le-ltb _ _ (c .if2 .left))
+returns-3 c = simp (c .before .before .before .before .if1 .left, le-ltb _ _ (c .if2 .left))
 
 pub step-spec : {M : Type 1} → statement M
 step-spec = tie.close (tie.spec returns returns-2 returns-3)

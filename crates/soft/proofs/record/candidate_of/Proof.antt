@@ -4,7 +4,7 @@ use native.Mathlib.Omega.{arith}
 use borrow.Author.Needs.{needs}
 use native.Mathlib.Nat.{div-le-self, mod-le}
 use Rattle.laws.specs.Grid.{origins}
-use Rattle.hard.specs.TransformLaws.{grid}
+use Rattle.grid.specs.BoardGrid.{grid}
 use Rattle.pair.specs.Level.{sAt}
 use Rattle.pair.specs.Sums.{sums}
 use Rattle.pair.specs.SumsLaws.{sum-fits, sum-small, sum-read}

@@ -11,13 +11,13 @@ use Rattle.laws.specs.Counting.{count-yes, count-no}
 use Rattle.laws.specs.Best.{above}
 use Rattle.laws.specs.Second.{second, second-skip, second-new, second-low}
 use Rattle.best.specs.CellTables.{cAt, wAt}
-use Rattle.best.specs.Lex.{level, optimal, secondCell}
+use Rattle.best.specs.Lex.{tiedCount, optimal, lexSecond}
 use native.Mathlib.Omega.{arith}
-use Rattle.best.proofs.lex.around.Statement.{statement}
-use Rattle.best.proofs.lex.around.Tie as tie
+use Rattle.best.proofs.lex.lex_around.Statement.{statement}
+use Rattle.best.proofs.lex.lex_around.Tie as tie
 
 abbrev Inv-loop : tie.InvT-loop
-Inv-loop counts weights cell top heavy m₀ n₀ k₀ u₀ i₀ m n k u i = ((i ≤ length counts) × (m ≤ i) × (n ≤ i)) × (m ≡ count i (level counts top)) × (n ≡ count i (optimal counts weights top heavy)) × (k < length counts) × (k ≡ second (above (cAt counts)) cell i) × (u ≡ cAt counts k)
+Inv-loop counts weights cell top heavy m₀ n₀ k₀ u₀ i₀ m n k u i = ((i ≤ length counts) × (m ≤ i) × (n ≤ i)) × (m ≡ count i (tiedCount counts top)) × (n ≡ count i (optimal counts weights top heavy)) × (k < length counts) × (k ≡ second (above (cAt counts)) cell i) × (u ≡ cAt counts k)
 
 abbrev μ-loop : tie.MeasureT-loop
 μ-loop counts weights cell top heavy m₀ n₀ k₀ u₀ i₀ m n k u i = length counts - i
@@ -54,8 +54,8 @@ mul-c c = search needs
 shared-slice-read-c : tie.Need-shared-slice-read-c Inv-loop μ-loop
 shared-slice-read-c c = search needs
 
-add-level : tie.Need-add-level Inv-loop μ-loop
-add-level c = search needs
+add-tied : tie.Need-add-tied Inv-loop μ-loop
+add-tied c = search needs
 
 mul-if4 : tie.Need-mul-if4 Inv-loop μ-loop
 mul-if4 c = search needs
@@ -72,14 +72,14 @@ add-i c = search needs
 loop-less : tie.Need-loop-less Inv-loop μ-loop
 loop-less c = search needs
 
--- the numbers of level and of optimal cells after a cell that was asked
+-- the numbers of tied and of optimal cells after a cell that was asked
 counted : (c : tie.Joined3 Inv-loop μ-loop)
     → let l = c .before .before .before .before .loop in
     let a = c .before .before .before .before .before .before .before .before .before .before .args in
     let cs = a .counts .now in
     let ws = a .weights .now in
     let top = cAt cs (a .cell) in
-    ((c .if3 .level ≤ l .i + 1) × (c .if3 .optimal ≤ l .i + 1)) × (c .if3 .level ≡ count (l .i + 1) (level cs top)) × (c .if3 .optimal ≡ count (l .i + 1) (optimal cs ws top (wAt ws (a .cell))))
+    ((c .if3 .tied ≤ l .i + 1) × (c .if3 .optimal ≤ l .i + 1)) × (c .if3 .tied ≡ count (l .i + 1) (tiedCount cs top)) × (c .if3 .optimal ≡ count (l .i + 1) (optimal cs ws top (wAt ws (a .cell))))
 counted c =
     let inv = c .before .before .before .before .loop .inv in
     ⊎-elim
@@ -119,14 +119,14 @@ returns c =
     let cs = a .counts .now in
     let ws = a .weights .now in
     let e : l .i ≡ length cs = omega arith in
-    let m : l .level ≡ count (length cs) (level cs (cAt cs (a .cell))) = rw (← e) (l .inv .1) in
+    let m : l .tied ≡ count (length cs) (tiedCount cs (cAt cs (a .cell))) = rw (← e) (l .inv .1) in
     let n : l .optimal ≡ count (length cs) (optimal cs ws (cAt cs (a .cell)) (wAt ws (a .cell))) = rw (← e) (l .inv .2) in
-    let k : l .second ≡ secondCell cs (a .cell) = rw (← e) (l .inv .4) in
-    let u : l .under ≡ cAt cs (secondCell cs (a .cell)) = l .inv .5 ∙ ap (cAt cs) k in
-    λ j. record { cell = a .cell; count = cAt cs (a .cell); weight = wAt ws (a .cell); level = m j; optimal = n j; second = k j; under = u j }
+    let k : l .second ≡ lexSecond cs (a .cell) = rw (← e) (l .inv .4) in
+    let u : l .under ≡ cAt cs (lexSecond cs (a .cell)) = l .inv .5 ∙ ap (cAt cs) k in
+    λ j. record { cell = a .cell; count = cAt cs (a .cell); weight = wAt ws (a .cell); tied = m j; optimal = n j; second = k j; under = u j }
 
-pub around-spec : {M : Type 1} → statement M
-around-spec =
+pub lex-around-spec : {M : Type 1} → statement M
+lex-around-spec =
     tie.close
     (tie.spec
     Inv-loop
@@ -140,7 +140,7 @@ around-spec =
     loop-holds
     mul-c
     shared-slice-read-c
-    add-level
+    add-tied
     mul-if4
     shared-slice-read-if4
     add-optimal

@@ -11,14 +11,14 @@ use mir.Facts.{toZ-ofZ}
 use Rattle.laws.specs.Grid.{origins}
 use Rattle.grid.specs.RowMajor.{lowest}
 use Rattle.grid.specs.RowMajorLaws.{lowest-no, lowest-new, lowest-old}
-use Rattle.pair.specs.Level.{sAt, level}
+use Rattle.pair.specs.Level.{sAt, tiedSum}
 use Rattle.pair.specs.SumsLaws.{read-eq}
 use Rattle.grid.specs.RowFloor.{floor-stays}
-use Rattle.pair.proofs.pair.lowest_key.Statement.{statement}
-use Rattle.pair.proofs.pair.lowest_key.Tie as tie
+use Rattle.pair.proofs.pair.lowest_tied_key.Statement.{statement}
+use Rattle.pair.proofs.pair.lowest_tied_key.Tie as tie
 
 abbrev Inv-loop : tie.InvT-loop
-Inv-loop sums top h start periods best₀ v₀ best v = (v ≤ length sums) × (best ≡ lowest (level sums (toZ w64 top)) (origins (periods .h) (periods .v) .key h) start v)
+Inv-loop sums top h start periods best₀ v₀ best v = (v ≤ length sums) × (best ≡ lowest (tiedSum sums (toZ w64 top)) (origins (periods .h) (periods .v) .key h) start v)
 
 abbrev μ-loop : tie.MeasureT-loop
 μ-loop sums top h start periods best₀ v₀ best v = length sums - v
@@ -36,14 +36,14 @@ loop-holds : tie.Need-loop-holds Inv-loop μ-loop
 unfolding lowest
 loop-holds c = (search needs, refl)
 
-mul-is-level : tie.Need-mul-is-level Inv-loop μ-loop
-mul-is-level c = search needs
+mul-is-tied : tie.Need-mul-is-tied Inv-loop μ-loop
+mul-is-tied c = search needs
 
-shared-slice-copy-out-is-level : tie.Need-shared-slice-copy-out-is-level Inv-loop μ-loop
-shared-slice-copy-out-is-level c = search needs
+shared-slice-copy-out-is-tied : tie.Need-shared-slice-copy-out-is-tied Inv-loop μ-loop
+shared-slice-copy-out-is-tied c = search needs
 
-is-level-requires : tie.Need-is-level-requires Inv-loop μ-loop
-is-level-requires c κs = search needs
+is-tied-requires : tie.Need-is-tied-requires Inv-loop μ-loop
+is-tied-requires c κs = search needs
 
 key-of-requires : tie.Need-key-of-requires Inv-loop μ-loop
 key-of-requires c κs = search needs
@@ -57,7 +57,7 @@ loop-less c = search needs
 loop-again : tie.Need-loop-again Inv-loop μ-loop
 loop-again c =
     let at = c .before .before .before .before in
-    let said = read-eq (sAt (at .before .before .before .args .sums .now) (at .loop .v)) (toZ w64 (ofZ w64 (at .before .before .before .args .top))) (c .before .is-level .result) (c .before .before .is-level-arg .given) (c .before .is-level .ensures) in
+    let said = read-eq (sAt (at .before .before .before .args .sums .now) (at .loop .v)) (toZ w64 (ofZ w64 (at .before .before .before .args .top))) (c .before .is-tied .result) (c .before .before .is-tied-arg .given) (c .before .is-tied .ensures) in
     ⊎-elim
     (λ w. (omega arith, w .3 ∙ w .1 .ensures ∙ lowest-new _ _ _ _ _ (at .loop .inv .1) (sym said ∙ w .0 .taken) (rw (w .1 .ensures) at (w .2 .taken))))
     (⊎-elim
@@ -70,8 +70,8 @@ returns-2 c =
     let e : c .before .loop .v ≡ length (c .before .before .before .before .args .sums .now) = omega arith in
     rw (← e) (rw (toZ-ofZ (c .before .before .before .before .fits .top)) at (c .before .loop .inv .1))
 
-pub lowest-key-spec : {M : Type 1} → statement M
-lowest-key-spec =
+pub lowest-tied-key-spec : {M : Type 1} → statement M
+lowest-tied-key-spec =
     tie.close
     (tie.spec
     Inv-loop
@@ -80,9 +80,9 @@ lowest-key-spec =
     mul-if1-2
     returns
     loop-holds
-    mul-is-level
-    shared-slice-copy-out-is-level
-    is-level-requires
+    mul-is-tied
+    shared-slice-copy-out-is-tied
+    is-tied-requires
     key-of-requires
     add-v
     loop-less

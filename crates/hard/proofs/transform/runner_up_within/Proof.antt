@@ -1,19 +1,19 @@
 use native.Mathlib.Nat.{mul-le-mul}
 use borrow.Author.Tests.{lt-ltb, le-ltb}
-use Rattle.hard.specs.Transform.{nextOrigin}
+use Rattle.hard.specs.Transform.{runnerUpWithin}
 use native.Mathlib.Omega.{arith}
 use borrow.Author.Needs.{needs}
-use Rattle.hard.proofs.transform.next_origin.Statement.{statement}
-use Rattle.hard.proofs.transform.next_origin.Tie as tie
+use Rattle.hard.proofs.transform.runner_up_within.Statement.{statement}
+use Rattle.hard.proofs.transform.runner_up_within.Tie as tie
 
 mul-if1 : tie.Need-mul-if1
-mul-if1 c = record { fits = omega (arith, mul-le-mul (c .before .before .pre .2 .h-level) (c .before .before .pre .2 .v-level)) }
+mul-if1 c = record { fits = omega (arith, mul-le-mul (c .before .before .pre .2 .h-tied) (c .before .before .pre .2 .v-tied)) }
 
 add-hits : tie.Need-add-hits
 add-hits c = search needs
 
 returns : tie.Need-returns
-unfolding nextOrigin
+unfolding runnerUpWithin
 returns c = simp (lt-ltb _ _ (c .before .before .if1 .taken))
 
 add-across : tie.Need-add-across
@@ -26,18 +26,18 @@ key-of-requires : tie.Need-key-of-requires
 key-of-requires c κs = search needs
 
 returns-2 : tie.Need-returns-2
-unfolding nextOrigin
+unfolding runnerUpWithin
 returns-2 c = simp (le-ltb _ _ (c .before .before .before .before .before .before .if1 .left), lt-ltb _ _ (c .before .if2 .taken), c .key-of .ensures)
 
 key-of-requires-2 : tie.Need-key-of-requires-2
 key-of-requires-2 c κs = search needs
 
 returns-3 : tie.Need-returns-3
-unfolding nextOrigin
+unfolding runnerUpWithin
 returns-3 c = simp (le-ltb _ _ (c .before .before .before .before .before .before .if1 .left), le-ltb _ _ (c .before .if2 .left), c .key-of2 .ensures)
 
-pub next-origin-spec : {M : Type 1} → statement M
-next-origin-spec =
+pub runner-up-within-spec : {M : Type 1} → statement M
+runner-up-within-spec =
     tie.close
     (tie.spec
     mul-if1

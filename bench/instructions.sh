@@ -10,8 +10,12 @@ plugin=target/bench/instructions.so
 [ -x "$program" ] || { echo "build it first: see docs/PERFORMANCE.md"; exit 1; }
 cc -O2 -Wall -Wextra -shared -fPIC bench/instructions.c -o "$plugin"
 
+room=''
+trap '[ -z "$room" ] || rm -rf "$room"' EXIT
+trap 'exit 129' HUP
+trap 'exit 130' INT
+trap 'exit 143' TERM
 room=$(mktemp -d)
-trap 'rm -rf "$room"' EXIT
 
 # NAME SIDE: $room/calls gets a line for each function, with what one call of the case executes in it. A run that counts nothing ends this script.
 count() {

@@ -2,3 +2,4 @@
 pub mod words; // numbers in words
 pub mod telling; // the answer for people and for programs
 pub mod picture; // the board with the square that the camera faces
+pub mod map; // the picture's file

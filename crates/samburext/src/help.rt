@@ -24,7 +24,17 @@ fn put_files(page: &mut [u8; 32768], at: usize) -> usize {
         \n\
         VIEW has one edge a line: h or v, row, column, bit, confidence; for soft decode the log likelihoods\n\
         of a match and of a mismatch follow. For example:\n\
-        \n    # corner of the bench, camera 2\n    transforms 0 1 2 3    # 1 to 8 numbers; 0 1 2 3 if left out\n    limit 0.2             # largest error rate; 0.3 if left out\n    margin 0.02           # soft margin; 0.02 if left out\n    logical\n    h 0 0 1 0.93\n    v 0 0 0 0.88\n    physical              # one list serves for both if only one is given\n    h 0 0 1 0.93 -0.05 -3.2\n    v 0 0 0 0.88 -0.10 -2.6\n\
+        \n\
+        \x20   # corner of the bench, camera 2\n\
+        \x20   transforms 0 1 2 3    # 1 to 8 numbers; 0 1 2 3 if left out\n\
+        \x20   limit 0.2             # largest error rate; 0.3 if left out\n\
+        \x20   margin 0.02           # soft margin; 0.02 if left out\n\
+        \x20   logical\n\
+        \x20   h 0 0 1 0.93\n\
+        \x20   v 0 0 0 0.88\n\
+        \x20   physical              # one list serves for both if only one is given\n\
+        \x20   h 0 0 1 0.93 -0.05 -3.2\n\
+        \x20   v 0 0 0 0.88 -0.10 -2.6\n\
         \n\
         A file has at most 1048576 bytes (a board 65536), a list at most 8192 edges.\n",
     )
@@ -37,11 +47,16 @@ fn put_meanings(page: &mut [u8; 32768], at: usize) -> usize {
         at,
         b"\n\
         The answer is the square of the board (row and column from 0 to 500) on which row 0, column 0 of the\n\
-        view lies, and how the board appears in the view. Rows grow downwards, columns to the right.\n  0 as printed                          4 mirrored, left and right swapped\n  1 turned a quarter counter-clockwise  5 mirrored, rows and columns swapped\n  2 turned upside down                  6 mirrored, top and bottom swapped\n  3 turned a quarter clockwise          7 mirrored, rows and columns swapped, upside down\n\
+        view lies, and how the board appears in the view. Rows grow downwards, columns to the right.\n\
+        \x20 0 as printed                          4 mirrored, left and right swapped\n\
+        \x20 1 turned a quarter counter-clockwise  5 mirrored, rows and columns swapped\n\
+        \x20 2 turned upside down                  6 mirrored, top and bottom swapped\n\
+        \x20 3 turned a quarter clockwise          7 mirrored, rows and columns swapped, upside down\n\
         A refusal has a number and no square.\n\
         \n\
         --plain    one line of key=value, for programs\n\
-        --map FILE.svg writes a picture of the board; a refusal has none, and one of that name from an\n           earlier run is removed; any other file of that name is left as it is\n\
+        --map FILE.svg writes a picture of the board; a refusal has none, and one of that name from an\n\
+        \x20          earlier run is removed; any other file of that name is left as it is\n\
         \n\
         Exit status: 0 found, 1 refused, 2 bad use or a file that cannot be read.\n",
     )

@@ -1,14 +1,14 @@
 // The command: which square of a board a camera faces. A program has no exit status; the script `samburext` at the root makes one of the first word written.
 mod decode; // the decoder called on what the files gave
 mod args; // what the command was asked for
-mod map; // the picture's file
 mod help; // what the command says of itself
 
 use answer::Answer;
+use answertext::map;
 use answertext::telling;
 use args::Options;
 use console::page;
-use viewtext::files;
+use viewfiles::files;
 use viewtext::view_file;
 use viewtext::view_file::View;
 
@@ -115,10 +115,10 @@ fn face<'a>(o: Options, h: &'a [u8; 167], v: &'a [u8; 167]) {
     conclude(o, a, view);
 }
 
-// The board, then the view. Where an earlier picture cannot be removed, or the file of that name is none, no answer is given.
+// The board, then the view. Where a picture cannot take its place, no answer is given.
 fn run(o: Options) {
     if o.map != 0 {
-        if !map::forget(o.map) {
+        if !map::is_ready(o.map) {
             give_up(o);
             return;
         }

@@ -1,8 +1,7 @@
-// Views and boards as text: their files, lines, words and decimals, and what is wrong with them. It needs no decoder.
+// Views and boards as text: their lines, words and decimals, and what is wrong with them. It needs no decoder.
 pub mod text; // words and lines
 pub mod decimal; // numbers as people write them
-pub mod fault; // what a file should have had
+pub mod fault; // what a file should have had, by number
 pub mod edge; // one edge of a view
 pub mod view_file; // a view's lists and settings
 pub mod board_file; // a board's tables
-pub mod files; // the board and the view, read from their files

@@ -1,7 +1,9 @@
 // The words and lines of a text file. Words are parted by spaces and tabs; `#` starts a comment that runs to the end of its line. A carriage return counts as a
 // blank, so a file with CRLF reads like one without.
-ghost use Prim.Native.Nat.{_<_, _≤_};
-ghost use lib.ListN.{length};
+ghost use mathlib.Core.Path.{_≡_};
+ghost use Prim.Native.Nat.{_+_, _<_, _≤_};
+ghost use lib.Dec.{leb};
+ghost use lib.ListN.{getD, length};
 
 // Where a word begins and ends in its file. At the end of a line it is empty.
 pub struct Word {
@@ -20,7 +22,9 @@ fn ends_word(b: u8) -> bool {
 }
 
 // The first place from `at` on that holds no blank.
-fn after_blanks(s: &[u8], at: usize) -> usize {
+fn after_blanks(s: &[u8], at: usize) -> usize
+    ensures { λ r. ⌜ at ≤ r ⌝ }
+{
     let mut i = at;
     while i < s.len() {
         if !is_blank(s[i]) {
@@ -32,7 +36,9 @@ fn after_blanks(s: &[u8], at: usize) -> usize {
 }
 
 // The first place from `at` on that holds no part of a word.
-fn word_end(s: &[u8], at: usize) -> usize {
+fn word_end(s: &[u8], at: usize) -> usize
+    ensures { λ r. ⌜ at ≤ r ⌝ }
+{
     let mut i = at;
     while i < s.len() {
         if ends_word(s[i]) {
@@ -44,7 +50,9 @@ fn word_end(s: &[u8], at: usize) -> usize {
 }
 
 // The next word of the line, from `at` on; empty where the line or its text ends.
-pub fn next_word(s: &[u8], at: usize) -> Word {
+pub fn next_word(s: &[u8], at: usize) -> Word
+    ensures { λ r. ⌜ (at ≤ r .from) × (r .from ≤ r .to) ⌝ }
+{
     let from = after_blanks(s, at);
     Word {
         from,
@@ -53,7 +61,9 @@ pub fn next_word(s: &[u8], at: usize) -> Word {
 }
 
 // Whether a word is empty, so that its line has no more.
-pub fn none(w: Word) -> bool {
+pub fn none(w: Word) -> bool
+    ensures { λ r. ⌜ r ≡ leb (w .to) (w .from) ⌝ }
+{
     w.from >= w.to
 }
 
@@ -131,7 +141,9 @@ fn matches(s: &[u8], from: usize, name: &[u8]) -> bool {
 }
 
 // The byte that stands i places after `from`, or 0 past the end of the file.
-pub fn byte_after(s: &[u8], from: usize, i: usize) -> u8 {
+pub fn byte_after(s: &[u8], from: usize, i: usize) -> u8
+    ensures { λ r. ⌜ r ≡ getD (now (s .entry)) (from + i) 0 ⌝ }
+{
     if from <= s.len() {
         if i < s.len() - from {
             return s[from + i];

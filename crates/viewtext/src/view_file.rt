@@ -34,8 +34,8 @@ pub struct List {
     pub likely: u32,
 }
 
-// What the file says so far. Where it is at fault, `what` is the number of what was expected at the place; then nothing else counts. The extent of all edges is
-// counted from -1,000,000.
+// What the file says so far. Where it is at fault, `what` is the number of what was expected at the place; then nothing else counts. The first logical edge with
+// log likelihoods stands at `likely_at`. The extent of all edges is counted from -1,000,000.
 pub struct View {
     pub what: u32,
     pub place: usize,
@@ -190,7 +190,7 @@ fn with_edge(view: View, e: Edge, place: usize) -> View {
         return faulty(view, what, place);
     }
     let mut out = with_list_at(view, view.physical, longer(list, e.likely));
-    if e.likely && !view.physical {
+    if e.likely && !view.physical && list.edges == 0 {
         out.likely_at = place;
     }
     out.top = least(view.top, e.high);

@@ -1,8 +1,8 @@
 -- `put_bytes`: forty bytes are looked at.
 use Prim.Native.Nat.{_-_, _≤_}
 use borrow.Author.Needs.{needs}
-use Rattle.viewtext.proofs.fault.put_bytes.Statement.{statement}
-use Rattle.viewtext.proofs.fault.put_bytes.Tie as tie
+use Rattle.viewfiles.proofs.report.put_bytes.Statement.{statement}
+use Rattle.viewfiles.proofs.report.put_bytes.Tie as tie
 
 abbrev Inv-loop : tie.InvT-loop
 Inv-loop page₀ at s from n end₀ i₀ page end i = i ≤ 40

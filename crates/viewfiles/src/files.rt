@@ -1,12 +1,12 @@
 // The board and the view, read from their files. A file is read whole before any of it counts.
 ghost use mathlib.Core.Path.{_≡_};
 ghost use lib.ListN.{length};
-use crate::board_file::read_board;
-use crate::fault::report;
-use crate::fault::report_size;
-use crate::view_file::View;
-use crate::view_file::read_view;
-use crate::view_file::unread;
+use crate::report::report;
+use crate::report::report_size;
+use viewtext::board_file::read_board;
+use viewtext::view_file::View;
+use viewtext::view_file::read_view;
+use viewtext::view_file::unread;
 
 // The file that argument i names, opened for reading, or a number below 0 after a message.
 fn open(i: usize) -> i32 {

@@ -1,7 +1,7 @@
 // The picture's file: an earlier picture is removed first, and a new one is written beside its place and then renamed.
+use crate::picture::put_head;
+use crate::picture::put_picture;
 use answer::Decoded;
-use answertext::picture::put_head;
-use answertext::picture::put_picture;
 use console::page::blank;
 use console::page::front;
 use console::page::is_whole;
@@ -11,9 +11,9 @@ use console::page::write;
 use viewtext::text::is_name;
 use viewtext::view_file::View;
 
-// A page written to a new file beside the one that is named, which then takes its place; false after a message where that fails, and then nothing is left behind.
+// A page written to a new file beside the one that is named, which then takes its place; false after a message where that fails. The new file is made only where
+// none of its name is, so it belongs to this run alone; then nothing is left behind.
 fn save(name: &[u8], beside: &[u8], page: &[u8; 32768], n: usize) -> bool {
-    os::unlink(beside);
     let fd = os::create(beside);
     if fd < 0 {
         os::fail(beside);
@@ -29,17 +29,24 @@ fn save(name: &[u8], beside: &[u8], page: &[u8; 32768], n: usize) -> bool {
     true
 }
 
+// The name of the file beside the picture that argument i names.
+fn put_beside(names: &mut [u8; 32768], at: usize, i: usize) -> usize {
+    let n = put_argument(names, at, i);
+    put(names, n, b".part")
+}
+
 // The picture of a found answer in the file that argument i names; false after a message where it cannot be written.
-pub(crate) fn draw(i: usize, d: Decoded, view: View) -> bool {
+pub fn draw(i: usize, d: Decoded, view: View) -> bool {
     let mut page = blank();
     let n = put_picture(&mut page, 0, d, view);
+    let mut name = io::buffer();
+    let k = os::arg(i, &mut name);
     let mut names = blank();
-    let name = put_argument(&mut names, 0, i);
-    let beside = put(&mut names, name, b".part");
+    let beside = put_beside(&mut names, 0, i);
     if !is_whole(n) || !is_whole(beside) {
         return false;
     }
-    save(front(&names, name), front(&names, beside), &page, n)
+    save(&name[..k], front(&names, beside), &page, n)
 }
 
 // Whether an open file is empty or begins as every picture does.
@@ -63,9 +70,31 @@ fn report_other(i: usize) {
     write(libc::STDERR_FILENO, &page, n);
 }
 
+// Whether no file stands where the picture is written before it is renamed; a message where one does, which is left as it is.
+fn is_free(i: usize) -> bool {
+    let mut page = blank();
+    let n = put_beside(&mut page, 0, i);
+    let fd = os::open_read(front(&page, n));
+    if fd < 0 {
+        if os::errno() == libc::ENOENT {
+            return true;
+        }
+        os::fail(front(&page, n));
+        return false;
+    }
+    libc::close(fd);
+    let n = put(
+        &mut page,
+        n,
+        b": another run is writing this picture, or the file is not samburext's; it is left as it is. Remove it, or give --map another name\n",
+    );
+    write(libc::STDERR_FILENO, &page, n);
+    false
+}
+
 // The picture that an earlier run left in the file that argument i names is removed, so that a picture which is there belongs to this run;
 // false after a message where it is there and cannot be removed, or where the file is no such picture: a view or a board is never removed.
-pub(crate) fn forget(i: usize) -> bool {
+fn is_forgotten(i: usize) -> bool {
     let mut name = io::buffer();
     let n = os::arg(i, &mut name);
     let fd = os::open_read(&name[..n]);
@@ -87,4 +116,12 @@ pub(crate) fn forget(i: usize) -> bool {
     }
     os::fail(&name[..n]);
     false
+}
+
+// Whether the picture that argument i names can be drawn: the place beside it is free, and an earlier picture is removed. Where the place is taken, nothing is touched.
+pub fn is_ready(i: usize) -> bool {
+    if !is_free(i) {
+        return false;
+    }
+    is_forgotten(i)
 }

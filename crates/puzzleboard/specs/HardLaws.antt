@@ -83,7 +83,7 @@ module _ (call : HardCall) (c : List ℕ) (w : List Float) (A : HardAccepted cal
   -- ---- what the winners are known for
   pub logical-winner : (r : Selection) (x : Candidate) (next : RunnerUp) → r ≡ selection (call .board) (call .logical) (call .transforms) (call .error-limit) → r ≡ sel.Selected x next → (x .placing .listed < length (call .transforms)) × (x .hits ≤ size (call .logical)) × (next .hits ≤ size (call .logical))
   logical-winner r x next e k =
-      let i = selected-in-range (call .board) (call .logical) (call .transforms) (call .error-limit) (A .board) (A .logical) (A .transforms .few) x next (sym e ∙ k) in (i .listed, i .hits, i .next-hits)
+      let i = selected-in-range (call .board) (call .logical) (call .transforms) (call .error-limit) (A .board) (A .logical) (A .transforms .few) x next (sym e ∙ k) in (i .listed, i .hits, i .runner-up-hits)
 
   pub physical-winner : (r : Selection) (x : Candidate) (next : RunnerUp) → r ≡ selection (call .board) (call .physical) (call .transforms) oneF → r ≡ sel.Selected x next → x .placing .listed < length (call .transforms)
   physical-winner r x next e k = selected-in-range (call .board) (call .physical) (call .transforms) oneF (A .board) (A .physical) (A .transforms .few) x next (sym e ∙ k) .listed

@@ -35,7 +35,8 @@ use Rattle.hard.specs.declared.select.Selection.the-variants as sel
 use Rattle.best.specs.CellTables.{Period, CellTables, cells, TablesOk, cAt, wAt}
 use Rattle.figures.specs.Figures.{totalConfidence, noConfidence}
 use Rattle.hard.specs.Select.{selection, SelectDone}
-use Rattle.hard.specs.SelectLaws.{RoomReady, roomCells, built-cells, tables-ok, period-h, period-v}
+use Rattle.grid.specs.BoardGrid.{period-h, period-v}
+use Rattle.hard.specs.SelectLaws.{RoomReady, roomCells, built-cells, tables-ok}
 use Rattle.margin.specs.declared.slots.SoftCandidate.{SoftCandidate}
 use Rattle.margin.specs.declared.slots.SoftScan.{SoftScan}
 use Rattle.margin.specs.declared.slots.SoftChoice.{SoftChoice}

@@ -26,7 +26,7 @@ use Rattle.figures.specs.Gate.{passed}
 use Rattle.hard.specs.OneList.{keyAt}
 use Rattle.figures.specs.Figures.{noConfidence}
 use Rattle.hard.specs.Select.{tablesOf, selection}
-use Rattle.hard.specs.SelectLaws.{period-h, period-v}
+use Rattle.grid.specs.BoardGrid.{period-h, period-v}
 use Rattle.hard.specs.SelectTheorems.{sole-selected}
 use Rattle.scan.specs.declared.scan.Candidate.{Candidate}
 use Rattle.scan.specs.declared.scan.RunnerUp.{RunnerUp}

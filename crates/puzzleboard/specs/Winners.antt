@@ -14,7 +14,7 @@ use Rattle.hard.specs.Placings.{Sole, MostOther}
 use Rattle.hard.specs.OneList.{keyAt, originNumber, InRange}
 use Rattle.figures.specs.Figures.{totalConfidence}
 use Rattle.hard.specs.Select.{tablesOf, selection}
-use Rattle.hard.specs.SelectTheorems.{hitsAtKey, selected-in-range, selected-right, selected-next}
+use Rattle.hard.specs.SelectTheorems.{hitsAtKey, selected-in-range, selected-right, selected-runner-up}
 use Rattle.scan.specs.declared.scan.Candidate.{Candidate}
 use Rattle.scan.specs.declared.scan.RunnerUp.{RunnerUp}
 use Rattle.hard.specs.declared.select.Selection.the-variants.{Selected}
@@ -49,10 +49,10 @@ module _ (B : Board) (E : EdgeList) (ts : List ℕ) (limit : Float) (board : Boa
 
     -- the list position of the runner-up, and what is known of it
     pub named : (p : ℕ) × (p < length ts) × (getD ts p 0 ≡ r .transform) × ((p ≡ x .placing .listed) × (keyAt (periodOf B false) (r .row) (r .col) ≡ keyAt (periodOf B false) (x .placing .row) (x .placing .col)) → ⊥) × (hitsAtKey B E ts p (keyAt (periodOf B false) (r .row) (r .col)) ≡ r .hits)
-    named = selected-next B E ts limit board list few x r e g
+    named = selected-runner-up B E ts limit board list few x r e g
 
     runner-on : OnBoard B ts (nextAt (named .0) r)
-    runner-on = record { in-list = named .1; row = in-range .next-row; col = in-range .next-col }
+    runner-on = record { in-list = named .1; row = in-range .runner-up-row; col = in-range .runner-up-col }
 
     pub runner-hits : hitsAt B E ts (nextAt (named .0) r) ≡ r .hits
     runner-hits = sym (hits-key B board ts E limit (nextAt (named .0) r) runner-on) ∙ named .4

@@ -119,22 +119,22 @@ tells-or admission.Accepted x h p = p
 tells-or (admission.Refused r) x h p = tells-refused r (h r refl)
 
 -- ---- hard decode
-tells-judged : (t : ℕ) (w : Candidate) (next : RunnerUp) (s : ℕ) (p : Candidate) (edges : ℕ) → Tells (judged t w next s p edges)
+tells-judged : (t : ℕ) (w : Candidate) (runner : RunnerUp) (s : ℕ) (p : Candidate) (edges : ℕ) → Tells (judged t w runner s p edges)
 unfolding judged
-tells-judged t w next s p edges =
-    tells-pick (agreed t w s p) _ _ (tells-pick (passed edges (w .hits) (next .hits)) _ _ (tells-found _) (tells-refused _ (λ z. omega arith))) (tells-refused _ (λ z. omega arith))
+tells-judged t w runner s p edges =
+    tells-pick (agreed t w s p) _ _ (tells-pick (passed edges (w .hits) (runner .hits)) _ _ (tells-found _) (tells-refused _ (λ z. omega arith))) (tells-refused _ (λ z. omega arith))
 
 -- the selection on the physical list, after that on the logical one
-tells-physical : (L : EdgeList) (ts : List ℕ) (w : Candidate) (next : RunnerUp) (b : Bool) (c : Choice) → Tells (afterPhysical L ts w next (orRefused b c))
-tells-physical L ts w next true c = tells-refused _ (λ z. omega arith)
-tells-physical L ts w next false choice.Nothing = tells-refused _ (λ z. omega arith)
-tells-physical L ts w next false (choice.Chosen p other) = tells-judged _ w next _ p _
+tells-physical : (L : EdgeList) (ts : List ℕ) (w : Candidate) (runner : RunnerUp) (b : Bool) (c : Choice) → Tells (afterPhysical L ts w runner (orRefused b c))
+tells-physical L ts w runner true c = tells-refused _ (λ z. omega arith)
+tells-physical L ts w runner false choice.Nothing = tells-refused _ (λ z. omega arith)
+tells-physical L ts w runner false (choice.Chosen p other) = tells-judged _ w runner _ p _
 
 tells-logical : (call : HardCall) (b : Bool) (c : Choice) → Tells (afterLogical call (orRefused b c))
 unfolding selection
 tells-logical call true c = tells-refused _ (λ z. omega arith)
 tells-logical call false choice.Nothing = tells-refused _ (λ z. omega arith)
-tells-logical call false (choice.Chosen w next) = tells-physical (call .logical) (call .transforms) w next (noConfidence (call .physical)) (chosen (scanOf (call .board) (call .physical) (call .transforms) oneF (length (call .transforms))))
+tells-logical call false (choice.Chosen w runner) = tells-physical (call .logical) (call .transforms) w runner (noConfidence (call .physical)) (chosen (scanOf (call .board) (call .physical) (call .transforms) oneF (length (call .transforms))))
 
 tells-hard : (call : HardCall) (m n : ℕ) → Tells (hardAnswer call m n)
 unfolding hardAnswer hardCore selection
@@ -148,9 +148,9 @@ hard-zero-found call c c' w w' r h e =
     subst Tells (sym (h .done .answer)) (tells-hard call (length c) (length w)) (ap (λ (x : FlatAnswer). x .refusal) (sym (h .shown)) ∙ e)
 
 -- ---- soft decode
-verdict-numbered : (t : ℕ) (first : SoftCandidate) (s : ℕ) (w : Candidate) (next : RunnerUp) (edges : ℕ) → Numbered (softVerdict t first s w next edges)
+verdict-numbered : (t : ℕ) (first : SoftCandidate) (s : ℕ) (w : Candidate) (runner : RunnerUp) (edges : ℕ) → Numbered (softVerdict t first s w runner edges)
 unfolding softVerdict
-verdict-numbered t first s w next edges r h z = go (eqb t s && (eqb (first .placing .row) (w .placing .row) && eqb (first .placing .col) (w .placing .col))) (passed edges (w .hits) (next .hits)) h
+verdict-numbered t first s w runner edges r h z = go (eqb t s && (eqb (first .placing .row) (w .placing .row) && eqb (first .placing .col) (w .placing .col))) (passed edges (w .hits) (runner .hits)) h
   where
     go : (a b : Bool) → cond a (cond b admission.Accepted (admission.Refused (numbered why.notFarAhead))) (admission.Refused (numbered why.softHardDisagree)) ≡ admission.Refused r → ⊥
     go true true e = not-accepted r e
@@ -161,9 +161,9 @@ tells-hard-too : (call : HardCall) (best : SoftBest) (b : Bool) (c : Choice) →
 unfolding softJudged
 tells-hard-too call best true c = tells-refused _ (λ z. omega arith)
 tells-hard-too call best false choice.Nothing = tells-refused _ (λ z. omega arith)
-tells-hard-too call best false (choice.Chosen w next) =
+tells-hard-too call best false (choice.Chosen w runner) =
     let t = getD (call .transforms) (best .first .placing .listed) 0 in
-    tells-or (softVerdict t (best .first) (getD (call .transforms) (w .placing .listed) 0) w next (size (call .logical))) (Found (softDecodedOf t best (fitOf (call .board) (call .physical) t (best .first .placing .row) (best .first .placing .col)) (size (call .physical)) next)) (verdict-numbered t (best .first) (getD (call .transforms) (w .placing .listed) 0) w next (size (call .logical))) (tells-found _)
+    tells-or (softVerdict t (best .first) (getD (call .transforms) (w .placing .listed) 0) w runner (size (call .logical))) (Found (softDecodedOf t best (fitOf (call .board) (call .physical) t (best .first .placing .row) (best .first .placing .col)) (size (call .physical)) runner)) (verdict-numbered t (best .first) (getD (call .transforms) (w .placing .listed) 0) w runner (size (call .logical))) (tells-found _)
 
 tells-after-soft : (call : HardCall) (least : Float) (c : SoftChoice) → Tells (afterSoft call least c)
 unfolding selection

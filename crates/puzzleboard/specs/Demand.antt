@@ -52,8 +52,8 @@ Names ts P s = (getD ts (P .listed) 0 ≡ s .transform) × (P .row ≡ s .row) �
 -- "agrees with the winner of the physical list": the physical selection, with limit 1, has a winner, and it has the same transform and origin
 pub record AgreesPhysical (B : Board) (E : EdgeList) (ts : List ℕ) (P : Placing) : Type 0 where
   pub winner : Candidate
-  pub next : RunnerUp
-  pub chosen : selection B E ts oneF ≡ Selected winner next
+  pub runner : RunnerUp
+  pub chosen : selection B E ts oneF ≡ Selected winner runner
   pub transform : getD ts (winner .placing .listed) 0 ≡ getD ts (P .listed) 0
   pub row : winner .placing .row ≡ P .row
   pub col : winner .placing .col ≡ P .col

@@ -28,12 +28,12 @@ use Rattle.verdict.specs.Verdict.{whenAccepted, judged}
 
 -- "select on the logical list with the limit, then on the physical list with limit 1; origin and matrix must agree; then the gate on the logical list"
 abbrev pub afterPhysical : EdgeList → List ℕ → Candidate → RunnerUp → Selection → Answer
-afterPhysical L ts w next (sel.Refused r) = Refused r
-afterPhysical L ts w next (sel.Selected p other) = judged (getD ts (w .placing .listed) 0) w next (getD ts (p .placing .listed) 0) p (size L)
+afterPhysical L ts w runner (sel.Refused r) = Refused r
+afterPhysical L ts w runner (sel.Selected p other) = judged (getD ts (w .placing .listed) 0) w runner (getD ts (p .placing .listed) 0) p (size L)
 
 abbrev pub afterLogical : HardCall → Selection → Answer
 afterLogical call (sel.Refused r) = Refused r
-afterLogical call (sel.Selected w next) = afterPhysical (call .logical) (call .transforms) w next (selection (call .board) (call .physical) (call .transforms) oneF)
+afterLogical call (sel.Selected w runner) = afterPhysical (call .logical) (call .transforms) w runner (selection (call .board) (call .physical) (call .transforms) oneF)
 
 -- what an accepted hard call answers
 unfoldable pub hardCore : HardCall → Answer

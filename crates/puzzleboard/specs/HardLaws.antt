@@ -81,12 +81,12 @@ module _ (call : HardCall) (c : List ℕ) (w : List Float) (A : HardAccepted cal
   ready-physical c' w' e d = ready (call .board) (call .physical) (call .transforms) c' w' (A .physical) (A .some-physical) (A .board) (A .transforms) (le-trans (A .room .0) (le-of-eq (sym e))) (le-trans (A .room .1) (le-of-eq (sym d)))
 
   -- ---- what the winners are known for
-  pub logical-winner : (r : Selection) (x : Candidate) (next : RunnerUp) → r ≡ selection (call .board) (call .logical) (call .transforms) (call .error-limit) → r ≡ sel.Selected x next → (x .placing .listed < length (call .transforms)) × (x .hits ≤ size (call .logical)) × (next .hits ≤ size (call .logical))
-  logical-winner r x next e k =
-      let i = selected-in-range (call .board) (call .logical) (call .transforms) (call .error-limit) (A .board) (A .logical) (A .transforms .few) x next (sym e ∙ k) in (i .listed, i .hits, i .runner-up-hits)
+  pub logical-winner : (r : Selection) (x : Candidate) (runner : RunnerUp) → r ≡ selection (call .board) (call .logical) (call .transforms) (call .error-limit) → r ≡ sel.Selected x runner → (x .placing .listed < length (call .transforms)) × (x .hits ≤ size (call .logical)) × (runner .hits ≤ size (call .logical))
+  logical-winner r x runner e k =
+      let i = selected-in-range (call .board) (call .logical) (call .transforms) (call .error-limit) (A .board) (A .logical) (A .transforms .few) x runner (sym e ∙ k) in (i .listed, i .hits, i .runner-up-hits)
 
-  pub physical-winner : (r : Selection) (x : Candidate) (next : RunnerUp) → r ≡ selection (call .board) (call .physical) (call .transforms) oneF → r ≡ sel.Selected x next → x .placing .listed < length (call .transforms)
-  physical-winner r x next e k = selected-in-range (call .board) (call .physical) (call .transforms) oneF (A .board) (A .physical) (A .transforms .few) x next (sym e ∙ k) .listed
+  pub physical-winner : (r : Selection) (x : Candidate) (runner : RunnerUp) → r ≡ selection (call .board) (call .physical) (call .transforms) oneF → r ≡ sel.Selected x runner → x .placing .listed < length (call .transforms)
+  physical-winner r x runner e k = selected-in-range (call .board) (call .physical) (call .transforms) oneF (A .board) (A .physical) (A .transforms .few) x runner (sym e ∙ k) .listed
 
   -- ---- the rooms
   pub beyond : (E : EdgeList) (limit' : Float) (d d' : List ℕ) (x x' : List Float) (r : Selection) → SelectReady (call .board) E (call .transforms) d x → SelectDone (call .board) E (call .transforms) limit' d d' x x' r → SameBeyond 0 (tablesRoom (call .board)) d d' × SameBeyond nan (tablesRoom (call .board)) x x'
@@ -100,22 +100,22 @@ module _ (call : HardCall) (c : List ℕ) (w : List Float) (A : HardAccepted cal
         let s = beyond (call .logical) (call .error-limit) c c' w w' r ready-logical D in
         record { answer = ap (afterLogical call) (sym k ∙ D .answer); counts = s .0; weights = s .1 }
 
-    module _ (x : Candidate) (next : RunnerUp) (k : r ≡ sel.Selected x next) (c'' : List ℕ) (w'' : List Float) (q : Selection) (F : SelectDone (call .board) (call .physical) (call .transforms) oneF c' c'' w' w'' q) where
+    module _ (x : Candidate) (runner : RunnerUp) (k : r ≡ sel.Selected x runner) (c'' : List ℕ) (w'' : List Float) (q : Selection) (F : SelectDone (call .board) (call .physical) (call .transforms) oneF c' c'' w' w'' q) where
       both : SameBeyond 0 (tablesRoom (call .board)) c c'' × SameBeyond nan (tablesRoom (call .board)) w w''
       both =
           let s = beyond (call .logical) (call .error-limit) c c' w w' r ready-logical D in
           let t = beyond (call .physical) oneF c' c'' w' w'' q (ready-physical c' w' (s .0 .len) (s .1 .len)) F in
           (beyond-trans 0 (tablesRoom (call .board)) c c' c'' (s .0) (t .0), beyond-trans nan (tablesRoom (call .board)) w w' w'' (s .1) (t .1))
 
-      core-answer : afterPhysical (call .logical) (call .transforms) x next q ≡ hardCore call
+      core-answer : afterPhysical (call .logical) (call .transforms) x runner q ≡ hardCore call
       unfolding hardCore
-      core-answer = ap (afterPhysical (call .logical) (call .transforms) x next) (F .answer) ∙ ap (afterLogical call) (sym k ∙ D .answer)
+      core-answer = ap (afterPhysical (call .logical) (call .transforms) x runner) (F .answer) ∙ ap (afterLogical call) (sym k ∙ D .answer)
 
       pub core-physical-refused : (n : Refusal) → q ≡ sel.Refused n → CoreDone call c c'' w w'' (Refused n)
-      core-physical-refused n g = record { answer = ap (afterPhysical (call .logical) (call .transforms) x next) (sym g) ∙ core-answer; counts = both .0; weights = both .1 }
+      core-physical-refused n g = record { answer = ap (afterPhysical (call .logical) (call .transforms) x runner) (sym g) ∙ core-answer; counts = both .0; weights = both .1 }
 
-      pub core-judged : (p : Candidate) (other : RunnerUp) (a : Answer) → q ≡ sel.Selected p other → a ≡ judged (getD (call .transforms) (x .placing .listed) 0) x next (getD (call .transforms) (p .placing .listed) 0) p (size (call .logical)) → CoreDone call c c'' w w'' a
-      core-judged p other a g e = record { answer = e ∙ ap (afterPhysical (call .logical) (call .transforms) x next) (sym g) ∙ core-answer; counts = both .0; weights = both .1 }
+      pub core-judged : (p : Candidate) (other : RunnerUp) (a : Answer) → q ≡ sel.Selected p other → a ≡ judged (getD (call .transforms) (x .placing .listed) 0) x runner (getD (call .transforms) (p .placing .listed) 0) p (size (call .logical)) → CoreDone call c c'' w w'' a
+      core-judged p other a g e = record { answer = e ∙ ap (afterPhysical (call .logical) (call .transforms) x runner) (sym g) ∙ core-answer; counts = both .0; weights = both .1 }
 
 -- as many places cleared as were counted to be used
 pub cleared-used : {A : Type 0} (a : A) (n m : ℕ) (old new : List A) → n ≡ m → new ≡ cleared a n old → new ≡ cleared a m old

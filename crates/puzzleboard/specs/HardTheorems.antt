@@ -35,7 +35,7 @@ use Rattle.verdict.specs.Verdict.{refusedBy, agreed, decodedOf, pick, judged}
 use Rattle.puzzleboard.specs.Hard.{afterPhysical, afterLogical, hardCore}
 use Rattle.puzzleboard.specs.Demand.{OnBoard, Same, Leads, RunsUp, Names, AgreesPhysical, Tells}
 use Rattle.puzzleboard.specs.DemandLaws.{keyOf, key-same, leads-sole}
-use Rattle.puzzleboard.specs.Winners.{placed, nextAt, winner-on, winner-leads, winner-hits, named, runner-hits, runs-up}
+use Rattle.puzzleboard.specs.Winners.{placed, runnerAt, winner-on, winner-leads, winner-hits, named, runner-hits, runs-up}
 
 -- ---- found or refused: no answer is both
 pub no-square : (d : Decoded) (r : Refusal) → Refused r ≡ Found d → ⊥
@@ -69,11 +69,11 @@ module _ (call : HardCall) (m n : ℕ) (A : HardAccepted call m n) where
           let l = A .logical in
           record {
             square = placed x;
-            runner-up = nextAt (named (call .board) (call .logical) (call .transforms) (call .error-limit) (A .board) l (A .transforms .few) x r e g .0) r;
+            runner-up = runnerAt (named (call .board) (call .logical) (call .transforms) (call .error-limit) (A .board) l (A .transforms .few) x r e g .0) r;
             leads = winner-leads (call .board) (call .logical) (call .transforms) (call .error-limit) (A .board) l (A .transforms .few) x r e g;
-            agrees = record { winner = y; next = o; chosen = f; transform = sym (eqb-true t s (u .0)); row = sym (eqb-true (x .placing .row) (y .placing .row) (v .0)); col = sym (eqb-true (x .placing .col) (y .placing .col) (v .1)) };
+            agrees = record { winner = y; runner = o; chosen = f; transform = sym (eqb-true t s (u .0)); row = sym (eqb-true (x .placing .row) (y .placing .row) (v .0)); col = sym (eqb-true (x .placing .col) (y .placing .col) (v .1)) };
             runs-up = runs-up (call .board) (call .logical) (call .transforms) (call .error-limit) (A .board) l (A .transforms .few) x r e g;
-            tells = subst (λ (z : Decoded). Tells (call .board) (call .logical) (call .transforms) z (placed x) (nextAt (named (call .board) (call .logical) (call .transforms) (call .error-limit) (A .board) l (A .transforms .few) x r e g .0) r)) q (record {
+            tells = subst (λ (z : Decoded). Tells (call .board) (call .logical) (call .transforms) z (placed x) (runnerAt (named (call .board) (call .logical) (call .transforms) (call .error-limit) (A .board) l (A .transforms .few) x r e g .0) r)) q (record {
               square = (refl, refl, refl);
               hits = winner-hits (call .board) (call .logical) (call .transforms) (call .error-limit) (A .board) l (A .transforms .few) x r e g;
               edges = refl;

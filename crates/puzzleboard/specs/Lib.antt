@@ -3,6 +3,7 @@ pub mod DemandLaws
 pub mod Hard
 pub mod HardLaws
 pub mod HardTheorems
+pub mod OneSelection
 pub mod Soft
 pub mod SoftDemand
 pub mod SoftLaws

@@ -55,13 +55,13 @@ module _ (call : HardCall) where
   -- the two best by likelihood, where the logical list gave w with its runner-up
   unfoldable pub softJudged : SoftBest → Candidate → RunnerUp → Answer
   unfolding softDecodedOf
-  softJudged best w next =
+  softJudged best w runner =
       let t = getD (call .transforms) (best .first .placing .listed) 0 in
-      whenAccepted (softVerdict t (best .first) (getD (call .transforms) (w .placing .listed) 0) w next (size (call .logical))) (Found (softDecodedOf t best (fitOf (call .board) (call .physical) t (best .first .placing .row) (best .first .placing .col)) (size (call .physical)) next))
+      whenAccepted (softVerdict t (best .first) (getD (call .transforms) (w .placing .listed) 0) w runner (size (call .logical))) (Found (softDecodedOf t best (fitOf (call .board) (call .physical) t (best .first .placing .row) (best .first .placing .col)) (size (call .physical)) runner))
 
   abbrev pub afterHard : SoftBest → Selection → Answer
   afterHard best (sel.Refused r) = Refused r
-  afterHard best (sel.Selected w next) = softJudged best w next
+  afterHard best (sel.Selected w runner) = softJudged best w runner
 
   -- "Margin = (first - second) / edges. Below the soft margin: refused."
   abbrev pub afterSoft : Float → SoftChoice → Answer

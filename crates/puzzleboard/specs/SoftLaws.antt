@@ -116,10 +116,10 @@ module _ (call : HardCall) (c : List ℕ) (w : List Float) (A : HardAccepted cal
         room = (le-trans (A .room .0) (le-of-eq (sym (logical-rooms .0 .len))), le-trans (A .room .1) (le-of-eq (sym (logical-rooms .1 .len))));
       }
 
-  module _ (x : Candidate) (next : RunnerUp) (k : r ≡ sel.Selected x next) (n : Admission) (v : n ≡ softVerdict (getD (call .transforms) (best .first .placing .listed) 0) (best .first) (getD (call .transforms) (x .placing .listed) 0) x next (size (call .logical))) where
+  module _ (x : Candidate) (runner : RunnerUp) (k : r ≡ sel.Selected x runner) (n : Admission) (v : n ≡ softVerdict (getD (call .transforms) (best .first .placing .listed) 0) (best .first) (getD (call .transforms) (x .placing .listed) 0) x runner (size (call .logical))) where
     -- the answer under a verdict
     abbrev under : Admission → Answer
-    under y = let t = getD (call .transforms) (best .first .placing .listed) 0 in whenAccepted y (Found (softDecodedOf t best (fitOf (call .board) (call .physical) t (best .first .placing .row) (best .first .placing .col)) (size (call .physical)) next))
+    under y = let t = getD (call .transforms) (best .first .placing .listed) 0 in whenAccepted y (Found (softDecodedOf t best (fitOf (call .board) (call .physical) t (best .first .placing .row) (best .first .placing .col)) (size (call .physical)) runner))
 
     logical-answer : under n ≡ afterHard call best (selection (call .board) (call .logical) (call .transforms) (call .error-limit))
     unfolding softJudged
@@ -132,10 +132,10 @@ module _ (call : HardCall) (c : List ℕ) (w : List Float) (A : HardAccepted cal
       pub own-few : own .hits ≤ size (call .physical)
       own-few = subst (λ (z : Fit). z .hits ≤ size (call .physical)) (sym (F .answer)) (fit-few (call .board) (call .physical) (getD (call .transforms) (best .first .placing .listed) 0) (best .first .placing .row) (best .first .placing .col) (A .board) (A .physical))
 
-      pub verdict-found : (a : Decoded) → n ≡ admission.Accepted → a ≡ softDecodedOf (getD (call .transforms) (best .first .placing .listed) 0) best own (size (call .physical)) next → LogicalDone call best c c'' w w'' (Found a)
+      pub verdict-found : (a : Decoded) → n ≡ admission.Accepted → a ≡ softDecodedOf (getD (call .transforms) (best .first .placing .listed) 0) best own (size (call .physical)) runner → LogicalDone call best c c'' w w'' (Found a)
       verdict-found a o e =
           record {
-            answer = ap Found (e ∙ ap (λ (z : Fit). softDecodedOf (getD (call .transforms) (best .first .placing .listed) 0) best z (size (call .physical)) next) (F .answer)) ∙ ap under (sym o) ∙ logical-answer;
+            answer = ap Found (e ∙ ap (λ (z : Fit). softDecodedOf (getD (call .transforms) (best .first .placing .listed) 0) best z (size (call .physical)) runner) (F .answer)) ∙ ap under (sym o) ∙ logical-answer;
             counts = beyond-trans 0 (tablesRoom (call .board)) c c' c'' (logical-rooms .0) (record { len = F .rooms .counts .len; same = F .rooms .counts .surplus });
             weights = beyond-trans nan (tablesRoom (call .board)) w w' w'' (logical-rooms .1) (record { len = F .rooms .weights .len; same = F .rooms .weights .surplus });
           }

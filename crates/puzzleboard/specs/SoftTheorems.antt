@@ -55,18 +55,18 @@ use Rattle.puzzleboard.specs.Demand.{OnBoard, Same, Leads, RunsUp, Names
 use Rattle.puzzleboard.specs.DemandLaws.{keyOf, placing, placing-on, key-same, key-back, row-back, col-back, leads-sole}
 use Rattle.puzzleboard.specs.HardTheorems.{no-square}
 use Rattle.puzzleboard.specs.SoftDemand.{total, candidate, marginOf, BestByLikelihood, SoftAnswered}
-use Rattle.puzzleboard.specs.Winners.{placed, nextAt, winner-on, winner-leads, winner-hits, named, runner-hits, runs-up}
+use Rattle.puzzleboard.specs.Winners.{placed, runnerAt, winner-on, winner-leads, winner-hits, named, runner-hits, runs-up}
 
 -- ---- the verdict
 -- 0: both winners agree, and the gate is passed
-pub verdict-passed : (t : ℕ) (first : SoftCandidate) (s : ℕ) (w : Candidate) (next : RunnerUp) (edges : ℕ) → softVerdict t first s w next edges ≡ admission.Accepted
-    → (t ≡ s) × (first .placing .row ≡ w .placing .row) × (first .placing .col ≡ w .placing .col) × (passed edges (w .hits) (next .hits) ≡ true)
+pub verdict-passed : (t : ℕ) (first : SoftCandidate) (s : ℕ) (w : Candidate) (runner : RunnerUp) (edges : ℕ) → softVerdict t first s w runner edges ≡ admission.Accepted
+    → (t ≡ s) × (first .placing .row ≡ w .placing .row) × (first .placing .col ≡ w .placing .col) × (passed edges (w .hits) (runner .hits) ≡ true)
 unfolding softVerdict
-verdict-passed t first s w next edges h =
-    go (eqb t s && (eqb (first .placing .row) (w .placing .row) && eqb (first .placing .col) (w .placing .col))) (passed edges (w .hits) (next .hits)) refl refl h
+verdict-passed t first s w runner edges h =
+    go (eqb t s && (eqb (first .placing .row) (w .placing .row) && eqb (first .placing .col) (w .placing .col))) (passed edges (w .hits) (runner .hits)) refl refl h
   where
-    go : (a b : Bool) → (eqb t s && (eqb (first .placing .row) (w .placing .row) && eqb (first .placing .col) (w .placing .col))) ≡ a → passed edges (w .hits) (next .hits) ≡ b → cond a (cond b admission.Accepted (admission.Refused (numbered why.notFarAhead))) (admission.Refused (numbered why.softHardDisagree)) ≡ admission.Accepted
-        → (t ≡ s) × (first .placing .row ≡ w .placing .row) × (first .placing .col ≡ w .placing .col) × (passed edges (w .hits) (next .hits) ≡ true)
+    go : (a b : Bool) → (eqb t s && (eqb (first .placing .row) (w .placing .row) && eqb (first .placing .col) (w .placing .col))) ≡ a → passed edges (w .hits) (runner .hits) ≡ b → cond a (cond b admission.Accepted (admission.Refused (numbered why.notFarAhead))) (admission.Refused (numbered why.softHardDisagree)) ≡ admission.Accepted
+        → (t ≡ s) × (first .placing .row ≡ w .placing .row) × (first .placing .col ≡ w .placing .col) × (passed edges (w .hits) (runner .hits) ≡ true)
     go true true e g k =
         let u = and-true (eqb t s) _ e in
         let v = and-true (eqb (first .placing .row) (w .placing .row)) (eqb (first .placing .col) (w .placing .col)) (u .1) in
@@ -153,11 +153,11 @@ module _ (call : SoftCall) (m n o : ℕ) (A : SoftAccepted call m n o) where
           subst (λ (z : Decoded). SoftAnswered call z) q (record {
             square = Q;
             second = R;
-            runner-up = nextAt (l .0) r;
+            runner-up = runnerAt (l .0) r;
             best = b;
             clears = clear;
             leads = subst (λ (z : Placing). Leads (call .hard .board) (call .hard .logical) (call .hard .transforms) (call .hard .error-limit) z) same-one lead;
-            runs-up = subst (λ (z : Placing). RunsUp (call .hard .board) (call .hard .logical) (call .hard .transforms) z (nextAt (l .0) r)) same-one (runs-up (call .hard .board) (call .hard .logical) (call .hard .transforms) (call .hard .error-limit) (A .hard .board) (A .hard .logical) (A .hard .transforms .few) x r e (p .3));
+            runs-up = subst (λ (z : Placing). RunsUp (call .hard .board) (call .hard .logical) (call .hard .transforms) z (runnerAt (l .0) r)) same-one (runs-up (call .hard .board) (call .hard .logical) (call .hard .transforms) (call .hard .error-limit) (A .hard .board) (A .hard .logical) (A .hard .transforms .few) x r e (p .3));
             names = (refl, refl, refl);
             hits = fit-hits (call .hard .board) (call .hard .physical) t (Q .row) (Q .col) (A .hard .board);
             edges = refl;

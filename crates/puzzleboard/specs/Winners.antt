@@ -25,8 +25,8 @@ use Rattle.puzzleboard.specs.DemandLaws.{same-key, hits-key, sole-leads,
 abbrev pub placed : Candidate → Placing
 placed x = x .placing
 
-abbrev pub nextAt : ℕ → RunnerUp → Placing
-nextAt p r = record { listed = p; row = r .row; col = r .col }
+abbrev pub runnerAt : ℕ → RunnerUp → Placing
+runnerAt p r = record { listed = p; row = r .row; col = r .col }
 
 module _ (B : Board) (E : EdgeList) (ts : List ℕ) (limit : Float) (board : BoardOk B) (list : ListOk E) (few : length ts ≤ 8) (x : Candidate) (r : RunnerUp) (e : selection B E ts limit ≡ Selected x r) where
   in-range : InRange (periodOf B true) (periodOf B false) (size E) (totalConfidence E) limit (λ p. getD ts p 0) (λ p. tablesOf B E (getD ts p 0)) (length ts) x r
@@ -51,13 +51,13 @@ module _ (B : Board) (E : EdgeList) (ts : List ℕ) (limit : Float) (board : Boa
     pub named : (p : ℕ) × (p < length ts) × (getD ts p 0 ≡ r .transform) × ((p ≡ x .placing .listed) × (keyAt (periodOf B false) (r .row) (r .col) ≡ keyAt (periodOf B false) (x .placing .row) (x .placing .col)) → ⊥) × (hitsAtKey B E ts p (keyAt (periodOf B false) (r .row) (r .col)) ≡ r .hits)
     named = selected-runner-up B E ts limit board list few x r e g
 
-    runner-on : OnBoard B ts (nextAt (named .0) r)
+    runner-on : OnBoard B ts (runnerAt (named .0) r)
     runner-on = record { in-list = named .1; row = in-range .runner-up-row; col = in-range .runner-up-col }
 
-    pub runner-hits : hitsAt B E ts (nextAt (named .0) r) ≡ r .hits
-    runner-hits = sym (hits-key B board ts E limit (nextAt (named .0) r) runner-on) ∙ named .4
+    pub runner-hits : hitsAt B E ts (runnerAt (named .0) r) ≡ r .hits
+    runner-hits = sym (hits-key B board ts E limit (runnerAt (named .0) r) runner-on) ∙ named .4
 
-    pub runs-up : RunsUp B E ts (placed x) (nextAt (named .0) r)
+    pub runs-up : RunsUp B E ts (placed x) (runnerAt (named .0) r)
     runs-up =
-        most-runs-up B board ts E limit (placed x) (nextAt (named .0) r) (r .hits) winner-on runner-on
-        (λ s. named .3 (same-key B board ts (nextAt (named .0) r) (placed x) s)) runner-hits (right .2)
+        most-runs-up B board ts E limit (placed x) (runnerAt (named .0) r) (r .hits) winner-on runner-on
+        (λ s. named .3 (same-key B board ts (runnerAt (named .0) r) (placed x) s)) runner-hits (right .2)

@@ -58,7 +58,7 @@ fn hard_core<'a>(
     );
     match logical {
         Selection::Refused(refusal) => Answer::Refused(refusal),
-        Selection::Selected(w, next) => {
+        Selection::Selected(w, runner) => {
             let physical = hard::select::select(
                 prows,
                 pcols,
@@ -80,7 +80,7 @@ fn hard_core<'a>(
                     judge(
                         transforms[at],
                         w,
-                        next,
+                        runner,
                         transforms[other],
                         p,
                         lrows.len() as u32,

@@ -132,12 +132,12 @@ fn soft_logical<'a>(
     );
     match logical {
         Selection::Refused(refusal) => Answer::Refused(refusal),
-        Selection::Selected(w, next) => {
+        Selection::Selected(w, runner) => {
             let at = best.first.placing.listed;
             let other = w.placing.listed;
             let t = transforms[at];
             let s = transforms[other];
-            let verdict = soft_verdict(t, best, s, w, next, lrows.len() as u32);
+            let verdict = soft_verdict(t, best, s, w, runner, lrows.len() as u32);
             match verdict {
                 Admission::Refused(refusal) => Answer::Refused(refusal),
                 Admission::Accepted => {
@@ -155,7 +155,7 @@ fn soft_logical<'a>(
                         counts,
                         weights,
                     );
-                    Answer::Found(soft_decoded(t, best, own, prows.len() as u32, next))
+                    Answer::Found(soft_decoded(t, best, own, prows.len() as u32, runner))
                 }
             }
         }

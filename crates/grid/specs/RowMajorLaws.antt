@@ -6,7 +6,7 @@ use Prim.Native.Nat.{ℕ, zero, suc, _+_, _≤_, _<_}
 use native.Mathlib.Omega.{arith}
 use native.Mathlib.Numerals.{add-one}
 use lib.Dec.{ltb}
-use borrow.Author.Tests.{ltb-true, ltb-false, lt-ltb, le-ltb}
+use borrow.Author.Tests.{ltb-true, ltb-false, le-ltb}
 use Rattle.laws.specs.Tests.{clash, split}
 use Rattle.laws.specs.Fold.{count}
 use Rattle.laws.specs.Counting.{count-one}
@@ -18,13 +18,13 @@ pub lowest-no : (p : ℕ → Bool) (f : ℕ → ℕ) (a i x : ℕ) → x ≡ low
 unfolding lowest
 lowest-no p f a i x e t = rw (add-one i, t) e
 
-pub lowest-new : (p : ℕ → Bool) (f : ℕ → ℕ) (a i x : ℕ) → x ≡ lowest p f a i → p i ≡ true → f i < x → f i ≡ lowest p f a (i + 1)
+pub lowest-yes : (p : ℕ → Bool) (f : ℕ → ℕ) (a i x : ℕ) → x ≡ lowest p f a i → p i ≡ true → lower (f i) x ≡ lowest p f a (i + 1)
 unfolding lowest
-lowest-new p f a i x e t l = rw (add-one i, t, ← e, lt-ltb (f i) x l)
+lowest-yes p f a i x e t = rw (add-one i, t, ← e)
 
+-- where the cell's key is no lower, what was there stays
 pub lowest-old : (p : ℕ → Bool) (f : ℕ → ℕ) (a i x : ℕ) → x ≡ lowest p f a i → p i ≡ true → x ≤ f i → x ≡ lowest p f a (i + 1)
-unfolding lowest
-lowest-old p f a i x e t l = rw (add-one i, t, ← e, le-ltb (f i) x l)
+lowest-old p f a i x e t l = sym (ap (λ (c : Bool). cond c (f i) x) (le-ltb (f i) x l)) ∙ lowest-yes p f a i x e t
 
 pub major-no : (G : Grid) (w : ℕ) (p q : ℕ → Bool) (i x : ℕ) → x ≡ rowMajor G w p q i → p i ≡ false → x ≡ rowMajor G w p q (i + 1)
 unfolding rowMajor

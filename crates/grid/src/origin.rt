@@ -1,12 +1,13 @@
 // Pairs of cells: the origin that a pair names, and the first one, row by row, over the pairs of best cells.
 ghost use mathlib.Core.Path.{_≡_};
 ghost use Prim.Native.Nat.{_*_, _/_, _≤_, _<_};
+ghost use lib.Dec.{leb};
 ghost use lib.ListN.{length};
 ghost use Rattle.laws.specs.Residues.{joint};
 ghost use Rattle.laws.specs.Grid.{origins};
 ghost use Rattle.best.specs.Lex.{optimal};
 ghost use Rattle.best.specs.CellTables.{Period};
-ghost use Rattle.grid.specs.RowMajor.{lowest, rowMajor};
+ghost use Rattle.grid.specs.RowMajor.{lower, lowest, rowMajor};
 use best::lex::is_optimal;
 use laws::Periods;
 
@@ -46,8 +47,28 @@ pub fn key_of(h: usize, v: usize, periods: Periods) -> usize
     row * (3 * periods.v) + col
 }
 
-// The least of start and the keys of the horizontal cell h with each vertical cell of that count and weight. No origin of h stands above row h / 3, so where
-// start stands there or higher up, no vertical cell is looked at.
+// Whether a key stands in row h / 3 or above it. No origin of the horizontal cell h stands higher up, so none of them is lower.
+pub fn clears_row(key: usize, h: usize, periods: Periods) -> bool
+    requires { ⌜ Period (periods .h) × Period (periods .v) × (h < 3 * periods .h) ⌝ }
+    ensures { λ r. ⌜ r ≡ leb key (h / 3 * (3 * periods .v)) ⌝ }
+{
+    key <= h / 3 * (3 * periods.v)
+}
+
+// The lower of a key and that of the horizontal cell h with the vertical cell v.
+pub fn lower_key(best: usize, h: usize, v: usize, periods: Periods) -> usize
+    requires { ⌜ Period (periods .h) × Period (periods .v) × (h < 3 * periods .h) × (v < 3 * periods .v) ⌝ }
+    ensures { λ r. ⌜ r ≡ lower (origins (periods .h) (periods .v) .key h v) best ⌝ }
+{
+    let key = key_of(h, v, periods);
+    if key < best {
+        return key;
+    }
+    best
+}
+
+// The least of start and the keys of the horizontal cell h with each vertical cell of that count and weight. Where start clears the row of h, no vertical
+// cell is looked at.
 fn lowest_key(
     counts: &[u32],
     weights: &[f32],
@@ -61,17 +82,14 @@ fn lowest_key(
     requires { ⌜ (length (now counts) ≡ 3 * periods .v) × (length (now weights) ≡ 3 * periods .v) ⌝ }
     ensures { λ r. ⌜ r ≡ lowest (optimal (now (counts .entry)) (now (weights .entry)) top heavy) (origins (periods .h) (periods .v) .key h) start (length (now (counts .entry))) ⌝ }
 {
-    if start <= h / 3 * (3 * periods.v) {
+    if clears_row(start, h, periods) {
         return start;
     }
     let mut best: usize = start;
     let mut v: usize = 0;
     while v < counts.len() {
         if is_optimal(counts[v], weights[v], top, heavy) {
-            let k = key_of(h, v, periods);
-            if k < best {
-                best = k;
-            }
+            best = lower_key(best, h, v, periods);
         }
         v += 1;
     }

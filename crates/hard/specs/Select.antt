@@ -4,11 +4,9 @@ use mathlib.Core.Bool.{Bool, true, false}
 use mathlib.Core.List.{List}
 use Prim.Native.Nat.{ℕ, zero, suc, _≤_, _<_}
 use lib.ListN.{getD, length}
-use lib.Ieee.{Float, nan, binary32, add, eq}
+use lib.Ieee.{Float}
 use Rattle.refusals.specs.Numbers.{numbered}
 use Rattle.refusals.specs.Numbers as why
-use Rattle.laws.specs.Fold.{fold, all}
-use Rattle.laws.specs.Weights.{zeroF}
 use Rattle.board.specs.Hits.{EdgeList, Board, size}
 use Rattle.figures.specs.Figures.{totalConfidence, noConfidence}
 use Rattle.board.specs.Sides.{periodOf}

@@ -1,25 +1,22 @@
 -- Laws of the selection on one list: the room after each transform, and the scan one transform further.
-use mathlib.Core.Path.{_≡_, refl, sym, ap, ap₂, subst, _∙_}
-use mathlib.Core.Bool.{Bool, true, false}
+use mathlib.Core.Path.{_≡_, refl, sym, ap, subst, _∙_}
+use mathlib.Core.Bool.{true, false}
 use mathlib.Core.List.{List}
-use Prim.Native.Nat.{ℕ, zero, suc, _+_, _*_, _-_, _≤_, _<_}
+use Prim.Native.Nat.{ℕ, zero, suc, _+_, _*_, _≤_, _<_}
 use native.Mathlib.Numerals.{add-one}
 use native.Mathlib.Omega.{arith}
-use lib.Dec.{T}
-use lib.ListN.{getD, length, take, drop}
-use lib.Ieee.{Float, nan, binary32, add, eq}
-use Rattle.laws.specs.Fold.{fold, all, fold-hit, fold-zero}
-use Rattle.laws.specs.Weights.{zeroF, weightlike}
+use lib.ListN.{getD, length}
+use lib.Ieee.{Float, nan, eq}
+use Rattle.laws.specs.Weights.{zeroF}
 use Rattle.laws.specs.Part.{view}
 use Rattle.laws.specs.Cleared.{SameBeyond}
 use Rattle.board.specs.Hits.{EdgeList, Board, size}
 use Rattle.board.specs.Sides.{periodOf}
 use Rattle.board.specs.Domain.{ListOk, BoardOk}
-use Rattle.cells.specs.Cells.{countsOf, weightsOf}
-use Rattle.room.specs.Room.{cellsAt, used, Laid}
+use Rattle.room.specs.Room.{used}
 use Rattle.tables.specs.Built.{TablesReady, TablesBuilt}
 use Rattle.tables.specs.TablesTheorems.{length-counts, length-weights, counts-few, weights-weightlike, read-counts, read-weights, rooms-equal}
-use Rattle.best.specs.CellTables.{Period, CellTables, cells, TablesOk, cAt, wAt}
+use Rattle.best.specs.CellTables.{Period, CellTables, cells, TablesOk}
 use Rattle.grid.specs.BoardGrid.{period-h, period-v}
 use Rattle.scan.specs.Scan.{SoundScan, emptyScan, chosen}
 use Rattle.hard.specs.Transform.{foldTransform, selected}
@@ -28,11 +25,11 @@ use Rattle.scan.specs.declared.scan.HardScan.{HardScan}
 use Rattle.scan.specs.declared.scan.Choice.{Choice}
 use Rattle.hard.specs.KeptLaws.{selected-sound}
 use Rattle.hard.specs.declared.select.Selection.{Selection}
-use Rattle.hard.specs.declared.select.Selection.the-variants.{Refused, Selected}
+use Rattle.hard.specs.declared.select.Selection.the-variants.{Refused}
 use Rattle.refusals.specs.Numbers.{numbered}
 use Rattle.refusals.specs.Numbers as why
 use Rattle.figures.specs.Figures.{totalConfidence, noConfidence}
-use Rattle.hard.specs.Select.{tablesOf, scanOf, ofChoice, orRefused, selection, SelectReady, Rooms, builtTo, SelectDone}
+use Rattle.hard.specs.Select.{tablesOf, scanOf, ofChoice, selection, SelectReady, Rooms, builtTo, SelectDone}
 
 -- ---- the four tables in a room: horizontal cells, then vertical cells
 unfoldable pub roomCells : ℕ → ℕ → List ℕ → List Float → CellTables

@@ -2,7 +2,7 @@
 use mathlib.Core.Path.{_≡_, refl, sym, ap, subst, _∙_}
 use mathlib.Core.Bool.{Bool, true, false, cond}
 use mathlib.Core.List.{List}
-use Prim.Native.Nat.{ℕ, _+_, _*_, _/_, _%_, _≤_, _<_}
+use Prim.Native.Nat.{ℕ, _*_, _/_, _%_, _≤_, _<_}
 use native.Mathlib.Omega.{arith}
 use lib.ListN.{getD, length}
 use lib.Ieee.{Float}
@@ -10,12 +10,11 @@ use Rattle.laws.specs.Tests.{clash}
 use Rattle.board.specs.Hits.{EdgeList, Board, size, hits}
 use Rattle.board.specs.Sides.{periodOf}
 use Rattle.board.specs.Domain.{ListOk, BoardOk}
-use Rattle.cells.specs.Cells.{countsOf}
 use Rattle.tables.specs.TablesTheorems.{key-hits}
 use Rattle.best.specs.CellTables.{CellTables, TablesOk}
 use Rattle.figures.specs.Gate.{passed}
 use Rattle.scan.specs.Scan.{chosen}
-use Rattle.hard.specs.Placings.{Outcome, not-far-ahead, found, Right, Sole, MostOther}
+use Rattle.hard.specs.Placings.{not-far-ahead, found, Right, Sole, MostOther}
 use Rattle.hard.specs.PlacingsLaws.{right-ext, sole-only}
 use Rattle.hard.specs.OneList.{hitsOf, keyAt, originNumber, outcomeOf, InRange}
 use Rattle.hard.specs.OneListLaws.{one-list, choice-in-range, reported}
@@ -23,7 +22,6 @@ use Rattle.scan.specs.declared.scan.Candidate.{Candidate}
 use Rattle.scan.specs.declared.scan.RunnerUp.{RunnerUp}
 use Rattle.scan.specs.declared.scan.Choice.{Choice}
 use Rattle.scan.specs.declared.scan.Choice.the-variants.{Nothing, Chosen}
-use Rattle.hard.specs.declared.select.Selection.{Selection}
 use Rattle.hard.specs.declared.select.Selection.the-variants.{Refused, Selected}
 use Rattle.refusals.specs.declared.Refusal.{Refusal}
 use Rattle.refusals.specs.Numbers.{numbered}

@@ -23,7 +23,7 @@ use Rattle.grid.specs.BoardGrid.{grid, none-small}
 use Rattle.grid.specs.RowMajorLaws.{major-none, major-only}
 use Rattle.scan.specs.Scan.{overLimit, replaced, noSummary, emptyScan, pushed}
 use Rattle.direct.specs.Direct.{tried}
-use Rattle.hard.specs.Transform.{BestOk, firstOf, bestOrigin, bestHits, bestCandidate, pairsTied, runnerUpWithin, competitorOf, summaryOf, transformSummary, offeredBy, foldTransform, selected, separationProductCap}
+use Rattle.hard.specs.Transform.{BestOk, firstOf, bestOrigin, bestHits, bestCandidate, pairsTied, runnerUpWithin, summaryOf, transformSummary, offeredBy, foldTransform, selected, separationProductCap}
 use Rattle.best.specs.declared.lex.LexMax.{LexMax}
 use Rattle.scan.specs.declared.scan.TransformSummary.{TransformSummary}
 use Rattle.scan.specs.declared.scan.HardScan.{HardScan}

@@ -1,10 +1,8 @@
 // Hard selection on one list: the tables of each transform in turn, folded into the scan, and what it comes to.
 ghost use mathlib.Core.Path.{_≡_};
-ghost use Prim.Native.Nat.{_*_, _+_, _≤_, _<_};
-ghost use lib.ListN.{length, take, drop};
-ghost use lib.Ieee.{Float};
+ghost use Prim.Native.Nat.{_*_, _+_, _<_};
+ghost use lib.ListN.{length};
 ghost use Rattle.board.specs.Hits.{edges, tables};
-ghost use Rattle.best.specs.CellTables.{Period, TablesOk, cells};
 ghost use Rattle.hard.specs.Transform.{foldTransform};
 ghost use Rattle.hard.specs.Select.{SelectReady, SelectDone};
 ghost use Rattle.hard.specs.SelectLaws.{roomCells, RoomReady, ScanDone};

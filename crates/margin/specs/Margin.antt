@@ -11,4 +11,4 @@ softMargin first second edges = div binary32 (sub binary32 (first .total) (secon
 
 -- "Below the soft margin"
 abbrev pub belowMargin : Float → Float → Bool
-belowMargin margin limit = lt margin limit
+belowMargin margin soft-margin = lt margin soft-margin

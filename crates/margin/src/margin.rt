@@ -12,9 +12,9 @@ pub fn soft_margin(first: SoftCandidate, second: SoftCandidate, edges: u32) -> f
     (first.total - second.total) / edges as f32
 }
 
-// Whether a margin is too small for the limit.
-pub fn below(margin: f32, limit: f32) -> bool
-    ensures { λ r. ⌜ r ≡ belowMargin margin limit ⌝ }
+// Whether a margin is smaller than the soft margin that is asked for.
+pub fn below(margin: f32, soft_margin: f32) -> bool
+    ensures { λ r. ⌜ r ≡ belowMargin margin «soft_margin» ⌝ }
 {
-    margin < limit
+    margin < soft_margin
 }

@@ -13,6 +13,9 @@ ghost use Rattle.pair.specs.Pair.{LevelsOk, filled, otherIn, otherPair, 
 use crate::level::LevelMax;
 use crate::level::is_tied;
 use crate::level::level_max;
+use grid::origin::clears_row;
+use grid::origin::key_of;
+use grid::origin::lower_key;
 use laws::Periods;
 
 // The keys of a transform's winner and of its second.
@@ -21,23 +24,19 @@ pub struct TwoBest {
     pub second: usize,
 }
 
-// The least of start and the keys of the horizontal cell h with each vertical cell of that sum. No origin of h stands above row h / 3, so where start stands
-// there or higher up, no vertical cell is looked at.
+// The least of start and the keys of the horizontal cell h with each vertical cell of that sum. Where start clears the row of h, no vertical cell is looked at.
 fn lowest_tied_key(sums: &[i64], top: i64, h: usize, start: usize, periods: Periods) -> usize
     requires { ⌜ Period (periods .h) × Period (periods .v) × (length (now sums) ≡ 3 * periods .v) × (h < 3 * periods .h) ⌝ }
     ensures { λ r. ⌜ r ≡ lowest (tiedSum (now (sums .entry)) top) (origins (periods .h) (periods .v) .key h) start (length (now (sums .entry))) ⌝ }
 {
-    if start <= h / 3 * (3 * periods.v) {
+    if clears_row(start, h, periods) {
         return start;
     }
     let mut best: usize = start;
     let mut v: usize = 0;
     while v < sums.len() {
         if is_tied(sums[v], top) {
-            let k = grid::origin::key_of(h, v, periods);
-            if k < best {
-                best = k;
-            }
+            best = lower_key(best, h, v, periods);
         }
         v += 1;
     }
@@ -76,7 +75,7 @@ fn fill(
 {
     if found == none {
         if tied {
-            let key = grid::origin::key_of(h, v, periods);
+            let key = key_of(h, v, periods);
             if key != winner {
                 return key;
             }
@@ -135,9 +134,9 @@ fn second_pair(a: LevelMax, b: LevelMax, periods: Periods) -> usize
     let across = a.under + b.top;
     let down = a.top + b.under;
     if across < down {
-        return grid::origin::key_of(a.cell, b.second, periods);
+        return key_of(a.cell, b.second, periods);
     }
-    grid::origin::key_of(a.second, b.cell, periods)
+    key_of(a.second, b.cell, periods)
 }
 
 // The winner of a transform and its second. Where one pair is alone at the top, it is the pair of the best cells, and no table is walked again.
@@ -153,7 +152,7 @@ pub fn two_best(hs: &[i64], vs: &[i64], periods: Periods) -> TwoBest
         let second = other_pair(hs, a.top, vs, b.top, winner, periods);
         return TwoBest { winner, second };
     }
-    let winner = grid::origin::key_of(a.cell, b.cell, periods);
+    let winner = key_of(a.cell, b.cell, periods);
     let second = second_pair(a, b, periods);
     TwoBest { winner, second }
 }

@@ -1,7 +1,7 @@
 -- Document 01, 'Hard selection': candidates, the runner-up and the choice; and the scan record, "HardScan by value with an array of eight summaries and a count".
 use mathlib.Core.Bool.{Bool, true, false, cond, _&&_, _||_}
 use mathlib.Core.List.{List}
-use Prim.Native.Nat.{ℕ, zero, suc, _+_, _-_, _≤_, _<_}
+use Prim.Native.Nat.{ℕ, zero, suc, _+_, _≤_, _<_}
 use lib.Dec.{ltb, eqb}
 use lib.ListN.{getD, set, replicate}
 use lib.Ieee.{Float, lt}

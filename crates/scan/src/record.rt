@@ -12,12 +12,12 @@ use crate::scan::RunnerUp;
 use crate::scan::TransformSummary;
 use best::lex::beats;
 
-// Whether so many hits are too few for the limit.
-pub fn over_limit(edges: u32, hits: u32, limit: f32) -> bool
+// Whether so many hits are too few for the error limit.
+pub fn over_limit(edges: u32, hits: u32, error_limit: f32) -> bool
     requires { ⌜ (hits ≤ edges) × (edges ≤ 8192) ⌝ }
-    ensures { λ r. ⌜ r ≡ overLimit edges limit hits ⌝ }
+    ensures { λ r. ⌜ r ≡ overLimit edges «error_limit» hits ⌝ }
 {
-    figures::rate(edges, hits) > limit
+    figures::rate(edges, hits) > error_limit
 }
 
 // What is to be beaten: nothing, or a candidate's hits and score.
@@ -72,7 +72,7 @@ pub fn offer(kept: Kept, c: Candidate) -> Kept
     kept
 }
 
-// The kept candidate after one more was offered that is first tested against the limit.
+// The kept candidate after one more was offered that is first tested against the error limit.
 pub fn offer_within(kept: Kept, c: Candidate, asked: Asked) -> Kept
     requires { ⌜ (c .hits ≤ asked .edges) × (asked .edges ≤ 8192) ⌝ }
     ensures { λ r. ⌜ r ≡ offeredWithin (asked .edges) (asked .«error_limit») kept c ⌝ }

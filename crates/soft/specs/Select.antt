@@ -1,11 +1,11 @@
 -- Document 01, 'Soft selection': one list, its likelihood sums built for each transform in the list's order.
 use mathlib.Core.Path.{_≡_}
-use mathlib.Core.Bool.{Bool, true, false}
+use mathlib.Core.Bool.{true, false}
 use mathlib.Core.List.{List}
 use Prim.Native.Nat.{ℕ, zero, suc, _≤_, _<_}
 use lib.ListN.{getD, length}
 use lib.IntN.{ℤ}
-use Rattle.board.specs.Hits.{EdgeList, Board, size}
+use Rattle.board.specs.Hits.{EdgeList, Board}
 use Rattle.board.specs.Sides.{periodOf}
 use Rattle.board.specs.Domain.{ListOk, BoardOk}
 use Rattle.room.specs.Room.{used}

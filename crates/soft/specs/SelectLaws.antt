@@ -1,6 +1,6 @@
 -- Laws of the soft selection on one list: the room after each transform, the scan one transform further, and what both best candidates are, edge by edge.
 use mathlib.Core.Path.{_≡_, refl, sym, ap, ap₂, subst, _∙_}
-use mathlib.Core.Bool.{Bool, true, false}
+use mathlib.Core.Bool.{true, false}
 use mathlib.Core.List.{List}
 use Prim.Native.Nat.{ℕ, zero, suc, _+_, _*_, _/_, _%_, _≤_, _<_}
 use native.Mathlib.Numerals.{add-one}
@@ -9,22 +9,21 @@ use lib.ListN.{getD, length}
 use lib.IntN.{ℤ, pos}
 use Rattle.laws.specs.Part.{view}
 use Rattle.laws.specs.Cleared.{SameBeyond}
-use Rattle.board.specs.Hits.{EdgeList, Board, size}
+use Rattle.board.specs.Hits.{EdgeList, Board}
 use Rattle.board.specs.Sides.{periodOf}
 use Rattle.board.specs.Domain.{ListOk, BoardOk}
-use Rattle.room.specs.Room.{cellsAt, used}
-use Rattle.sums.specs.Sums.{Likelihoods, LikelihoodsOk, sumsOf, score}
+use Rattle.room.specs.Room.{used}
+use Rattle.sums.specs.Sums.{Likelihoods, LikelihoodsOk, score}
 use Rattle.sums.specs.SumsRoom.{SumsReady, SumsBuilt}
 use Rattle.sums.specs.SumsTheorems.{length-sums, sums-small, read-sums, sums-again, key-sum, sum-rooms-equal}
 use Rattle.best.specs.CellTables.{Period}
 use Rattle.grid.specs.BoardGrid.{period-h, period-v}
 use Rattle.pair.specs.Sums.{SumTables, sums, SumsOk}
-use Rattle.margin.specs.Scan.{softEmpty, softFolded, softSelected, softChosen}
+use Rattle.margin.specs.Scan.{softEmpty, softFolded}
 use Rattle.soft.specs.ScanLaws.{soft-selected-none, soft-selected-more, soft-selected-count}
 use Rattle.soft.specs.BestPlacing.{BestTwo}
 use Rattle.soft.specs.BestPlacingLaws.{soft-best}
 use Rattle.margin.specs.declared.slots.SoftScan.{SoftScan}
-use Rattle.margin.specs.declared.slots.SoftChoice.{SoftChoice}
 use Rattle.soft.specs.Select.{sumTables, softScanOf, softSelection, SoftReady, SumRoom, SoftScanned}
 
 -- the two tables in a room: horizontal cells, then vertical cells

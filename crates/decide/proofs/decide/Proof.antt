@@ -1,5 +1,5 @@
 -- The selection's promise, with the gate's verdict on it.
-use mathlib.Core.Path.{_≡_, ap, _∙_}
+use mathlib.Core.Path.{ap, _∙_}
 use denote.Ref.{now}
 use lib.ListN.{length}
 use Rattle.decide.specs.Decide.{gated}

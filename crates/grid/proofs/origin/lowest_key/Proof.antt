@@ -1,13 +1,13 @@
 use borrow.Author.Needs.{needs}
-use Prim.Native.Nat.{_*_, _/_, _≤_, _-_}
-use native.Mathlib.Nat.{mul-le-mul}
+use Prim.Native.Nat.{_≤_, _-_}
+use borrow.Author.Tests.{leb-true}
 use mathlib.Core.Path.{_≡_, refl, sym, _∙_}
 use mathlib.Core.Logic.{⊎-elim}
 use lib.ListN.{length}
 use Rattle.laws.specs.Grid.{origins}
 use Rattle.best.specs.Lex.{optimal}
 use Rattle.grid.specs.RowMajor.{lowest}
-use Rattle.grid.specs.RowMajorLaws.{lowest-no, lowest-new, lowest-old}
+use Rattle.grid.specs.RowMajorLaws.{lowest-no, lowest-yes}
 use native.Mathlib.Omega.{arith}
 use Rattle.grid.specs.RowFloor.{floor-stays}
 use Rattle.grid.proofs.origin.lowest_key.Statement.{statement}
@@ -19,14 +19,11 @@ Inv-loop counts weights top heavy h start periods best₀ v₀ best v = (v ≤ l
 abbrev μ-loop : tie.MeasureT-loop
 μ-loop counts weights top heavy h start periods best₀ v₀ best v = length counts - v
 
-mul-if1 : tie.Need-mul-if1 Inv-loop μ-loop
-mul-if1 c = search needs
-
-mul-if1-2 : tie.Need-mul-if1-2 Inv-loop μ-loop
-mul-if1-2 c = record { fits = omega (arith, mul-le-mul {n₁ = c .before .before .before .args .h / 3} {m₁ = 3 * c .before .before .before .args .periods .v} {n₂ = 500} {m₂ = 1500} (omega (arith, c .before .before .before .pre .0 .2, c .before .before .before .pre .0 .0 .few)) (omega (arith, c .before .before .before .pre .0 .1 .few))) }
+clears-row-requires : tie.Need-clears-row-requires Inv-loop μ-loop
+clears-row-requires c κs = search needs
 
 returns : tie.Need-returns Inv-loop μ-loop
-returns c = let s = c .before .before .before .before in floor-stays (s .args .periods .h) (s .args .periods .v) _ (s .args .h) (s .args .start) _ (s .pre .0 .0) (s .pre .0 .2) (c .if1 .taken)
+returns c = let s = c .before .before .before .before in floor-stays (s .args .periods .h) (s .args .periods .v) _ (s .args .h) (s .args .start) _ (s .pre .0 .0) (s .pre .0 .2) (leb-true _ _ (sym (c .before .clears-row .ensures) ∙ c .if1 .taken))
 
 loop-holds : tie.Need-loop-holds Inv-loop μ-loop
 unfolding lowest
@@ -47,8 +44,8 @@ shared-slice-read-is-optimal-2 c = search needs
 is-optimal-requires : tie.Need-is-optimal-requires Inv-loop μ-loop
 is-optimal-requires c κs = search needs
 
-key-of-requires : tie.Need-key-of-requires Inv-loop μ-loop
-key-of-requires c κs = search needs
+lower-key-requires : tie.Need-lower-key-requires Inv-loop μ-loop
+lower-key-requires c κs = search needs
 
 add-v : tie.Need-add-v Inv-loop μ-loop
 add-v c = search needs
@@ -60,10 +57,8 @@ loop-again : tie.Need-loop-again Inv-loop μ-loop
 loop-again c =
     let inv = c .before .before .before .before .before .loop .inv in
     ⊎-elim
-    (λ w. (omega arith, w .3 ∙ w .1 .ensures ∙ lowest-new _ _ _ _ _ (inv .1) (sym (c .before .is-optimal .ensures) ∙ w .0 .taken) (rw (w .1 .ensures) at (w .2 .taken))))
-    (⊎-elim
-    (λ w. (omega arith, w .3 ∙ lowest-old _ _ _ _ _ (inv .1) (sym (c .before .is-optimal .ensures) ∙ w .0 .taken) (rw (w .1 .ensures) at (w .2 .left))))
-    (λ w. (omega arith, w .1 ∙ lowest-no _ _ _ _ _ (inv .1) (sym (c .before .is-optimal .ensures) ∙ w .0 .left))))
+    (λ w. (omega arith, w .2 ∙ w .1 .ensures ∙ lowest-yes _ _ _ _ _ (inv .1) (sym (c .before .is-optimal .ensures) ∙ w .0 .taken)))
+    (λ w. (omega arith, w .1 ∙ lowest-no _ _ _ _ _ (inv .1) (sym (c .before .is-optimal .ensures) ∙ w .0 .left)))
     (c .if2 .came)
 
 returns-2 : tie.Need-returns-2 Inv-loop μ-loop
@@ -75,8 +70,7 @@ lowest-key-spec =
     (tie.spec
     Inv-loop
     μ-loop
-    mul-if1
-    mul-if1-2
+    clears-row-requires
     returns
     loop-holds
     mul-is-optimal
@@ -84,7 +78,7 @@ lowest-key-spec =
     mul-is-optimal-2
     shared-slice-read-is-optimal-2
     is-optimal-requires
-    key-of-requires
+    lower-key-requires
     add-v
     loop-less
     loop-again

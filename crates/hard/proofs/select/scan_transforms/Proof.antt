@@ -1,13 +1,11 @@
-use mathlib.Core.Path.{_≡_, refl, ap, sym, subst, _∙_}
+use mathlib.Core.Path.{_≡_, subst, _∙_}
 use mathlib.Core.List.{List}
-use Prim.Native.Nat.{ℕ, _+_, _-_, _≤_, _<_}
+use Prim.Native.Nat.{ℕ, _-_, _≤_}
 use native.Mathlib.Omega.{arith}
 use borrow.Author.Needs.{needs}
 use denote.Ref.{now}
 use lib.ListN.{length, getD}
-use lib.Ieee.{Float}
-use Rattle.board.specs.Hits.{EdgeList, Board, edges, tables, size}
-use Rattle.hard.specs.Select.{SelectReady}
+use Rattle.board.specs.Hits.{EdgeList, Board, edges, tables}
 use Rattle.hard.specs.SelectLaws.{ScanDone, scan-none, scan-more, scan-count, rooms-ready, rooms-length, room-ready}
 use Rattle.hard.proofs.select.scan_transforms.Statement.{statement}
 use Rattle.hard.proofs.select.scan_transforms.Tie as tie

@@ -1,8 +1,4 @@
-use mathlib.Core.Path.{ap₂, _∙_}
-use Prim.Native.Nat.{ℕ}
 use borrow.Author.Needs.{needs}
-use Rattle.scan.specs.declared.scan.RunnerUp.{RunnerUp}
-use Rattle.scan.specs.declared.scan.TransformSummary.{TransformSummary}
 use Rattle.hard.specs.Transform.{summaryOf}
 use Rattle.hard.proofs.transform.summary.Statement.{statement}
 use Rattle.hard.proofs.transform.summary.Tie as tie

@@ -1,8 +1,8 @@
 use native.Mathlib.Omega.{arith}
 use borrow.Author.Needs.{needs}
 use mathlib.Core.Path.{_≡_, refl, sym, _∙_}
-use Prim.Native.Nat.{_*_, _/_, _≤_, _-_}
-use native.Mathlib.Nat.{mul-le-mul}
+use Prim.Native.Nat.{_≤_, _-_}
+use borrow.Author.Tests.{leb-true}
 use mathlib.Core.Logic.{⊎-elim}
 use lib.ListN.{length}
 use mir.Syntax.{w64}
@@ -10,7 +10,7 @@ use mir.Val.{toZ, ofZ}
 use mir.Facts.{toZ-ofZ}
 use Rattle.laws.specs.Grid.{origins}
 use Rattle.grid.specs.RowMajor.{lowest}
-use Rattle.grid.specs.RowMajorLaws.{lowest-no, lowest-new, lowest-old}
+use Rattle.grid.specs.RowMajorLaws.{lowest-no, lowest-yes}
 use Rattle.pair.specs.Level.{sAt, tiedSum}
 use Rattle.pair.specs.SumsLaws.{read-eq}
 use Rattle.grid.specs.RowFloor.{floor-stays}
@@ -23,14 +23,11 @@ Inv-loop sums top h start periods best₀ v₀ best v = (v ≤ length sums) × (
 abbrev μ-loop : tie.MeasureT-loop
 μ-loop sums top h start periods best₀ v₀ best v = length sums - v
 
-mul-if1 : tie.Need-mul-if1 Inv-loop μ-loop
-mul-if1 c = search needs
-
-mul-if1-2 : tie.Need-mul-if1-2 Inv-loop μ-loop
-mul-if1-2 c = record { fits = omega (arith, mul-le-mul {n₁ = c .before .args .h / 3} {m₁ = 3 * c .before .args .periods .v} {n₂ = 500} {m₂ = 1500} (omega (arith, c .before .pre .3, c .before .pre .0 .few)) (omega (arith, c .before .pre .1 .few))) }
+clears-row-requires : tie.Need-clears-row-requires Inv-loop μ-loop
+clears-row-requires c κs = search needs
 
 returns : tie.Need-returns Inv-loop μ-loop
-returns c = let s = c .before .before in floor-stays (s .args .periods .h) (s .args .periods .v) _ (s .args .h) (s .args .start) _ (s .pre .0) (s .pre .3) (c .if1 .taken)
+returns c = let s = c .before .before in floor-stays (s .args .periods .h) (s .args .periods .v) _ (s .args .h) (s .args .start) _ (s .pre .0) (s .pre .3) (leb-true _ _ (sym (c .before .clears-row .ensures) ∙ c .if1 .taken))
 
 loop-holds : tie.Need-loop-holds Inv-loop μ-loop
 unfolding lowest
@@ -45,8 +42,8 @@ shared-slice-copy-out-is-tied c = search needs
 is-tied-requires : tie.Need-is-tied-requires Inv-loop μ-loop
 is-tied-requires c κs = search needs
 
-key-of-requires : tie.Need-key-of-requires Inv-loop μ-loop
-key-of-requires c κs = search needs
+lower-key-requires : tie.Need-lower-key-requires Inv-loop μ-loop
+lower-key-requires c κs = search needs
 
 add-v : tie.Need-add-v Inv-loop μ-loop
 add-v c = search needs
@@ -59,10 +56,8 @@ loop-again c =
     let at = c .before .before .before .before in
     let said = read-eq (sAt (at .before .before .before .args .sums .now) (at .loop .v)) (toZ w64 (ofZ w64 (at .before .before .before .args .top))) (c .before .is-tied .result) (c .before .before .is-tied-arg .given) (c .before .is-tied .ensures) in
     ⊎-elim
-    (λ w. (omega arith, w .3 ∙ w .1 .ensures ∙ lowest-new _ _ _ _ _ (at .loop .inv .1) (sym said ∙ w .0 .taken) (rw (w .1 .ensures) at (w .2 .taken))))
-    (⊎-elim
-    (λ w. (omega arith, w .3 ∙ lowest-old _ _ _ _ _ (at .loop .inv .1) (sym said ∙ w .0 .taken) (rw (w .1 .ensures) at (w .2 .left))))
-    (λ w. (omega arith, w .1 ∙ lowest-no _ _ _ _ _ (at .loop .inv .1) (sym said ∙ w .0 .left))))
+    (λ w. (omega arith, w .2 ∙ w .1 .ensures ∙ lowest-yes _ _ _ _ _ (at .loop .inv .1) (sym said ∙ w .0 .taken)))
+    (λ w. (omega arith, w .1 ∙ lowest-no _ _ _ _ _ (at .loop .inv .1) (sym said ∙ w .0 .left)))
     (c .if2 .came)
 
 returns-2 : tie.Need-returns-2 Inv-loop μ-loop
@@ -76,14 +71,13 @@ lowest-tied-key-spec =
     (tie.spec
     Inv-loop
     μ-loop
-    mul-if1
-    mul-if1-2
+    clears-row-requires
     returns
     loop-holds
     mul-is-tied
     shared-slice-copy-out-is-tied
     is-tied-requires
-    key-of-requires
+    lower-key-requires
     add-v
     loop-less
     loop-again

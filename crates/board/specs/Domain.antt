@@ -4,7 +4,7 @@ use mathlib.Core.Logic.{_≢_}
 use mathlib.Core.List.{List}
 use Prim.Native.Nat.{ℕ, _%_, _≤_, _<_}
 use lib.ListN.{getD, length}
-use lib.IntN.{pos, natAbs}
+use lib.IntN.{ℤ, pos, natAbs}
 use Rattle.laws.specs.Weights.{Weight}
 use lib.Ieee.{nan}
 use Rattle.board.specs.declared.edge.Edge.{Edge}
@@ -17,15 +17,19 @@ pub record EdgeOk (e : Edge) (t : ℕ) : Type 0 where
   pub bit : e .bit < 2
   pub transform : t < 8
 
--- the edges of a list, whatever its confidences: at most 8,192, the columns equally long, each edge in range
-pub record EdgesOk (E : EdgeList) : Type 0 where
-  pub few : size E ≤ 8192
-  pub cols : length (E .cols) ≡ size E
-  pub orientations : length (E .orientations) ≡ size E
-  pub bits : length (E .bits) ≡ size E
-  pub near-row : (i : ℕ) → i < size E → natAbs (getD (E .rows) i (pos 0)) ≤ 1000000
-  pub near-col : (i : ℕ) → i < size E → natAbs (getD (E .cols) i (pos 0)) ≤ 1000000
-  pub bit : (i : ℕ) → i < size E → seen E i < 2
+-- the edges of a list, a column for each field: at most 8,192, the columns equally long, each edge in range
+pub record ColumnsOk (r c : List ℤ) (o b : List ℕ) : Type 0 where
+  pub few : length r ≤ 8192
+  pub cols : length c ≡ length r
+  pub orientations : length o ≡ length r
+  pub bits : length b ≡ length r
+  pub near-row : (i : ℕ) → i < length r → natAbs (getD r i (pos 0)) ≤ 1000000
+  pub near-col : (i : ℕ) → i < length r → natAbs (getD c i (pos 0)) ≤ 1000000
+  pub bit : (i : ℕ) → i < length r → getD b i 0 < 2
+
+-- of a list, whatever its confidences
+abbrev pub EdgesOk : EdgeList → Type 0
+EdgesOk E = ColumnsOk (E .rows) (E .cols) (E .orientations) (E .bits)
 
 -- a list: at most 8,192 edges, its fields equally long, each edge in range, "Confidence is an f32 from 0 to 1. Negative zero counts as 0."
 pub record ListOk (E : EdgeList) : Type 0 where

@@ -1,25 +1,13 @@
--- Edges of accepted lists: they are accepted with confidences or without, and each of them by value.
+-- Edges of accepted lists: they are accepted whatever the confidences, and each of them by value.
 use mathlib.Core.Path.{_≡_}
 use Prim.Native.Nat.{ℕ, _<_}
 use Rattle.board.specs.declared.edge.Edge.{Edge}
-use Rattle.board.specs.Hits.{EdgeList, size, bare, edgeAt}
+use Rattle.board.specs.Hits.{EdgeList, size, edgeAt}
 use Rattle.board.specs.Domain.{EdgeOk, EdgesOk, ListOk}
 
 -- of an accepted list
 pub edges-ok : (E : EdgeList) → ListOk E → EdgesOk E
 edges-ok E ok = record {
-  few = ok .few;
-  cols = ok .cols;
-  orientations = ok .orientations;
-  bits = ok .bits;
-  near-row = ok .near-row;
-  near-col = ok .near-col;
-  bit = ok .bit;
-}
-
--- without confidences
-pub bare-ok : (E : EdgeList) → EdgesOk E → EdgesOk (bare E)
-bare-ok E ok = record {
   few = ok .few;
   cols = ok .cols;
   orientations = ok .orientations;

@@ -104,15 +104,15 @@ abbrev pub gainW : Board → Bool → ℕ → ℕ → List ℕ → List Float �
 gainW B s f from c w k = termW 6 (placesN from c) (placesF from w) (cellPattern B s f k) (shortClass B s k)
 
 -- the steps are the side's, and the family is one of it
-pub record FamilyPlaces (B : Board) (s : Bool) (f stride across : ℕ) : Type 0 where
+pub record FamilyPlaces (B : Board) (d : Side) (f : ℕ) : Type 0 where
   pub board : BoardOk B
-  pub steps : (stride ≡ strideOf s) × (across ≡ acrossOf (periodOf B false) s)
-  pub in-table : f < periodOf B s
+  pub steps : (d .stride ≡ strideOf (isHorizontal d)) × (d .across ≡ acrossOf (periodOf B false) (isHorizontal d))
+  pub in-table : f < periodOf B (isHorizontal d)
 
 -- a family of the side d: its six groups and the side's cells are in the room, each count has room for its term, and no weight of the cells has a minus sign (so that adding +0
 -- changes no bit of it)
 pub record FamilyReady (B : Board) (d : Side) (f : ℕ) (c : List ℕ) (w : List Float) : Type 0 where
-  pub places : FamilyPlaces B (isHorizontal d) f (d .stride) (d .across)
+  pub places : FamilyPlaces B d f
   pub six : Six (d .groups + f * 6) c w
   pub room : (d .cells + 3 * periodOf B (isHorizontal d) ≤ length c) × (d .cells + 3 * periodOf B (isHorizontal d) ≤ length w)
   pub fits : (k : ℕ) → k < 3 * periodOf B (isHorizontal d) → placesN (d .cells) c k + gainC B (isHorizontal d) f (d .groups + f * 6) c k < 2 ^ 32

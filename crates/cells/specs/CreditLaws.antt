@@ -291,12 +291,6 @@ module _ (B : Board) (d : Side) (f : ℕ) (c : List ℕ) (w : List Float) (R : F
   abbrev s : Bool
   s = isHorizontal d
 
-  abbrev stride : ℕ
-  stride = d .stride
-
-  abbrev across : ℕ
-  across = d .across
-
   abbrev cells : ℕ
   cells = d .cells
 
@@ -315,7 +309,7 @@ module _ (B : Board) (d : Side) (f : ℕ) (c : List ℕ) (w : List Float) (R : F
 
   gains : (k : ℕ) → k < 3 * periodOf B s → entry noTerm t (cellPattern B s f k) (shortClass B s k) ≡ gain k
   gains k h =
-      terms-at (placesN (groups + f * 6) c) (placesF (groups + f * 6) w) t (cellPattern B s f k) (shortClass B s k) T (pattern-small B s f stride across cells (R .places) (longClass B s k + f)) (short-below B (side-some B (R .places .board)) k s h)
+      terms-at (placesN (groups + f * 6) c) (placesF (groups + f * 6) w) t (cellPattern B s f k) (shortClass B s k) T (pattern-small B d f (R .places) (longClass B s k + f)) (short-below B (side-some B (R .places .board)) k s h)
 
   abbrev Room : ℕ → FamilyTerm → Type 0
   Room k x = getD c k 0 + x .count < 2 ^ 32
@@ -324,39 +318,39 @@ module _ (B : Board) (d : Side) (f : ℕ) (c : List ℕ) (w : List Float) (R : F
   unfolding term
   room k h = R .fits k h
 
-  standing : Standing stride across
+  standing : Standing (d .stride) (d .across)
   standing = rw (R .places .steps .0, R .places .steps .1) (of s)
     where
       of : (s : Bool) → Standing (strideOf s) (acrossOf (periodOf B false) s)
       of true = inl (refl, refl)
       of false = inr refl
 
-  pub first-ready : (n : ℕ) → n ≡ n₁ → RunReady t (drop f ps) n cells stride across c w
+  pub first-ready : (n : ℕ) → n ≡ n₁ → RunReady t (drop f ps) n cells (d .stride) (d .across) c w
   first-ready n e = rw e (record {
     standing = standing;
-    places = first-places B s f stride across cells (R .places);
-    inside = λ j h. (first-inside B s f stride across cells (R .places) (length c) (R .room .0) j h, first-inside B s f stride across cells (R .places) (length w) (R .room .1) j h);
-    fits = first-holds B s f stride across cells (R .places) noTerm t gain gains Room room;
+    places = first-places B d f (R .places);
+    inside = λ j h. (first-inside B d f (R .places) (length c) (R .room .0) j h, first-inside B d f (R .places) (length w) (R .room .1) j h);
+    fits = first-holds B d f (R .places) noTerm t gain gains Room room;
   })
 
   -- the second run, after the first
-  module _ (c₁ : List ℕ) (w₁ : List Float) (r₁ : RunCredited t (drop f ps) n₁ cells stride across c c₁ w w₁) where
-    pub second-ready : (at : ℕ) → at ≡ cells + n₁ * stride → RunReady t (drop 0 ps) f at stride across c₁ w₁
+  module _ (c₁ : List ℕ) (w₁ : List Float) (r₁ : RunCredited t (drop f ps) n₁ cells (d .stride) (d .across) c c₁ w w₁) where
+    pub second-ready : (at : ℕ) → at ≡ cells + n₁ * d .stride → RunReady t (drop 0 ps) f at (d .stride) (d .across) c₁ w₁
     second-ready at e = rw e (record {
       standing = standing;
-      places = second-places B s f stride across cells (R .places);
+      places = second-places B d f (R .places);
       inside = λ j h. (
-        second-inside B s f stride across cells (R .places) (length c₁) (omega (arith, R .room .0, r₁ .counts .len)) j h,
-        second-inside B s f stride across cells (R .places) (length w₁) (omega (arith, R .room .1, r₁ .weights .len)) j h,
+        second-inside B d f (R .places) (length c₁) (omega (arith, R .room .0, r₁ .counts .len)) j h,
+        second-inside B d f (R .places) (length w₁) (omega (arith, R .room .1, r₁ .weights .len)) j h,
       );
       fits = λ j h.
-          rw (second-place B s f stride across cells (R .places), r₁ .counts .rest (cells + stand B s (n₁ * 3 + j)) (second-fresh B s f stride across cells (R .places) j h))
-          (second-holds B s f stride across cells (R .places) noTerm t gain gains Room room j h);
+          rw (second-place B d f (R .places), r₁ .counts .rest (cells + stand B s (n₁ * 3 + j)) (second-fresh B d f (R .places) j h))
+          (second-holds B d f (R .places) noTerm t gain gains Room room j h);
     })
 
-    pub family-credited : (c₂ : List ℕ) (w₂ : List Float) → RunCredited t (drop 0 ps) f (cells + n₁ * stride) stride across c₁ c₂ w₁ w₂ → FamilyCredited B d f c c₂ w w₂
+    pub family-credited : (c₂ : List ℕ) (w₂ : List Float) → RunCredited t (drop 0 ps) f (cells + n₁ * d .stride) (d .stride) (d .across) c₁ c₂ w₁ w₂ → FamilyCredited B d f c c₂ w w₂
     unfolding term
     family-credited c₂ w₂ r₂ = record {
-      counts = family-zone B s f stride across cells (R .places) noTerm t gain gains 0 _+_ (λ x. x .count) c c₁ c₂ (r₁ .counts) (r₂ .counts);
-      weights = family-zone B s f stride across cells (R .places) noTerm t gain gains nan (add binary32) (λ x. x .weight) w w₁ w₂ (r₁ .weights) (r₂ .weights);
+      counts = family-zone B d f (R .places) noTerm t gain gains 0 _+_ (λ x. x .count) c c₁ c₂ (r₁ .counts) (r₂ .counts);
+      weights = family-zone B d f (R .places) noTerm t gain gains nan (add binary32) (λ x. x .weight) w w₁ w₂ (r₁ .weights) (r₂ .weights);
     }

@@ -16,7 +16,8 @@ use Rattle.board.specs.HitsLaws.{side-some}
 use Rattle.cells.specs.Spread.{Spread, spread-more, spread-ext, spread-then, spread-zone}
 use Rattle.cells.specs.Cells.{shortClass, patternAt}
 use Rattle.cells.specs.Credit.{runPlace, entry, runTerm, RunPlaces, cellPattern, FamilyPlaces}
-use Rattle.room.specs.Room.{strideOf, acrossOf}
+use Rattle.room.specs.declared.Side.{Side}
+use Rattle.room.specs.Room.{isHorizontal, strideOf, acrossOf}
 use Rattle.cells.specs.LayoutLaws.{stand, turn, stand-in, stand-apart, turn-in, turn-long, turn-short, stand-turn, turn-stand}
 
 -- ---- a run, cell by cell
@@ -78,7 +79,19 @@ after-long n j = omega arith
 pub after-short : (n j : ℕ) → (n * 3 + j) % 3 ≡ j % 3
 after-short n j = omega arith
 
-module _ (B : Board) (s : Bool) (f stride across cells : ℕ) (R : FamilyPlaces B s f stride across) where
+module _ (B : Board) (d : Side) (f : ℕ) (R : FamilyPlaces B d f) where
+  abbrev s : Bool
+  s = isHorizontal d
+
+  abbrev stride : ℕ
+  stride = d .stride
+
+  abbrev across : ℕ
+  across = d .across
+
+  abbrev cells : ℕ
+  cells = d .cells
+
   abbrev ps : List ℕ
   ps = tableOf B s
 
@@ -160,21 +173,21 @@ module _ (B : Board) (s : Bool) (f stride across cells : ℕ) (R : FamilyPlaces 
       past e = omega arith
 
   -- ---- the family's terms, from a table of terms whose entry for cell k is T k
-  module _ {X : Type 0} (d : X) (t : List (List X)) (T : ℕ → X) (e : (k : ℕ) → k < 3 * periodOf B s → entry d t (cellPattern B s f k) (shortClass B s k) ≡ T k) where
+  module _ {X : Type 0} (past-end : X) (t : List (List X)) (T : ℕ → X) (e : (k : ℕ) → k < 3 * periodOf B s → entry past-end t (cellPattern B s f k) (shortClass B s k) ≡ T k) where
     -- the term of the j-th cell
     abbrev familyTerm : ℕ → X
-    familyTerm j = entry d t (patternAt ps (j / 3) f) (j % 3)
+    familyTerm j = entry past-end t (patternAt ps (j / 3) f) (j % 3)
 
-    first-term : (j : ℕ) → j < n₁ * 3 → runTerm d t (drop f ps) j ≡ familyTerm j
+    first-term : (j : ℕ) → j < n₁ * 3 → runTerm past-end t (drop f ps) j ≡ familyTerm j
     unfolding runTerm
-    first-term j h = ap (λ (p : ℕ). entry d t p (j % 3)) (first-reads ps f (R .in-table) (j / 3) (third j n₁ h))
+    first-term j h = ap (λ (p : ℕ). entry past-end t p (j % 3)) (first-reads ps f (R .in-table) (j / 3) (third j n₁ h))
 
-    second-term : (j : ℕ) → j < f * 3 → runTerm d t (drop 0 ps) j ≡ familyTerm (n₁ * 3 + j)
+    second-term : (j : ℕ) → j < f * 3 → runTerm past-end t (drop 0 ps) j ≡ familyTerm (n₁ * 3 + j)
     unfolding runTerm
-    second-term j h = ap (λ (p : ℕ). entry d t p (j % 3)) (second-reads ps f (R .in-table) (j / 3) (third j f h)) ∙ sym (rw (after-long n₁ j, after-short n₁ j))
+    second-term j h = ap (λ (p : ℕ). entry past-end t p (j % 3)) (second-reads ps f (R .in-table) (j / 3) (third j f h)) ∙ sym (rw (after-long n₁ j, after-short n₁ j))
 
     turn-term : (k : ℕ) → k < 3 * periodOf B s → familyTerm (turn B s k) ≡ T k
-    turn-term k h = let some = side-some B (R .board) in ap₂ (λ (x y : ℕ). entry d t (patternAt ps x f) y) (turn-long B some k s h) (turn-short B some k s h) ∙ e k h
+    turn-term k h = let some = side-some B (R .board) in ap₂ (λ (x y : ℕ). entry past-end t (patternAt ps x f) y) (turn-long B some k s h) (turn-short B some k s h) ∙ e k h
 
     stand-term : (j : ℕ) → j < 3 * periodOf B s → T (stand B s j) ≡ familyTerm j
     stand-term j h = sym (turn-term (stand B s j) (stand-in B j s h)) ∙ ap familyTerm (turn-stand B j s h)
@@ -184,16 +197,16 @@ module _ (B : Board) (s : Bool) (f stride across cells : ℕ) (R : FamilyPlaces 
       at-stand : (j : ℕ) → j < 3 * periodOf B s → Q (cells + stand B s j) (familyTerm j)
       at-stand j h = subst (Q (cells + stand B s j)) (stand-term j h) (all (stand B s j) (stand-in B j s h))
 
-      pub first-holds : (j : ℕ) → j < n₁ * 3 → Q (runPlace cells stride across j) (runTerm d t (drop f ps) j)
+      pub first-holds : (j : ℕ) → j < n₁ * 3 → Q (runPlace cells stride across j) (runTerm past-end t (drop f ps) j)
       first-holds j h = rw (first-place, first-term j h) (at-stand j (first-in j h))
 
-      pub second-holds : (j : ℕ) → j < f * 3 → Q (cells + stand B s (n₁ * 3 + j)) (runTerm d t (drop 0 ps) j)
+      pub second-holds : (j : ℕ) → j < f * 3 → Q (cells + stand B s (n₁ * 3 + j)) (runTerm past-end t (drop 0 ps) j)
       second-holds j h = rw (second-term j h) (at-stand (n₁ * 3 + j) (second-in j h))
 
     -- ---- both runs: every cell has its term added
     module _ {A : Type 0} (z : A) (op : A → A → A) (of : X → A) (old mid new : List A)
-        (a : Spread z op (runPlace cells stride across) (λ j. of (runTerm d t (drop f ps) j)) (n₁ * 3) old mid)
-        (b : Spread z op (runPlace (cells + n₁ * stride) stride across) (λ j. of (runTerm d t (drop 0 ps) j)) (f * 3) mid new) where
+        (a : Spread z op (runPlace cells stride across) (λ j. of (runTerm past-end t (drop f ps) j)) (n₁ * 3) old mid)
+        (b : Spread z op (runPlace (cells + n₁ * stride) stride across) (λ j. of (runTerm past-end t (drop 0 ps) j)) (f * 3) mid new) where
       whole : n₁ * 3 + f * 3 ≡ 3 * periodOf B s
       whole = omega (arith, R .in-table)
 

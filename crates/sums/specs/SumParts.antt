@@ -91,7 +91,7 @@ gainZ B s f from also a k = termZ 6 (placesZ from a) (placesZ also a) (cellPatte
 
 -- what a family can be credited from: its places, its twelve groups, and room for the cells
 pub record FamilyReadyZ (B : Board) (d : Side) (also f : ℕ) (a : List ℤ) : Type 0 where
-  pub places : FamilyPlaces B (isHorizontal d) f (d .stride) (d .across)
+  pub places : FamilyPlaces B d f
   pub twelve : Twelve (d .groups + f * 6) (also + f * 6) a
   pub room : d .cells + 3 * periodOf B (isHorizontal d) ≤ length a
   pub fits : (k : ℕ) → k < 3 * periodOf B (isHorizontal d) → natAbs (placesZ (d .cells) a k +ℤ gainZ B (isHorizontal d) f (d .groups + f * 6) (also + f * 6) a k) < 2 ^ 63

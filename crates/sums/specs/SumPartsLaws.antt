@@ -172,12 +172,6 @@ module _ (B : Board) (d : Side) (also f : ℕ) (a : List ℤ) (R : FamilyReadyZ 
   abbrev s : Bool
   s = isHorizontal d
 
-  abbrev stride : ℕ
-  stride = d .stride
-
-  abbrev across : ℕ
-  across = d .across
-
   abbrev cells : ℕ
   cells = d .cells
 
@@ -195,31 +189,31 @@ module _ (B : Board) (d : Side) (also f : ℕ) (a : List ℤ) (R : FamilyReadyZ 
 
   gains : (k : ℕ) → k < 3 * periodOf B s → entry (pos 0) t (cellPattern B s f k) (shortClass B s k) ≡ gain k
   gains k h =
-      terms-atZ (placesZ (from + f * 6) a) (placesZ (also + f * 6) a) t (cellPattern B s f k) (shortClass B s k) T (pattern-small B s f stride across cells (R .places) (longClass B s k + f)) (short-below B (side-some B (R .places .board)) k s h)
+      terms-atZ (placesZ (from + f * 6) a) (placesZ (also + f * 6) a) t (cellPattern B s f k) (shortClass B s k) T (pattern-small B d f (R .places) (longClass B s k + f)) (short-below B (side-some B (R .places .board)) k s h)
 
   abbrev Room : ℕ → ℤ → Type 0
   Room k x = natAbs (getD a k (pos 0) +ℤ x) < 2 ^ 63
 
-  pub first-readyZ : (n : ℕ) → n ≡ n₁ → RunReadyZ t (drop f ps) n cells stride across a
+  pub first-readyZ : (n : ℕ) → n ≡ n₁ → RunReadyZ t (drop f ps) n cells (d .stride) (d .across) a
   first-readyZ n e = rw e (record {
-    places = first-places B s f stride across cells (R .places);
-    inside = first-inside B s f stride across cells (R .places) (length a) (R .room);
-    fits = first-holds B s f stride across cells (R .places) (pos 0) t gain gains Room (R .fits);
+    places = first-places B d f (R .places);
+    inside = first-inside B d f (R .places) (length a) (R .room);
+    fits = first-holds B d f (R .places) (pos 0) t gain gains Room (R .fits);
   })
 
   -- the second run, after the first
-  module _ (a₁ : List ℤ) (r₁ : RunCreditedZ t (drop f ps) n₁ cells stride across a a₁) where
-    pub second-readyZ : (at : ℕ) → at ≡ cells + n₁ * stride → RunReadyZ t (drop 0 ps) f at stride across a₁
+  module _ (a₁ : List ℤ) (r₁ : RunCreditedZ t (drop f ps) n₁ cells (d .stride) (d .across) a a₁) where
+    pub second-readyZ : (at : ℕ) → at ≡ cells + n₁ * d .stride → RunReadyZ t (drop 0 ps) f at (d .stride) (d .across) a₁
     second-readyZ at e = rw e (record {
-      places = second-places B s f stride across cells (R .places);
-      inside = second-inside B s f stride across cells (R .places) (length a₁) (omega (arith, R .room, r₁ .len));
+      places = second-places B d f (R .places);
+      inside = second-inside B d f (R .places) (length a₁) (omega (arith, R .room, r₁ .len));
       fits = λ j h.
-          rw (second-place B s f stride across cells (R .places), r₁ .rest (cells + stand B s (n₁ * 3 + j)) (second-fresh B s f stride across cells (R .places) j h))
-          (second-holds B s f stride across cells (R .places) (pos 0) t gain gains Room (R .fits) j h);
+          rw (second-place B d f (R .places), r₁ .rest (cells + stand B s (n₁ * 3 + j)) (second-fresh B d f (R .places) j h))
+          (second-holds B d f (R .places) (pos 0) t gain gains Room (R .fits) j h);
     })
 
-    pub family-creditedZ : (a₂ : List ℤ) → RunCreditedZ t (drop 0 ps) f (cells + n₁ * stride) stride across a₁ a₂ → FamilyCreditedZ B d also f a a₂
-    family-creditedZ a₂ r₂ = family-zone B s f stride across cells (R .places) (pos 0) t gain gains (pos 0) _+ℤ_ (λ x. x) a a₁ a₂ r₁ r₂
+    pub family-creditedZ : (a₂ : List ℤ) → RunCreditedZ t (drop 0 ps) f (cells + n₁ * d .stride) (d .stride) (d .across) a₁ a₂ → FamilyCreditedZ B d also f a a₂
+    family-creditedZ a₂ r₂ = family-zone B d f (R .places) (pos 0) t gain gains (pos 0) _+ℤ_ (λ x. x) a a₁ a₂ r₁ r₂
 
 -- ---- a family whose twelve sums are all 0: nothing is stored
 module _ (m u : ℕ → ℤ) where

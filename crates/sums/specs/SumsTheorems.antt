@@ -17,7 +17,6 @@ use Rattle.laws.specs.Residues.{joint-long, joint-short}
 use Rattle.board.specs.Hits.{EdgeList, Board, size, bare, look, horizontal, hit}
 use Rattle.board.specs.Sides.{is, onSide, periodOf}
 use Rattle.board.specs.Domain.{ListOk, BoardOk}
-use Rattle.board.specs.DomainLaws.{bare-ok}
 use Rattle.board.specs.HitsLaws.{side-some}
 use Rattle.likelihood.specs.SumLaws.{pair-size}
 use Rattle.groups.specs.Groups.{groupAt}
@@ -115,7 +114,7 @@ sums-cleared B E X t a a' R D = laid-cleared _ _ _ _ _ (pos 0) a a' (R .room) D
 -- ---- a list with its confidences and the same list without them have the same sums: what `build_sums`, which takes none, is asked and gives
 pub bare-ready : (B : Board) (E : EdgeList) (X : Likelihoods) (t : ℕ) (a : List ℤ) → SumsReady B E X t a → SumsReady B (bare E) X t a
 bare-ready B E X t a R = record {
-  list = bare-ok E (R .list);
+  list = R .list;
   likelihoods = record { matches = R .likelihoods .matches; mismatches = R .likelihoods .mismatches; match = R .likelihoods .match; mismatch = R .likelihoods .mismatch };
   board = R .board;
   transform = R .transform;

@@ -4,7 +4,7 @@ use refusals::Refusal;
 
 // A transform by number, with an origin on the board.
 pub struct Square {
-    pub transform: u32,
+    pub transform: u8,
     pub row: u32,
     pub col: u32,
 }

@@ -7,14 +7,29 @@ use lib.ListN.{getD, length}
 use lib.IntN.{ℤ, pos, natAbs}
 use Rattle.laws.specs.Weights.{Weight}
 use lib.Ieee.{nan}
+use Rattle.board.specs.declared.edge.Edge.{Edge}
 use Rattle.board.specs.Hits.{EdgeList, Board, size, seen}
 
 -- one edge under a transform: "Row and column are from -1,000,000 to 1,000,000 .. Bit is 0 or 1", transform numbers "each 0 to 7"
-pub record EdgeOk (row col : ℤ) (b t : ℕ) : Type 0 where
-  pub near-row : natAbs row ≤ 1000000
-  pub near-col : natAbs col ≤ 1000000
-  pub bit : b < 2
+pub record EdgeOk (e : Edge) (t : ℕ) : Type 0 where
+  pub near-row : natAbs (e .row) ≤ 1000000
+  pub near-col : natAbs (e .col) ≤ 1000000
+  pub bit : e .bit < 2
   pub transform : t < 8
+
+-- the edges of a list, a column for each field: at most 8,192, the columns equally long, each edge in range
+pub record ColumnsOk (r c : List ℤ) (o b : List ℕ) : Type 0 where
+  pub few : length r ≤ 8192
+  pub cols : length c ≡ length r
+  pub orientations : length o ≡ length r
+  pub bits : length b ≡ length r
+  pub near-row : (i : ℕ) → i < length r → natAbs (getD r i (pos 0)) ≤ 1000000
+  pub near-col : (i : ℕ) → i < length r → natAbs (getD c i (pos 0)) ≤ 1000000
+  pub bit : (i : ℕ) → i < length r → getD b i 0 < 2
+
+-- of a list, whatever its confidences
+abbrev pub EdgesOk : EdgeList → Type 0
+EdgesOk E = ColumnsOk (E .rows) (E .cols) (E .orientations) (E .bits)
 
 -- a list: at most 8,192 edges, its fields equally long, each edge in range, "Confidence is an f32 from 0 to 1. Negative zero counts as 0."
 pub record ListOk (E : EdgeList) : Type 0 where

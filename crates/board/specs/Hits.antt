@@ -1,7 +1,7 @@
 -- Document 01, 'Transforms and lookup', last paragraph: what the board predicts of an edge, and the hits of a placing, counted edge by edge.
 -- The quotes are the document's, with 167 read as the table's length.
 use Prim.Native.Nat.{ℕ, _/_, _%_, _^_, _≤_, _<_}
-use mathlib.Core.List.{List}
+use mathlib.Core.List.{List, []}
 use mathlib.Core.Bool.{Bool, not, cond}
 use lib.Dec.{eqb}
 use lib.ListN.{getD, length}
@@ -9,6 +9,8 @@ use lib.IntN.{ℤ, pos, _+ℤ_}
 use lib.Ieee.{Float}
 use Rattle.laws.specs.Fold.{count}
 use Rattle.laws.specs.Remainder.{emod}
+use Rattle.answer.specs.declared.Square.{Square}
+use Rattle.board.specs.declared.edge.Edge.{Edge}
 use Rattle.board.specs.declared.edge.Placing.{Placing}
 use Rattle.board.specs.declared.transform.EdgeLookup.{EdgeLookup}
 use Rattle.board.specs.Transform.{lookupOf}
@@ -30,6 +32,10 @@ pub record Board : Type 0 where
 abbrev pub edges : List ℤ → List ℤ → List ℕ → List ℕ → List Float → EdgeList
 edges r c o b w = record { rows = r; cols = c; orientations = o; bits = b; confidences = w }
 
+-- the edges without their confidences
+abbrev pub bare : EdgeList → EdgeList
+bare E = edges (E .rows) (E .cols) (E .orientations) (E .bits) []
+
 -- two pattern tables as one board
 abbrev pub tables : List ℕ → List ℕ → Board
 tables h v = record { h = h; v = v }
@@ -41,6 +47,10 @@ size E = length (E .rows)
 -- the bit that was seen at edge i
 abbrev pub seen : EdgeList → ℕ → ℕ
 seen E i = getD (E .bits) i 0
+
+-- edge i, by value
+abbrev pub edgeAt : EdgeList → ℕ → Edge
+edgeAt E i = record { row = getD (E .rows) i (pos 0); col = getD (E .cols) i (pos 0); orientation = getD (E .orientations) i 0; bit = seen E i }
 
 -- edge i looked up under the transform t
 unfoldable pub look : EdgeList → ℕ → ℕ → EdgeLookup
@@ -65,7 +75,11 @@ predicted B l r c =
     (patternBit (B .h) (l .row +ℤ pos r) (l .col +ℤ pos c))
     (patternBit (B .v) (l .col +ℤ pos c) (l .row +ℤ pos r))
 
--- "A hit is an equal bit": whether edge i is a hit under the transform t at the origin (r, c)
+-- "A hit is an equal bit": whether one edge, by value, is a hit at a square
+unfoldable pub edgeHit : Board → Edge → Square → Bool
+edgeHit B e q = eqb (predicted B (lookupOf (q .transform) (e .row) (e .col) (e .orientation)) (q .row) (q .col)) (e .bit)
+
+-- whether edge i is a hit under the transform t at the origin (r, c)
 unfoldable pub hit : Board → EdgeList → ℕ → ℕ → ℕ → ℕ → Bool
 hit B E t r c i = eqb (predicted B (look E t i) r c) (seen E i)
 

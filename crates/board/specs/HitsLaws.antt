@@ -15,7 +15,7 @@ use Rattle.laws.specs.Counting.{count-le}
 use Rattle.laws.specs.DoubleCounting.{fold-ext, fold-split}
 use Rattle.laws.specs.RemainderLaws.{emod-class}
 use Rattle.laws.specs.Residues.{joint, joint-long, joint-short}
-use Rattle.board.specs.Hits.{EdgeList, Board, size, seen, look, horizontal, bitAt, patternBit, predicted, hit, hits, misses}
+use Rattle.board.specs.Hits.{EdgeList, Board, size, seen, edgeAt, look, horizontal, bitAt, patternBit, predicted, edgeHit, hit, hits, misses}
 use Rattle.board.specs.Sides.{is, onSide, tableOf, periodOf, longOf, shortOf, sideHits}
 use Rattle.board.specs.Domain.{Patterns, BoardOk}
 
@@ -43,6 +43,11 @@ module _ (B : Board) (E : EdgeList) (t : ℕ) where
   pub hits-le : (r c : ℕ) → hits B E t r c ≤ size E
   unfolding hits
   hits-le r c = count-le (hit B E t r c) (size E)
+
+  -- ---- an edge of the list, by value
+  pub hit-edge : (r c i : ℕ) → edgeHit B (edgeAt E i) (record { transform = t; row = r; col = c }) ≡ hit B E t r c i
+  unfolding edgeHit hit look
+  hit-edge r c i = refl
 
   -- ---- an edge of the side s: its bit against the pattern's
   pub hit-side : (s : Bool) (r c i : ℕ) → onSide E t s i ≡ true

@@ -3,5 +3,6 @@ pub mod TransformLaws
 pub mod Hits
 pub mod Sides
 pub mod Domain
+pub mod DomainLaws
 pub mod HitsLaws
 pub mod Numbers

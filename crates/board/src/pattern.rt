@@ -3,11 +3,13 @@ ghost use mathlib.Core.Path.{_≡_};
 ghost use Prim.Native.Nat.{_<_, _≤_};
 ghost use lib.Dec.{eqb};
 ghost use lib.ListN.{length, drop};
-ghost use Rattle.board.specs.Transform.{matrixOf, lookupOf};
-ghost use Rattle.board.specs.Hits.{tables, bitAt, predicted};
+ghost use Rattle.board.specs.Transform.{matrixOf};
+ghost use Rattle.board.specs.Hits.{tables, bitAt, predicted, edgeHit};
 ghost use Rattle.board.specs.Sides.{tableOf};
 ghost use Rattle.board.specs.Domain.{EdgeOk, BoardOk};
+use crate::edge::Edge;
 use crate::transform::EdgeLookup;
+use answer::Square;
 
 // Bit j of a three-bit pattern, by shift and mask.
 pub fn pattern_bit(pattern: u8, j: u32) -> u8
@@ -48,24 +50,19 @@ fn predicted_bit<'a>(h: &'a [u8], v: &'a [u8], l: EdgeLookup, r: u32, c: u32) ->
     }
 }
 
-// Whether an edge is a hit under the transform t, whose matrix is given, at the origin (r, c): its bit is the predicted one.
+// Whether an edge is a hit at a square, that is under its transform, whose matrix is given, at its origin: the edge's bit is the predicted one.
 pub fn is_hit<'a>(
     h: &'a [u8],
     v: &'a [u8],
-    row: i32,
-    col: i32,
-    orientation: u8,
-    bit: u8,
-    t: u8,
+    edge: Edge,
+    square: Square,
     matrix: [[i32; 2]; 2],
-    r: u32,
-    c: u32,
 ) -> bool
     requires { ⌜ BoardOk (tables (now h) (now v)) ⌝ }
-    requires { ⌜ EdgeOk row col bit t × (matrix ≡ matrixOf t) ⌝ }
-    requires { ⌜ (r ≤ 1500) × (c ≤ 1500) ⌝ }
-    ensures { λ b. ⌜ b ≡ eqb (predicted (tables (now (h .entry)) (now (v .entry))) (lookupOf t row col orientation) r c) bit ⌝ }
+    requires { ⌜ EdgeOk edge (square .transform) × (matrix ≡ matrixOf (square .transform)) ⌝ }
+    requires { ⌜ (square .row ≤ 1500) × (square .col ≤ 1500) ⌝ }
+    ensures { λ b. ⌜ b ≡ edgeHit (tables (now (h .entry)) (now (v .entry))) edge square ⌝ }
 {
-    let l = crate::transform::transform_edge_lookup(t, matrix, row, col, orientation);
-    predicted_bit(h, v, l, r, c) == bit
+    let l = crate::transform::transform_edge_lookup(square.transform, matrix, edge);
+    predicted_bit(h, v, l, square.row, square.col) == edge.bit
 }

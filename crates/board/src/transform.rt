@@ -3,6 +3,7 @@ ghost use mathlib.Core.Path.{_≡_};
 ghost use Prim.Native.Nat.{_<_, _≤_};
 ghost use lib.IntN.{natAbs};
 ghost use Rattle.board.specs.Transform.{matrixOf, mat, mapped, lookupOfEnds, lookupOf};
+use crate::edge::Edge;
 
 // The matrices by transform number: row 0 gives the new column, row 1 the new row, of (column, row).
 const TRANSFORMS: [[[i32; 2]; 2]; 8] = [
@@ -74,21 +75,17 @@ fn lookup_of_ends(c: i32, r: i32, d: i32, s: i32) -> EdgeLookup
     }
 }
 
-// Where the edge at (row, col), horizontal for orientation 0, is looked up under transform t, whose matrix is given. Its first end is mapped to (c, r).
-// The other lies a column or a row further, so it is mapped a column of the matrix further.
-pub fn transform_edge_lookup(
-    t: u8,
-    matrix: [[i32; 2]; 2],
-    row: i32,
-    col: i32,
-    orientation: u8,
-) -> EdgeLookup
-    requires { ⌜ (matrix ≡ matrixOf t) × (natAbs row ≤ 1000000) × (natAbs col ≤ 1000000) ⌝ }
-    ensures { λ x. ⌜ x ≡ lookupOf t row col orientation ⌝ }
+// Where an edge is looked up under transform t, whose matrix is given. Its first end is mapped to (c, r). The other lies a column or a row further, so it is
+// mapped a column of the matrix further.
+pub fn transform_edge_lookup(t: u8, matrix: [[i32; 2]; 2], edge: Edge) -> EdgeLookup
+    requires { ⌜ (matrix ≡ matrixOf t) × (natAbs (edge .row) ≤ 1000000) × (natAbs (edge .col) ≤ 1000000) ⌝ }
+    ensures { λ x. ⌜ x ≡ lookupOf t (edge .row) (edge .col) (edge .orientation) ⌝ }
 {
+    let row = edge.row;
+    let col = edge.col;
     let c = apply(t, matrix, 0, col, row);
     let r = apply(t, matrix, 1, col, row);
-    if orientation == 0 {
+    if edge.orientation == 0 {
         lookup_of_ends(c, r, c + entry(t, matrix, 0, 0), r + entry(t, matrix, 1, 0))
     } else {
         lookup_of_ends(c, r, c + entry(t, matrix, 0, 1), r + entry(t, matrix, 1, 1))

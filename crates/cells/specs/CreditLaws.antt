@@ -25,7 +25,9 @@ use Rattle.cells.specs.Spread.{Fits, Spread, fits-next, spread-next, fit
 use Rattle.groups.specs.Terms.{term, Terms, noTerm, placesN, placesF}
 use Rattle.groups.specs.TermsLaws.{terms-at, no-term}
 use Rattle.cells.specs.Cells.{longClass, shortClass}
-use Rattle.cells.specs.Credit.{stepped, termIn, CountsFit, WeightsFit, CountsAdded, WeightsAdded, CountsIn, WeightsIn, runPlace, entry, runTerm, fourPlace, fourTerm, Standing, RunReady, RunCells, RunCredited, longStep, shortStep, cellPattern, FamilyReady, FamilyCredited}
+use Rattle.cells.specs.Credit.{stepped, termIn, CountsFit, WeightsFit, CountsAdded, WeightsAdded, CountsIn, WeightsIn, runPlace, entry, runTerm, fourPlace, fourTerm, Standing, RunReady, RunCells, RunCredited, cellPattern, FamilyReady, FamilyCredited}
+use Rattle.room.specs.declared.Side.{Side}
+use Rattle.room.specs.Room.{isHorizontal, strideOf, acrossOf}
 use Rattle.cells.specs.LayoutLaws.{stand, short-below}
 use Rattle.cells.specs.RunLaws.{run-place, run-term, after-long, after-short, pattern-small, first-places, first-inside, first-holds, second-place, second-places, second-inside, second-fresh, second-holds, family-zone}
 
@@ -46,28 +48,28 @@ four-back i h =
 below-four : (P : ℕ → Type 0) → P 0 → P 1 → P 2 → P 3 → (m : ℕ) → m < 4 → P m
 below-four P a b c d m h = ⊎-elim (λ e. subst P (sym e) d) (below-3 P a b c m) (split m 3 (omega arith))
 
-module _ {A : Type 0} (d : A) (op : A → A → A) (takes : A → A → Type 0) (of : FamilyTerm → A) (terms : List (List FamilyTerm)) (part : List ℕ) (n at long short : ℕ) (old : List A)
-    (F : Fits d op takes (runPlace at long short) (λ j. of (runTerm noTerm terms part j)) (n * 3) old) where
+module _ {A : Type 0} (d : A) (op : A → A → A) (takes : A → A → Type 0) (of : FamilyTerm → A) (terms : List (List FamilyTerm)) (part : List ℕ) (n at stride across : ℕ) (old : List A)
+    (F : Fits d op takes (runPlace at stride across) (λ j. of (runTerm noTerm terms part j)) (n * 3) old) where
   -- the first q cells are done
   abbrev Done : ℕ → List A → Type 0
-  Done q l = Spread d op (runPlace at long short) (λ j. of (runTerm noTerm terms part j)) q old l
+  Done q l = Spread d op (runPlace at stride across) (λ j. of (runTerm noTerm terms part j)) q old l
 
   -- class i, with its row of terms; its cells stand from k on
-  module _ (i k : ℕ) (row : List FamilyTerm) (hi : i < n) (ek : k ≡ at + i * long) (er : row ≡ getD terms (getD part i 0) []) (mid : List A) (s : Done (i * 3) mid) where
-    class-place : (j : ℕ) → j < 3 → runPlace at long short (i * 3 + j) ≡ stepped k short j
-    class-place j h = run-place at long short i j h ∙ sym (add-assoc at (i * long) (j * short)) ∙ ap (λ x. x + j * short) (sym ek)
+  module _ (i k : ℕ) (row : List FamilyTerm) (hi : i < n) (ek : k ≡ at + i * stride) (er : row ≡ getD terms (getD part i 0) []) (mid : List A) (s : Done (i * 3) mid) where
+    class-place : (j : ℕ) → j < 3 → runPlace at stride across (i * 3 + j) ≡ stepped k across j
+    class-place j h = run-place at stride across i j h ∙ sym (add-assoc at (i * stride) (j * across)) ∙ ap (λ x. x + j * across) (sym ek)
 
     class-term : (j : ℕ) → j < 3 → of (runTerm noTerm terms part (i * 3 + j)) ≡ of (termIn row j)
     class-term j h = ap of (run-term noTerm terms part i j h ∙ ap (λ r. getD r j noTerm) (sym er))
 
-    pub class-fits : Fits d op takes (stepped k short) (λ j. of (termIn row j)) 3 mid
-    class-fits = fits-next d op takes _ _ (n * 3) old F (i * 3) mid s (stepped k short) _ 3 (omega arith) class-place class-term
+    pub class-fits : Fits d op takes (stepped k across) (λ j. of (termIn row j)) 3 mid
+    class-fits = fits-next d op takes _ _ (n * 3) old F (i * 3) mid s (stepped k across) _ 3 (omega arith) class-place class-term
 
-    pub class-more : (q : ℕ) → q ≡ (i + 1) * 3 → (new : List A) → Spread d op (stepped k short) (λ j. of (termIn row j)) 3 mid new → Done q new
-    class-more q e new u = spread-next d op takes _ _ (n * 3) old F (i * 3) mid s (stepped k short) _ 3 (omega arith) class-place class-term q (omega arith) new u
+    pub class-more : (q : ℕ) → q ≡ (i + 1) * 3 → (new : List A) → Spread d op (stepped k across) (λ j. of (termIn row j)) 3 mid new → Done q new
+    class-more q e new u = spread-next d op takes _ _ (n * 3) old F (i * 3) mid s (stepped k across) _ 3 (omega arith) class-place class-term q (omega arith) new u
 
   -- four neighbouring classes from the i-th on, short class by short class
-  module _ (one : long ≡ 1) (i k : ℕ) (r₀ r₁ r₂ r₃ : List FamilyTerm) (hi : i + 4 ≤ n) (ek : k ≡ at + i)
+  module _ (one : stride ≡ 1) (i k : ℕ) (r₀ r₁ r₂ r₃ : List FamilyTerm) (hi : i + 4 ≤ n) (ek : k ≡ at + i)
       (e₀ : r₀ ≡ getD terms (getD part i 0) []) (e₁ : r₁ ≡ getD terms (getD part (i + 1) 0) []) (e₂ : r₂ ≡ getD terms (getD part (i + 2) 0) []) (e₃ : r₃ ≡ getD terms (getD part (i + 3) 0) [])
       (mid : List A) (s : Done (i * 3) mid) where
     abbrev rows : List (List FamilyTerm)
@@ -78,7 +80,7 @@ module _ {A : Type 0} (d : A) (op : A → A → A) (takes : A → A → Type 0) 
 
     -- the same cells, class by class
     abbrev place : ℕ → ℕ
-    place j = runPlace at long short (i * 3 + j)
+    place j = runPlace at stride across (i * 3 + j)
 
     abbrev said : ℕ → A
     said j = of (runTerm noTerm terms part (i * 3 + j))
@@ -95,9 +97,9 @@ module _ {A : Type 0} (d : A) (op : A → A → A) (takes : A → A → Type 0) 
     later : (a b : ℕ) → i * 3 + (a * 3 + b) ≡ (i + a) * 3 + b
     later a b = omega arith
 
-    four-place : (j : ℕ) → j < 12 → place (turn j) ≡ fourPlace k short j
+    four-place : (j : ℕ) → j < 12 → place (turn j) ≡ fourPlace k across j
     unfolding fourPlace
-    four-place j h = ap (runPlace at long short) (later (j % 4) (j / 4)) ∙ run-place at long short (i + j % 4) (j / 4) (third j h) ∙ rw (one, ek) (omega arith)
+    four-place j h = ap (runPlace at stride across) (later (j % 4) (j / 4)) ∙ run-place at stride across (i + j % 4) (j / 4) (third j h) ∙ rw (one, ek) (omega arith)
 
     four-term : (j : ℕ) → j < 12 → said (turn j) ≡ of (fourTerm rows j)
     unfolding fourTerm
@@ -105,19 +107,19 @@ module _ {A : Type 0} (d : A) (op : A → A → A) (takes : A → A → Type 0) 
         ap (λ x. of (runTerm noTerm terms part x)) (later (j % 4) (j / 4))
         ∙ ap of (run-term noTerm terms part (i + j % 4) (j / 4) (third j h) ∙ ap (λ r. getD r (j / 4) noTerm) (sym (row-at (j % 4) (mod-lt j (lit< tt)))))
 
-    pub four-fits : Fits d op takes (fourPlace k short) (λ j. of (fourTerm rows j)) 12 mid
+    pub four-fits : Fits d op takes (fourPlace k across) (λ j. of (fourTerm rows j)) 12 mid
     four-fits =
-        fits-perm d op place (fourPlace k short) said _ 12 turn back four-turn four-back four-place four-term takes mid
+        fits-perm d op place (fourPlace k across) said _ 12 turn back four-turn four-back four-place four-term takes mid
         (fits-next d op takes _ _ (n * 3) old F (i * 3) mid s place said 12 (omega arith) (λ j h. refl) (λ j h. refl))
 
-    pub four-more : (q : ℕ) → q ≡ (i + 4) * 3 → (new : List A) → Spread d op (fourPlace k short) (λ j. of (fourTerm rows j)) 12 mid new → Done q new
+    pub four-more : (q : ℕ) → q ≡ (i + 4) * 3 → (new : List A) → Spread d op (fourPlace k across) (λ j. of (fourTerm rows j)) 12 mid new → Done q new
     four-more q e new u =
         spread-next d op takes _ _ (n * 3) old F (i * 3) mid s place said 12 (omega arith) (λ j h. refl) (λ j h. refl) q (omega arith) new
-        (spread-perm d op place (fourPlace k short) said _ 12 turn back four-turn four-back four-place four-term mid new u)
+        (spread-perm d op place (fourPlace k across) said _ 12 turn back four-turn four-back four-place four-term mid new u)
 
   -- the other classes, where m are done: a run of its own
   module _ (m r : ℕ) (e : m + r ≡ n) (mid : List A) (s : Done (m * 3) mid) where
-    rest-place : (j : ℕ) → j < r * 3 → runPlace at long short (m * 3 + j) ≡ runPlace (at + m * long) long short j
+    rest-place : (j : ℕ) → j < r * 3 → runPlace at stride across (m * 3 + j) ≡ runPlace (at + m * stride) stride across j
     unfolding runPlace
     rest-place j h = rw (after-long m j, after-short m j) (omega arith)
 
@@ -125,138 +127,138 @@ module _ {A : Type 0} (d : A) (op : A → A → A) (takes : A → A → Type 0) 
     unfolding runTerm
     rest-term j h = rw (after-long m j, after-short m j) (ap (λ (p : ℕ). of (entry noTerm terms p (j % 3))) (sym (getD-drop m part (j / 3) 0)))
 
-    pub rest-fits : Fits d op takes (runPlace (at + m * long) long short) (λ j. of (runTerm noTerm terms (drop m part) j)) (r * 3) mid
+    pub rest-fits : Fits d op takes (runPlace (at + m * stride) stride across) (λ j. of (runTerm noTerm terms (drop m part) j)) (r * 3) mid
     rest-fits = fits-next d op takes _ _ (n * 3) old F (m * 3) mid s _ _ (r * 3) (omega arith) rest-place rest-term
 
-    pub rest-done : (new : List A) → Spread d op (runPlace (at + m * long) long short) (λ j. of (runTerm noTerm terms (drop m part) j)) (r * 3) mid new → Done (n * 3) new
+    pub rest-done : (new : List A) → Spread d op (runPlace (at + m * stride) stride across) (λ j. of (runTerm noTerm terms (drop m part) j)) (r * 3) mid new → Done (n * 3) new
     rest-done new u = spread-next d op takes _ _ (n * 3) old F (m * 3) mid s _ _ (r * 3) (omega arith) rest-place rest-term (n * 3) (omega arith) new u
 
 -- ---- four classes: the four neighbours of short class m
-pub first-across : (k short m : ℕ) → fourPlace k short (m * 4 + 0) ≡ k + m * short
+pub first-across : (k across m : ℕ) → fourPlace k across (m * 4 + 0) ≡ k + m * across
 unfolding fourPlace
-first-across k short m = rw (digits-mod m {m = 4} {r = 0} (lit< tt), digits-div m {m = 4} {r = 0} (lit< tt)) (omega arith)
+first-across k across m = rw (digits-mod m {m = 4} {r = 0} (lit< tt), digits-div m {m = 4} {r = 0} (lit< tt)) (omega arith)
 
-module _ {A : Type 0} (d : A) (op : A → A → A) (takes : A → A → Type 0) (of : FamilyTerm → A) (k short : ℕ) (r₀ r₁ r₂ r₃ : List FamilyTerm) (old : List A)
-    (F : Fits d op takes (fourPlace k short) (λ j. of (fourTerm (r₀ ∷ r₁ ∷ r₂ ∷ r₃ ∷ []) j)) 12 old) (m k' : ℕ) (hm : m < 3) (ek : k' ≡ k + m * short)
-    (mid : List A) (s : Spread d op (fourPlace k short) (λ j. of (fourTerm (r₀ ∷ r₁ ∷ r₂ ∷ r₃ ∷ []) j)) (m * 4) old mid) where
+module _ {A : Type 0} (d : A) (op : A → A → A) (takes : A → A → Type 0) (of : FamilyTerm → A) (k across : ℕ) (r₀ r₁ r₂ r₃ : List FamilyTerm) (old : List A)
+    (F : Fits d op takes (fourPlace k across) (λ j. of (fourTerm (r₀ ∷ r₁ ∷ r₂ ∷ r₃ ∷ []) j)) 12 old) (m k' : ℕ) (hm : m < 3) (ek : k' ≡ k + m * across)
+    (mid : List A) (s : Spread d op (fourPlace k across) (λ j. of (fourTerm (r₀ ∷ r₁ ∷ r₂ ∷ r₃ ∷ []) j)) (m * 4) old mid) where
   abbrev four : List (List FamilyTerm)
   four = r₀ ∷ r₁ ∷ r₂ ∷ r₃ ∷ []
 
-  abbrev across : List FamilyTerm
-  across = getD r₀ m noTerm ∷ getD r₁ m noTerm ∷ getD r₂ m noTerm ∷ getD r₃ m noTerm ∷ []
+  abbrev abreast : List FamilyTerm
+  abreast = getD r₀ m noTerm ∷ getD r₁ m noTerm ∷ getD r₂ m noTerm ∷ getD r₃ m noTerm ∷ []
 
-  across-place : (j : ℕ) → j < 4 → fourPlace k short (m * 4 + j) ≡ stepped k' 1 j
+  abreast-place : (j : ℕ) → j < 4 → fourPlace k across (m * 4 + j) ≡ stepped k' 1 j
   unfolding fourPlace
-  across-place j h = rw (digits-mod m h, digits-div m h, ek) (omega arith)
+  abreast-place j h = rw (digits-mod m h, digits-div m h, ek) (omega arith)
 
-  across-term : (j : ℕ) → j < 4 → of (fourTerm four (m * 4 + j)) ≡ of (termIn across j)
+  abreast-term : (j : ℕ) → j < 4 → of (fourTerm four (m * 4 + j)) ≡ of (termIn abreast j)
   unfolding fourTerm
-  across-term j h = ap of (rw (digits-mod m h, digits-div m h) (below-four (λ j. getD (getD four j []) m noTerm ≡ termIn across j) refl refl refl refl j h))
+  abreast-term j h = ap of (rw (digits-mod m h, digits-div m h) (below-four (λ j. getD (getD four j []) m noTerm ≡ termIn abreast j) refl refl refl refl j h))
 
-  pub across-fits : Fits d op takes (stepped k' 1) (λ j. of (termIn across j)) 4 mid
-  across-fits = fits-next d op takes _ _ 12 old F (m * 4) mid s (stepped k' 1) _ 4 (omega arith) across-place across-term
+  pub abreast-fits : Fits d op takes (stepped k' 1) (λ j. of (termIn abreast j)) 4 mid
+  abreast-fits = fits-next d op takes _ _ 12 old F (m * 4) mid s (stepped k' 1) _ 4 (omega arith) abreast-place abreast-term
 
-  pub across-more : (q : ℕ) → q ≡ m * 4 + 4 → (new : List A) → Spread d op (stepped k' 1) (λ j. of (termIn across j)) 4 mid new
-      → Spread d op (fourPlace k short) (λ j. of (fourTerm four j)) q old new
-  across-more q e new u = spread-next d op takes _ _ 12 old F (m * 4) mid s (stepped k' 1) _ 4 (omega arith) across-place across-term q e new u
+  pub abreast-more : (q : ℕ) → q ≡ m * 4 + 4 → (new : List A) → Spread d op (stepped k' 1) (λ j. of (termIn abreast j)) 4 mid new
+      → Spread d op (fourPlace k across) (λ j. of (fourTerm four j)) q old new
+  abreast-more q e new u = spread-next d op takes _ _ 12 old F (m * 4) mid s (stepped k' 1) _ 4 (omega arith) abreast-place abreast-term q e new u
 
 -- which way a side's cells stand
-pub by-three : (long short : ℕ) → Standing long short → long ≡ 3 → short ≡ 1
-by-three long short (inl s) e = s .1
-by-three long short (inr s) e = absurd (omega arith)
+pub by-three : (stride across : ℕ) → Standing stride across → stride ≡ 3 → across ≡ 1
+by-three stride across (inl s) e = s .1
+by-three stride across (inr s) e = absurd (omega arith)
 
-pub by-one : (long short : ℕ) → Standing long short → (long ≡ 3 → ⊥) → long ≡ 1
-by-one long short (inl s) n = absurd (n (s .0))
-by-one long short (inr s) n = s
+pub by-one : (stride across : ℕ) → Standing stride across → (stride ≡ 3 → ⊥) → stride ≡ 1
+by-one stride across (inl s) n = absurd (n (s .0))
+by-one stride across (inr s) n = s
 
-long-small : (long short : ℕ) → Standing long short → long ≤ 3
-long-small long short (inl s) = omega (arith, s .0)
-long-small long short (inr s) = omega arith
+stride-small : (stride across : ℕ) → Standing stride across → stride ≤ 3
+stride-small stride across (inl s) = omega (arith, s .0)
+stride-small stride across (inr s) = omega arith
 
 -- what a run's counts and weights ask
-module _ (terms : List (List FamilyTerm)) (part : List ℕ) (n at long short : ℕ) (c : List ℕ) (w : List Float) (R : RunReady terms part n at long short c w) where
-  pub run-counts : CountsFit (runPlace at long short) (runTerm noTerm terms part) (n * 3) c
+module _ (terms : List (List FamilyTerm)) (part : List ℕ) (n at stride across : ℕ) (c : List ℕ) (w : List Float) (R : RunReady terms part n at stride across c w) where
+  pub run-counts : CountsFit (runPlace at stride across) (runTerm noTerm terms part) (n * 3) c
   run-counts = record { inside = λ j h. R .inside j h .0; apart = R .places .apart; taken = R .fits }
 
-  pub run-weights : WeightsFit (runPlace at long short) (runTerm noTerm terms part) (n * 3) w
+  pub run-weights : WeightsFit (runPlace at stride across) (runTerm noTerm terms part) (n * 3) w
   run-weights = record { inside = λ j h. R .inside j h .1; apart = R .places .apart; taken = λ j h. tt }
 
   -- class i, where those before are done; its cells stand from k on
-  module _ (i k : ℕ) (h : i < n) (ek : k ≡ at + i * long) where
+  module _ (i k : ℕ) (h : i < n) (ek : k ≡ at + i * stride) where
     abbrev row : List FamilyTerm
     row = getD terms (getD part i 0) []
 
     pub cell-in : k < length c
-    cell-in = let a = subst (λ (x : ℕ). x < length c) (run-place at long short i 0 (lit< tt)) (R .inside (i * 3 + 0) (omega arith) .0) in omega arith
+    cell-in = let a = subst (λ (x : ℕ). x < length c) (run-place at stride across i 0 (lit< tt)) (R .inside (i * 3 + 0) (omega arith) .0) in omega arith
 
-    module _ (l : List ℕ) (d : CountsIn terms part at long short (i * 3) c l) where
-      pub counts-fit : CountsFit (stepped k short) (termIn row) 3 l
-      counts-fit = class-fits 0 _+_ _ (λ x. x .count) terms part n at long short c run-counts i k row h ek refl l d
+    module _ (l : List ℕ) (d : CountsIn terms part at stride across (i * 3) c l) where
+      pub counts-fit : CountsFit (stepped k across) (termIn row) 3 l
+      counts-fit = class-fits 0 _+_ _ (λ x. x .count) terms part n at stride across c run-counts i k row h ek refl l d
 
-      pub counts-more : (q : ℕ) → q ≡ (i + 1) * 3 → (l' : List ℕ) → CountsAdded (stepped k short) (termIn row) 3 l l' → CountsIn terms part at long short q c l'
-      counts-more q e l' u = class-more 0 _+_ _ (λ x. x .count) terms part n at long short c run-counts i k row h ek refl l d q e l' u
+      pub counts-more : (q : ℕ) → q ≡ (i + 1) * 3 → (l' : List ℕ) → CountsAdded (stepped k across) (termIn row) 3 l l' → CountsIn terms part at stride across q c l'
+      counts-more q e l' u = class-more 0 _+_ _ (λ x. x .count) terms part n at stride across c run-counts i k row h ek refl l d q e l' u
 
-    module _ (l : List Float) (d : WeightsIn terms part at long short (i * 3) w l) where
-      pub weights-fit : WeightsFit (stepped k short) (termIn row) 3 l
-      weights-fit = class-fits nan (add binary32) _ (λ x. x .weight) terms part n at long short w run-weights i k row h ek refl l d
+    module _ (l : List Float) (d : WeightsIn terms part at stride across (i * 3) w l) where
+      pub weights-fit : WeightsFit (stepped k across) (termIn row) 3 l
+      weights-fit = class-fits nan (add binary32) _ (λ x. x .weight) terms part n at stride across w run-weights i k row h ek refl l d
 
-      pub weights-more : (q : ℕ) → q ≡ (i + 1) * 3 → (l' : List Float) → WeightsAdded (stepped k short) (termIn row) 3 l l' → WeightsIn terms part at long short q w l'
-      weights-more q e l' u = class-more nan (add binary32) _ (λ x. x .weight) terms part n at long short w run-weights i k row h ek refl l d q e l' u
+      pub weights-more : (q : ℕ) → q ≡ (i + 1) * 3 → (l' : List Float) → WeightsAdded (stepped k across) (termIn row) 3 l l' → WeightsIn terms part at stride across q w l'
+      weights-more q e l' u = class-more nan (add binary32) _ (λ x. x .weight) terms part n at stride across w run-weights i k row h ek refl l d q e l' u
 
   -- four classes from the i-th on, whose cells stand side by side from k on
-  module _ (one : long ≡ 1) (i k : ℕ) (h : i + 4 ≤ n) (ek : k ≡ at + i) where
+  module _ (one : stride ≡ 1) (i k : ℕ) (h : i + 4 ≤ n) (ek : k ≡ at + i) where
     abbrev rowAt : ℕ → List FamilyTerm
     rowAt j = getD terms (getD part (i + j) 0) []
 
     abbrev fourRows : List (List FamilyTerm)
     fourRows = getD terms (getD part i 0) [] ∷ rowAt 1 ∷ rowAt 2 ∷ rowAt 3 ∷ []
 
-    module _ (l : List ℕ) (d : CountsIn terms part at long short (i * 3) c l) where
-      pub four-counts-fit : CountsFit (fourPlace k short) (fourTerm fourRows) 12 l
-      four-counts-fit = four-fits 0 _+_ _ (λ x. x .count) terms part n at long short c run-counts one i k _ _ _ _ h ek refl refl refl refl l d
+    module _ (l : List ℕ) (d : CountsIn terms part at stride across (i * 3) c l) where
+      pub four-counts-fit : CountsFit (fourPlace k across) (fourTerm fourRows) 12 l
+      four-counts-fit = four-fits 0 _+_ _ (λ x. x .count) terms part n at stride across c run-counts one i k _ _ _ _ h ek refl refl refl refl l d
 
-      pub four-counts-more : (q : ℕ) → q ≡ (i + 4) * 3 → (l' : List ℕ) → CountsAdded (fourPlace k short) (fourTerm fourRows) 12 l l' → CountsIn terms part at long short q c l'
-      four-counts-more q e l' u = four-more 0 _+_ _ (λ x. x .count) terms part n at long short c run-counts one i k _ _ _ _ h ek refl refl refl refl l d q e l' u
+      pub four-counts-more : (q : ℕ) → q ≡ (i + 4) * 3 → (l' : List ℕ) → CountsAdded (fourPlace k across) (fourTerm fourRows) 12 l l' → CountsIn terms part at stride across q c l'
+      four-counts-more q e l' u = four-more 0 _+_ _ (λ x. x .count) terms part n at stride across c run-counts one i k _ _ _ _ h ek refl refl refl refl l d q e l' u
 
-    module _ (l : List Float) (d : WeightsIn terms part at long short (i * 3) w l) where
-      pub four-weights-fit : WeightsFit (fourPlace k short) (fourTerm fourRows) 12 l
-      four-weights-fit = four-fits nan (add binary32) _ (λ x. x .weight) terms part n at long short w run-weights one i k _ _ _ _ h ek refl refl refl refl l d
+    module _ (l : List Float) (d : WeightsIn terms part at stride across (i * 3) w l) where
+      pub four-weights-fit : WeightsFit (fourPlace k across) (fourTerm fourRows) 12 l
+      four-weights-fit = four-fits nan (add binary32) _ (λ x. x .weight) terms part n at stride across w run-weights one i k _ _ _ _ h ek refl refl refl refl l d
 
-      pub four-weights-more : (q : ℕ) → q ≡ (i + 4) * 3 → (l' : List Float) → WeightsAdded (fourPlace k short) (fourTerm fourRows) 12 l l' → WeightsIn terms part at long short q w l'
-      four-weights-more q e l' u = four-more nan (add binary32) _ (λ x. x .weight) terms part n at long short w run-weights one i k _ _ _ _ h ek refl refl refl refl l d q e l' u
+      pub four-weights-more : (q : ℕ) → q ≡ (i + 4) * 3 → (l' : List Float) → WeightsAdded (fourPlace k across) (fourTerm fourRows) 12 l l' → WeightsIn terms part at stride across q w l'
+      four-weights-more q e l' u = four-more nan (add binary32) _ (λ x. x .weight) terms part n at stride across w run-weights one i k _ _ _ _ h ek refl refl refl refl l d q e l' u
 
   -- the first cell of the next class is no larger than a number can be, also where there is no next class
-  pub next-low : (m : ℕ) → m ≤ n → (most : ℕ) → at < most → length c + 4 ≤ most → at + m * long < most
+  pub next-low : (m : ℕ) → m ≤ n → (most : ℕ) → at < most → length c + 4 ≤ most → at + m * stride < most
   next-low zero h most a b = omega arith
-  next-low (suc m) h most a b = let x = cell-in m (at + m * long) (omega arith) refl in let y = long-small long short (R .standing) in omega arith
+  next-low (suc m) h most a b = let x = cell-in m (at + m * stride) (omega arith) refl in let y = stride-small stride across (R .standing) in omega arith
 
   -- the run as horizontal classes, and as vertical ones
-  module _ (e : long ≡ 3) where
-    short-one : short ≡ 1
-    short-one = by-three long short (R .standing) e
+  module _ (e : stride ≡ 3) where
+    across-one : across ≡ 1
+    across-one = by-three stride across (R .standing) e
 
     pub as-horizontal : RunReady terms part n at 3 1 c w
-    as-horizontal = subst (λ x. RunReady terms part n at 3 x c w) short-one (subst (λ x. RunReady terms part n at x short c w) e R)
+    as-horizontal = subst (λ x. RunReady terms part n at 3 x c w) across-one (subst (λ x. RunReady terms part n at x across c w) e R)
 
-    pub of-horizontal : (q : ℕ) (c' : List ℕ) (w' : List Float) → RunCells terms part at 3 1 q c c' w w' → RunCells terms part at long short q c c' w w'
-    of-horizontal q c' w' s = subst (λ x. RunCells terms part at x short q c c' w w') (sym e) (subst (λ x. RunCells terms part at 3 x q c c' w w') (sym short-one) s)
+    pub of-horizontal : (q : ℕ) (c' : List ℕ) (w' : List Float) → RunCells terms part at 3 1 q c c' w w' → RunCells terms part at stride across q c c' w w'
+    of-horizontal q c' w' s = subst (λ x. RunCells terms part at x across q c c' w w') (sym e) (subst (λ x. RunCells terms part at 3 x q c c' w w') (sym across-one) s)
 
-  module _ (ne : long ≡ 3 → ⊥) where
-    long-one : long ≡ 1
-    long-one = by-one long short (R .standing) ne
+  module _ (ne : stride ≡ 3 → ⊥) where
+    stride-one : stride ≡ 1
+    stride-one = by-one stride across (R .standing) ne
 
-    pub as-vertical : RunReady terms part n at 1 short c w
-    as-vertical = subst (λ x. RunReady terms part n at x short c w) long-one R
+    pub as-vertical : RunReady terms part n at 1 across c w
+    as-vertical = subst (λ x. RunReady terms part n at x across c w) stride-one R
 
-    pub of-vertical : (q : ℕ) (c' : List ℕ) (w' : List Float) → RunCells terms part at 1 short q c c' w w' → RunCells terms part at long short q c c' w w'
-    of-vertical q c' w' s = subst (λ x. RunCells terms part at x short q c c' w w') (sym long-one) s
+    pub of-vertical : (q : ℕ) (c' : List ℕ) (w' : List Float) → RunCells terms part at 1 across q c c' w w' → RunCells terms part at stride across q c c' w w'
+    of-vertical q c' w' s = subst (λ x. RunCells terms part at x across q c c' w w') (sym stride-one) s
 
   -- where m classes are done, the others are a run that is ready, and with it all are done
-  module _ (m r : ℕ) (e : m + r ≡ n) (c₁ : List ℕ) (w₁ : List Float) (s : RunCells terms part at long short (m * 3) c c₁ w w₁) where
-    pub rest-ready : RunReady terms (drop m part) r (at + m * long) long short c₁ w₁
+  module _ (m r : ℕ) (e : m + r ≡ n) (c₁ : List ℕ) (w₁ : List Float) (s : RunCells terms part at stride across (m * 3) c c₁ w w₁) where
+    pub rest-ready : RunReady terms (drop m part) r (at + m * stride) stride across c₁ w₁
     rest-ready =
-        let f = rest-fits 0 _+_ _ (λ x. x .count) terms part n at long short c run-counts m r e c₁ (s .counts) in
-        let g = rest-fits nan (add binary32) _ (λ x. x .weight) terms part n at long short w run-weights m r e w₁ (s .weights) in
+        let f = rest-fits 0 _+_ _ (λ x. x .count) terms part n at stride across c run-counts m r e c₁ (s .counts) in
+        let g = rest-fits nan (add binary32) _ (λ x. x .weight) terms part n at stride across w run-weights m r e w₁ (s .weights) in
         record {
           standing = R .standing;
           places = record {
@@ -268,16 +270,15 @@ module _ (terms : List (List FamilyTerm)) (part : List ℕ) (n at long short : �
           fits = f .taken;
         }
 
-    pub rest-credited : (c₂ : List ℕ) (w₂ : List Float) → RunCredited terms (drop m part) r (at + m * long) long short c₁ c₂ w₁ w₂ → RunCredited terms part n at long short c c₂ w w₂
+    pub rest-credited : (c₂ : List ℕ) (w₂ : List Float) → RunCredited terms (drop m part) r (at + m * stride) stride across c₁ c₂ w₁ w₂ → RunCredited terms part n at stride across c c₂ w w₂
     rest-credited c₂ w₂ u = record {
-      counts = rest-done 0 _+_ _ (λ x. x .count) terms part n at long short c run-counts m r e c₁ (s .counts) c₂ (u .counts);
-      weights = rest-done nan (add binary32) _ (λ x. x .weight) terms part n at long short w run-weights m r e w₁ (s .weights) w₂ (u .weights);
+      counts = rest-done 0 _+_ _ (λ x. x .count) terms part n at stride across c run-counts m r e c₁ (s .counts) c₂ (u .counts);
+      weights = rest-done nan (add binary32) _ (λ x. x .weight) terms part n at stride across w run-weights m r e w₁ (s .weights) w₂ (u .weights);
     }
 
 -- ---- a family that holds no edge: nothing is stored
-pub family-empty : (B : Board) (s : Bool) (f long short cells groups : ℕ) (c : List ℕ) (w : List Float) → FamilyReady B s f long short cells groups c w
-    → fold _+_ 0 6 all (placesN (groups + f * 6) c) ≡ 0 → FamilyCredited B s f cells groups c c w w
-family-empty B s f long short cells groups c w R none = record {
+pub family-empty : (B : Board) (d : Side) (f : ℕ) (c : List ℕ) (w : List Float) → FamilyReady B d f c w → fold _+_ 0 6 all (placesN (d .groups + f * 6) c) ≡ 0 → FamilyCredited B d f c c w w
+family-empty B d f c w R none = let s = isHorizontal d in let cells = d .cells in let groups = d .groups in record {
   counts = zone-none 0 _ cells (3 * periodOf B s) c (λ k h. sym (ap (λ x. placesN cells c k + x) (no-term (placesN (groups + f * 6) c) none (cellPattern B s f k) (shortClass B s k) _+_ 0 false (λ b. placesN (groups + f * 6) c)) ∙ add-zero (placesN cells c k)));
   weights =
       zone-none nan _ cells (3 * periodOf B s) w
@@ -285,8 +286,17 @@ family-empty B s f long short cells groups c w R none = record {
 }
 
 -- ---- a family, where its terms stand in a table
-module _ (B : Board) (s : Bool) (f long short cells groups : ℕ) (c : List ℕ) (w : List Float) (R : FamilyReady B s f long short cells groups c w)
-    (t : List (List FamilyTerm)) (T : Terms (placesN (groups + f * 6) c) (placesF (groups + f * 6) w) t) where
+module _ (B : Board) (d : Side) (f : ℕ) (c : List ℕ) (w : List Float) (R : FamilyReady B d f c w)
+    (t : List (List FamilyTerm)) (T : Terms (placesN (d .groups + f * 6) c) (placesF (d .groups + f * 6) w) t) where
+  abbrev s : Bool
+  s = isHorizontal d
+
+  abbrev cells : ℕ
+  cells = d .cells
+
+  abbrev groups : ℕ
+  groups = d .groups
+
   abbrev ps : List ℕ
   ps = tableOf B s
 
@@ -299,7 +309,7 @@ module _ (B : Board) (s : Bool) (f long short cells groups : ℕ) (c : List ℕ)
 
   gains : (k : ℕ) → k < 3 * periodOf B s → entry noTerm t (cellPattern B s f k) (shortClass B s k) ≡ gain k
   gains k h =
-      terms-at (placesN (groups + f * 6) c) (placesF (groups + f * 6) w) t (cellPattern B s f k) (shortClass B s k) T (pattern-small B s f long short cells (R .places) (longClass B s k + f)) (short-below B (side-some B (R .places .board)) k s h)
+      terms-at (placesN (groups + f * 6) c) (placesF (groups + f * 6) w) t (cellPattern B s f k) (shortClass B s k) T (pattern-small B d f (R .places) (longClass B s k + f)) (short-below B (side-some B (R .places .board)) k s h)
 
   abbrev Room : ℕ → FamilyTerm → Type 0
   Room k x = getD c k 0 + x .count < 2 ^ 32
@@ -308,39 +318,39 @@ module _ (B : Board) (s : Bool) (f long short cells groups : ℕ) (c : List ℕ)
   unfolding term
   room k h = R .fits k h
 
-  standing : Standing long short
+  standing : Standing (d .stride) (d .across)
   standing = rw (R .places .steps .0, R .places .steps .1) (of s)
     where
-      of : (s : Bool) → Standing (longStep s) (shortStep B s)
+      of : (s : Bool) → Standing (strideOf s) (acrossOf (periodOf B false) s)
       of true = inl (refl, refl)
       of false = inr refl
 
-  pub first-ready : (n : ℕ) → n ≡ n₁ → RunReady t (drop f ps) n cells long short c w
+  pub first-ready : (n : ℕ) → n ≡ n₁ → RunReady t (drop f ps) n cells (d .stride) (d .across) c w
   first-ready n e = rw e (record {
     standing = standing;
-    places = first-places B s f long short cells (R .places);
-    inside = λ j h. (first-inside B s f long short cells (R .places) (length c) (R .room .0) j h, first-inside B s f long short cells (R .places) (length w) (R .room .1) j h);
-    fits = first-holds B s f long short cells (R .places) noTerm t gain gains Room room;
+    places = first-places B d f (R .places);
+    inside = λ j h. (first-inside B d f (R .places) (length c) (R .room .0) j h, first-inside B d f (R .places) (length w) (R .room .1) j h);
+    fits = first-holds B d f (R .places) noTerm t gain gains Room room;
   })
 
   -- the second run, after the first
-  module _ (c₁ : List ℕ) (w₁ : List Float) (r₁ : RunCredited t (drop f ps) n₁ cells long short c c₁ w w₁) where
-    pub second-ready : (at : ℕ) → at ≡ cells + n₁ * long → RunReady t (drop 0 ps) f at long short c₁ w₁
+  module _ (c₁ : List ℕ) (w₁ : List Float) (r₁ : RunCredited t (drop f ps) n₁ cells (d .stride) (d .across) c c₁ w w₁) where
+    pub second-ready : (at : ℕ) → at ≡ cells + n₁ * d .stride → RunReady t (drop 0 ps) f at (d .stride) (d .across) c₁ w₁
     second-ready at e = rw e (record {
       standing = standing;
-      places = second-places B s f long short cells (R .places);
+      places = second-places B d f (R .places);
       inside = λ j h. (
-        second-inside B s f long short cells (R .places) (length c₁) (omega (arith, R .room .0, r₁ .counts .len)) j h,
-        second-inside B s f long short cells (R .places) (length w₁) (omega (arith, R .room .1, r₁ .weights .len)) j h,
+        second-inside B d f (R .places) (length c₁) (omega (arith, R .room .0, r₁ .counts .len)) j h,
+        second-inside B d f (R .places) (length w₁) (omega (arith, R .room .1, r₁ .weights .len)) j h,
       );
       fits = λ j h.
-          rw (second-place B s f long short cells (R .places), r₁ .counts .rest (cells + stand B s (n₁ * 3 + j)) (second-fresh B s f long short cells (R .places) j h))
-          (second-holds B s f long short cells (R .places) noTerm t gain gains Room room j h);
+          rw (second-place B d f (R .places), r₁ .counts .rest (cells + stand B s (n₁ * 3 + j)) (second-fresh B d f (R .places) j h))
+          (second-holds B d f (R .places) noTerm t gain gains Room room j h);
     })
 
-    pub family-credited : (c₂ : List ℕ) (w₂ : List Float) → RunCredited t (drop 0 ps) f (cells + n₁ * long) long short c₁ c₂ w₁ w₂ → FamilyCredited B s f cells groups c c₂ w w₂
+    pub family-credited : (c₂ : List ℕ) (w₂ : List Float) → RunCredited t (drop 0 ps) f (cells + n₁ * d .stride) (d .stride) (d .across) c₁ c₂ w₁ w₂ → FamilyCredited B d f c c₂ w w₂
     unfolding term
     family-credited c₂ w₂ r₂ = record {
-      counts = family-zone B s f long short cells (R .places) noTerm t gain gains 0 _+_ (λ x. x .count) c c₁ c₂ (r₁ .counts) (r₂ .counts);
-      weights = family-zone B s f long short cells (R .places) noTerm t gain gains nan (add binary32) (λ x. x .weight) w w₁ w₂ (r₁ .weights) (r₂ .weights);
+      counts = family-zone B d f (R .places) noTerm t gain gains 0 _+_ (λ x. x .count) c c₁ c₂ (r₁ .counts) (r₂ .counts);
+      weights = family-zone B d f (R .places) noTerm t gain gains nan (add binary32) (λ x. x .weight) w w₁ w₂ (r₁ .weights) (r₂ .weights);
     }

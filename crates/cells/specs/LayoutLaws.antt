@@ -10,10 +10,10 @@ use lib.Dec.{lit<}
 use Rattle.board.specs.Hits.{Board}
 use Rattle.board.specs.Sides.{periodOf}
 use Rattle.cells.specs.Cells.{longClass, shortClass}
-use Rattle.cells.specs.Credit.{longStep, shortStep}
+use Rattle.room.specs.Room.{strideOf, acrossOf}
 
 abbrev pub stand : Board → Bool → ℕ → ℕ
-stand B s j = j / 3 * longStep s + j % 3 * shortStep B s
+stand B s j = j / 3 * strideOf s + j % 3 * acrossOf (periodOf B false) s
 
 abbrev pub turn : Board → Bool → ℕ → ℕ
 turn B s k = longClass B s k * 3 + shortClass B s k
@@ -72,7 +72,7 @@ module _ (B : Board) where
     pub turn-short : (s : Bool) → k < 3 * periodOf B s → turn B s k % 3 ≡ shortClass B s k
     turn-short s h = digits-mod (longClass B s k) (short-below s h)
 
-    joined : (s : Bool) → longClass B s k * longStep s + shortClass B s k * shortStep B s ≡ k
+    joined : (s : Bool) → longClass B s k * strideOf s + shortClass B s k * acrossOf (periodOf B false) s ≡ k
     unfolding longClass shortClass
     joined true = ap (λ x. k / 3 * 3 + x) (mul-one (k % 3)) ∙ div-add-mod' k 3
     joined false =
@@ -81,7 +81,7 @@ module _ (B : Board) where
         ∙ div-add-mod' k (periodOf B false)
 
     pub stand-turn : (s : Bool) → k < 3 * periodOf B s → stand B s (turn B s k) ≡ k
-    stand-turn s h = ap₂ (λ (x y : ℕ). x * longStep s + y * shortStep B s) (turn-long s h) (turn-short s h) ∙ joined s
+    stand-turn s h = ap₂ (λ (x y : ℕ). x * strideOf s + y * acrossOf (periodOf B false) s) (turn-long s h) (turn-short s h) ∙ joined s
 
   -- two cells of a credit that stand at one place are one
   pub stand-apart : (s : Bool) (i j : ℕ) → i < 3 * periodOf B s → j < 3 * periodOf B s → stand B s i ≡ stand B s j → i ≡ j

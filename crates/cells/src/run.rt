@@ -8,27 +8,28 @@ use crate::add::add_class_weights;
 use crate::add::add_four_counts;
 use crate::add::add_four_weights;
 use groups::terms::FamilyTerm;
+use groups::terms::FamilyTerms;
 
 // A run, one class at a time.
 fn credit_singles(
     counts: &mut [u32],
     weights: &mut [f32],
-    terms: [[FamilyTerm; 3]; 8],
+    terms: FamilyTerms,
     part: &[u8],
     n: usize,
     at: usize,
-    long: usize,
-    short: usize,
+    stride: usize,
+    across: usize,
 )
-    requires { ⌜ RunReady terms (now part) n at long short (now counts) (now weights) ⌝ }
-    ensures { λ _. ⌜ RunCredited terms (now (part .entry)) n at long short (now (counts .entry)) (now (counts .exit)) (now (weights .entry)) (now (weights .exit)) ⌝ }
+    requires { ⌜ RunReady terms (now part) n at stride across (now counts) (now weights) ⌝ }
+    ensures { λ _. ⌜ RunCredited terms (now (part .entry)) n at stride across (now (counts .entry)) (now (counts .exit)) (now (weights .entry)) (now (weights .exit)) ⌝ }
 {
     for i in 0..n {
         let pattern = part[i] as usize;
         let row = terms[pattern];
-        let k = at + i * long;
-        add_class_counts(counts, k, short, row);
-        add_class_weights(weights, k, short, row);
+        let k = at + i * stride;
+        add_class_counts(counts, k, across, row);
+        add_class_weights(weights, k, across, row);
     }
 }
 
@@ -36,7 +37,7 @@ fn credit_singles(
 fn credit_pairs(
     counts: &mut [u32],
     weights: &mut [f32],
-    terms: [[FamilyTerm; 3]; 8],
+    terms: FamilyTerms,
     part: &[u8],
     n: usize,
     at: usize,
@@ -63,15 +64,15 @@ fn credit_four(
     counts: &mut [u32],
     weights: &mut [f32],
     k: usize,
-    short: usize,
+    across: usize,
     a: [FamilyTerm; 3],
     b: [FamilyTerm; 3],
     c: [FamilyTerm; 3],
     d: [FamilyTerm; 3],
 )
-    requires { ⌜ CountsFit (fourPlace k short) (fourTerm (a ∷ b ∷ c ∷ d ∷ [])) 12 (now counts) ⌝ }
-    requires { ⌜ WeightsFit (fourPlace k short) (fourTerm (a ∷ b ∷ c ∷ d ∷ [])) 12 (now weights) ⌝ }
-    ensures { λ _. ⌜ CountsAdded (fourPlace k short) (fourTerm (a ∷ b ∷ c ∷ d ∷ [])) 12 (now (counts .entry)) (now (counts .exit)) × WeightsAdded (fourPlace k short) (fourTerm (a ∷ b ∷ c ∷ d ∷ [])) 12 (now (weights .entry)) (now (weights .exit)) ⌝ }
+    requires { ⌜ CountsFit (fourPlace k across) (fourTerm (a ∷ b ∷ c ∷ d ∷ [])) 12 (now counts) ⌝ }
+    requires { ⌜ WeightsFit (fourPlace k across) (fourTerm (a ∷ b ∷ c ∷ d ∷ [])) 12 (now weights) ⌝ }
+    ensures { λ _. ⌜ CountsAdded (fourPlace k across) (fourTerm (a ∷ b ∷ c ∷ d ∷ [])) 12 (now (counts .entry)) (now (counts .exit)) × WeightsAdded (fourPlace k across) (fourTerm (a ∷ b ∷ c ∷ d ∷ [])) 12 (now (weights .entry)) (now (weights .exit)) ⌝ }
 {
     let a0 = a[0];
     let b0 = b[0];
@@ -86,25 +87,25 @@ fn credit_four(
     let c2 = c[2];
     let d2 = d[2];
     add_four_counts(counts, k, a0, b0, c0, d0);
-    add_four_counts(counts, k + short, a1, b1, c1, d1);
-    add_four_counts(counts, k + 2 * short, a2, b2, c2, d2);
+    add_four_counts(counts, k + across, a1, b1, c1, d1);
+    add_four_counts(counts, k + 2 * across, a2, b2, c2, d2);
     add_four_weights(weights, k, a0, b0, c0, d0);
-    add_four_weights(weights, k + short, a1, b1, c1, d1);
-    add_four_weights(weights, k + 2 * short, a2, b2, c2, d2);
+    add_four_weights(weights, k + across, a1, b1, c1, d1);
+    add_four_weights(weights, k + 2 * across, a2, b2, c2, d2);
 }
 
 // Vertical classes, four at a time; up to three are left.
 fn credit_fours(
     counts: &mut [u32],
     weights: &mut [f32],
-    terms: [[FamilyTerm; 3]; 8],
+    terms: FamilyTerms,
     part: &[u8],
     n: usize,
     at: usize,
-    short: usize,
+    across: usize,
 )
-    requires { ⌜ RunReady terms (now part) n at 1 short (now counts) (now weights) ⌝ }
-    ensures { λ _. ⌜ RunCells terms (now (part .entry)) at 1 short (n / 4 * 4 * 3) (now (counts .entry)) (now (counts .exit)) (now (weights .entry)) (now (weights .exit)) ⌝ }
+    requires { ⌜ RunReady terms (now part) n at 1 across (now counts) (now weights) ⌝ }
+    ensures { λ _. ⌜ RunCells terms (now (part .entry)) at 1 across (n / 4 * 4 * 3) (now (counts .entry)) (now (counts .exit)) (now (weights .entry)) (now (weights .exit)) ⌝ }
 {
     for i in 0..n / 4 {
         let class = i * 4;
@@ -116,25 +117,25 @@ fn credit_fours(
         let b = terms[q];
         let c = terms[r];
         let d = terms[s];
-        credit_four(counts, weights, at + class, short, a, b, c, d);
+        credit_four(counts, weights, at + class, across, a, b, c, d);
     }
 }
 
-// Credits a run of n classes: the first class's cells stand at `at` and every `short` places, the next class's `long` places further on.
+// Credits a run of n classes: the first class's cells stand at `at` and every `across` places, the next class's `stride` places further on.
 pub fn credit_run(
     counts: &mut [u32],
     weights: &mut [f32],
-    terms: [[FamilyTerm; 3]; 8],
+    terms: FamilyTerms,
     part: &[u8],
     n: usize,
     at: usize,
-    long: usize,
-    short: usize,
+    stride: usize,
+    across: usize,
 )
-    requires { ⌜ RunReady terms (now part) n at long short (now counts) (now weights) ⌝ }
-    ensures { λ _. ⌜ RunCredited terms (now (part .entry)) n at long short (now (counts .entry)) (now (counts .exit)) (now (weights .entry)) (now (weights .exit)) ⌝ }
+    requires { ⌜ RunReady terms (now part) n at stride across (now counts) (now weights) ⌝ }
+    ensures { λ _. ⌜ RunCredited terms (now (part .entry)) n at stride across (now (counts .entry)) (now (counts .exit)) (now (weights .entry)) (now (weights .exit)) ⌝ }
 {
-    if long == 3 {
+    if stride == 3 {
         credit_pairs(counts, weights, terms, part, n, at);
         let done = n / 2 * 2;
         credit_singles(
@@ -143,12 +144,12 @@ pub fn credit_run(
             terms,
             &part[done..],
             n % 2,
-            at + done * long,
-            long,
-            short,
+            at + done * stride,
+            stride,
+            across,
         );
     } else {
-        credit_fours(counts, weights, terms, part, n, at, short);
+        credit_fours(counts, weights, terms, part, n, at, across);
         let done = n / 4 * 4;
         credit_singles(
             counts,
@@ -156,9 +157,9 @@ pub fn credit_run(
             terms,
             &part[done..],
             n % 4,
-            at + done * long,
-            long,
-            short,
+            at + done * stride,
+            stride,
+            across,
         );
     }
 }

@@ -10,8 +10,8 @@ use Rattle.laws.specs.Weights.{zeroF}
 use Rattle.laws.specs.Zone.{Zone}
 use Rattle.board.specs.Hits.{EdgeList, seen, look}
 use Rattle.board.specs.Domain.{ListOk}
-use Rattle.groups.specs.Groups.{confidenceAt, placeOf, Periods}
-use Rattle.room.specs.Room.{rowLength}
+use Rattle.groups.specs.Groups.{confidenceAt, placeOf}
+use Rattle.room.specs.Room.{PeriodsOk, rowLength}
 use Rattle.groups.specs.Terms.{placesN, placesF}
 
 -- where edge i's group stands in that row
@@ -26,7 +26,7 @@ rowSum op z f L M E t n k = fold op z n (λ i. eqb (placeAt L M E t i) k) f
 pub record FillReady (L M : ℕ) (E : EdgeList) (t base : ℕ) (c : List ℕ) (w : List Float) : Type 0 where
   pub list : ListOk E
   pub transform : t < 8
-  pub periods : Periods L M
+  pub periods : PeriodsOk (record { h = L; v = M })
   pub room : (base + rowLength L M ≤ length c) × (base + rowLength L M ≤ length w)
   pub counts : (k : ℕ) → k < rowLength L M → placesN base c k ≡ 0
   pub weights : (k : ℕ) → k < rowLength L M → placesF base w k ≡ zeroF

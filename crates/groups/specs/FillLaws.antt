@@ -16,27 +16,39 @@ use Rattle.laws.specs.DoubleCounting.{fold-ext}
 use Rattle.laws.specs.RemainderLaws.{emod-lt}
 use Rattle.laws.specs.Weights.{zeroF}
 use Rattle.laws.specs.Zone.{Zone, zone-none, zone-set}
+use Rattle.board.specs.declared.edge.Edge.{Edge}
 use Rattle.board.specs.declared.transform.EdgeLookup.{EdgeLookup}
-use Rattle.board.specs.Hits.{EdgeList, Board, size, seen, look, horizontal}
+use Rattle.board.specs.Transform.{lookupOf}
+use Rattle.board.specs.Hits.{EdgeList, Board, size, seen, edgeAt, look, horizontal}
 use Rattle.board.specs.Sides.{is, onSide, periodOf, longOf, shortOf}
-use Rattle.groups.specs.Groups.{group, groupAt, member, confidenceAt, placeOf, Periods}
-use Rattle.room.specs.Room.{rowLength}
+use Rattle.groups.specs.Groups.{group, groupAt, member, confidenceAt, placeOf}
+use Rattle.room.specs.Room.{PeriodsOk, rowLength}
 use Rattle.groups.specs.Fill.{placeAt, rowSum, FillReady, Filled}
 
 -- ---- a group's number is below six a long residue
 pub group-below : (period : ℕ) (x y : ℤ) (b : ℕ) → 0 < period → b < 2 → group period x y b < period * 6
 group-below period x y b h k = omega (arith, emod-lt x period h, emod-lt y 3 (lit< tt))
 
-pub place-below : (L M : ℕ) (l : EdgeLookup) (bit : ℕ) → Periods L M → bit < 2 → placeOf L M l bit < rowLength L M
+pub place-below : (L M : ℕ) (l : EdgeLookup) (bit : ℕ) → PeriodsOk (record { h = L; v = M }) → bit < 2 → placeOf L M l bit < rowLength L M
 place-below L M l bit p h = go (horizontal l)
   where
     go : (s : Bool) → cond s (group L (l .row) (l .col) bit) (L * 6 + group M (l .col) (l .row) bit) < (L + M) * 6
     go true = omega (arith, group-below L (l .row) (l .col) bit (p .some .0) h)
     go false = omega (arith, group-below M (l .col) (l .row) bit (p .some .1) h)
 
--- ---- the place by two moduli is the place by the periods that they hold
-pub place-held : (L M n m : ℕ) (l : EdgeLookup) (bit p : ℕ) → n ≡ L → m ≡ M → (p ≡ placeOf n m l bit) × (p < rowLength n m) → (p ≡ placeOf L M l bit) × (p < rowLength L M)
-place-held L M n m l bit p e f h = rw (e, f) at h
+-- ---- the place of edge i, by value: by two moduli it is the place by the periods that they hold
+pub place-held : (L M n m : ℕ) (E : EdgeList) (t i : ℕ) (e : Edge) (p : ℕ) → n ≡ L → m ≡ M → e ≡ edgeAt E i
+    → (p ≡ placeOf n m (lookupOf t (e .row) (e .col) (e .orientation)) (e .bit)) × (p < rowLength n m) → (p ≡ placeAt L M E t i) × (p < rowLength L M)
+unfolding look
+place-held L M n m E t i e p a b q h = rw (a, b, q) at h
+
+-- what can be filled, and what is filled, by the periods and by numbers that equal them
+module _ (L M n m : ℕ) (E : EdgeList) (t base : ℕ) (e : n ≡ L) (f : m ≡ M) where
+  pub ready-held : (c : List ℕ) (w : List Float) → FillReady L M E t base c w → FillReady n m E t base c w
+  ready-held c w R = rw (e, f) R
+
+  pub filled-held : (i k : ℕ) → k ≡ i → (c c' : List ℕ) (w w' : List Float) → Filled n m E t base k c c' w w' → Filled L M E t base i c c' w w'
+  filled-held i k q c c' w w' F = rw (e, f, q) at F
 
 -- ---- one edge more, for any sum
 pub row-more : {A : Type 0} (d : A) (op : A → A → A) (z : A) (f : ℕ → A) (L M : ℕ) (E : EdgeList) (t base i p : ℕ) (old new : List A)

@@ -43,8 +43,3 @@ groupWeight B E = groupSum (add binary32) zeroF (confidenceAt E) B E
 -- ---- where a group stands when the groups of both sides stand in one row, the horizontal ones first; L and M are the periods
 abbrev pub placeOf : ℕ → ℕ → EdgeLookup → ℕ → ℕ
 placeOf L M l bit = cond (horizontal l) (group L (l .row) (l .col) bit) (L * 6 + group M (l .col) (l .row) bit)
-
--- periods of two accepted tables
-pub record Periods (L M : ℕ) : Type 0 where
-  pub some : (0 < L) × (0 < M)
-  pub few : (L ≤ 500) × (M ≤ 500)

@@ -9,7 +9,9 @@ ghost use Rattle.board.specs.Hits.{edges};
 ghost use Rattle.board.specs.Domain.{EdgeOk};
 ghost use Rattle.groups.specs.Groups.{group, placeOf};
 ghost use Rattle.groups.specs.Fill.{FillReady, Filled};
+use board::edge::Edge;
 use laws::Modulus;
+use laws::Periods;
 
 // The group of an edge by its long and short coordinate and its bit.
 fn group_of(long: i32, short: i32, bit: u8, period: Modulus) -> u32
@@ -23,21 +25,13 @@ fn group_of(long: i32, short: i32, bit: u8, period: Modulus) -> u32
 
 // Where an edge's group stands when the groups of both sides stand in one row, the horizontal ones first. The matrix of transform t and the periods, as
 // moduli h and v, come from outside, since the same serve all edges.
-pub fn group_place(
-    row: i32,
-    col: i32,
-    orientation: u8,
-    bit: u8,
-    t: u8,
-    matrix: [[i32; 2]; 2],
-    h: Modulus,
-    v: Modulus,
-) -> u32
-    requires { ⌜ EdgeOk row col bit t ⌝ }
+pub fn group_place(edge: Edge, t: u8, matrix: [[i32; 2]; 2], h: Modulus, v: Modulus) -> u32
+    requires { ⌜ EdgeOk edge t ⌝ }
     requires { ⌜ ModulusOk h × ModulusOk v × (matrix ≡ matrixOf t) ⌝ }
-    ensures { λ p. ⌜ (p ≡ placeOf (h .n) (v .n) (lookupOf t row col orientation) bit) × (p < (h .n + v .n) * 6) ⌝ }
+    ensures { λ p. ⌜ (p ≡ placeOf (h .n) (v .n) (lookupOf t (edge .row) (edge .col) (edge .orientation)) (edge .bit)) × (p < (h .n + v .n) * 6) ⌝ }
 {
-    let l = board::transform::transform_edge_lookup(t, matrix, row, col, orientation);
+    let bit = edge.bit;
+    let l = board::transform::transform_edge_lookup(t, matrix, edge);
     let r = l.row;
     let c = l.col;
     if l.orientation == 0 {
@@ -55,20 +49,20 @@ pub fn fill_groups(
     bits: &[u8],
     confidences: &[f32],
     t: u8,
-    len: u32,
-    tall: u32,
+    periods: Periods,
     base: usize,
     counts: &mut [u32],
     weights: &mut [f32],
 )
-    requires { ⌜ FillReady len tall (edges (now rows) (now cols) (now orientations) (now bits) (now confidences)) t base (now counts) (now weights) ⌝ }
-    ensures { λ _. ⌜ Filled len tall (edges (now (rows .entry)) (now (cols .entry)) (now (orientations .entry)) (now (bits .entry)) (now (confidences .entry))) t base (length (now (rows .entry))) (now (counts .entry)) (now (counts .exit)) (now (weights .entry)) (now (weights .exit)) ⌝ }
+    requires { ⌜ FillReady (periods .h) (periods .v) (edges (now rows) (now cols) (now orientations) (now bits) (now confidences)) t base (now counts) (now weights) ⌝ }
+    ensures { λ _. ⌜ Filled (periods .h) (periods .v) (edges (now (rows .entry)) (now (cols .entry)) (now (orientations .entry)) (now (bits .entry)) (now (confidences .entry))) t base (length (now (rows .entry))) (now (counts .entry)) (now (counts .exit)) (now (weights .entry)) (now (weights .exit)) ⌝ }
 {
     let matrix = board::transform::matrix_of(t);
-    let h = laws::modulus_of(len);
-    let v = laws::modulus_of(tall);
+    let h = laws::modulus_of(periods.h as u32);
+    let v = laws::modulus_of(periods.v as u32);
     for i in 0..rows.len() {
-        let p = group_place(rows[i], cols[i], orientations[i], bits[i], t, matrix, h, v);
+        let edge = board::edge::edge_at(rows, cols, orientations, bits, i);
+        let p = group_place(edge, t, matrix, h, v);
         let at = base + p as usize;
         counts[at] += 1;
         weights[at] += confidences[i];

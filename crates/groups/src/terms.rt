@@ -11,6 +11,9 @@ pub struct FamilyTerm {
     pub weight: f32,
 }
 
+// The terms of a family, a row for each pattern and in it a term for each short class.
+pub type FamilyTerms = [[FamilyTerm; 3]; 8];
+
 // How many edges the six groups from `from` on hold together.
 pub fn edges_held(counts: &[u32], from: usize) -> u32
     requires { ⌜ (from + 6 ≤ length (now counts)) × (fold _+_ 0 6 all (placesN from (now counts)) ≤ 8192) ⌝ }
@@ -56,7 +59,7 @@ fn fold_row(counts: &[u32], weights: &[f32], from: usize, pattern: u8) -> [Famil
 }
 
 // The table of terms of the six groups from `from` on, a row for each pattern.
-pub fn fold_family(counts: &[u32], weights: &[f32], from: usize) -> [[FamilyTerm; 3]; 8]
+pub fn fold_family(counts: &[u32], weights: &[f32], from: usize) -> FamilyTerms
     requires { ⌜ Six from (now counts) (now weights) ⌝ }
     ensures { λ r. ⌜ Terms (placesN from (now (counts .entry))) (placesF from (now (weights .entry))) r ⌝ }
 {

@@ -3,10 +3,12 @@ use mathlib.Core.Path.{_≡_, refl, ap₂}
 use mathlib.Core.Bool.{Bool, true, false, cond}
 use mathlib.Core.List.{List}
 use Prim.Native.Nat.{ℕ, _+_, _*_, _≤_, _<_}
+use lib.Dec.{eqb}
 use lib.ListN.{length, getD}
 use Rattle.laws.specs.declared.Periods.{Periods}
 use Rattle.board.specs.Hits.{Board}
 use Rattle.board.specs.Sides.{periodOf}
+use Rattle.room.specs.declared.Side.{Side}
 
 -- the period of each side
 abbrev pub bySide : Periods → Bool → ℕ
@@ -35,6 +37,35 @@ groupsAt P i s = cellsEnd P + i * rowLength (P true) (P false) + cond s 0 (P tru
 -- the used room with m rows of groups
 abbrev pub used : (Bool → ℕ) → ℕ → ℕ
 used P m = cellsEnd P + m * rowLength (P true) (P false)
+
+-- ---- a side by value
+-- it is the horizontal one
+abbrev pub isHorizontal : Side → Bool
+isHorizontal d = eqb (d .orientation) 0
+
+-- how the side s stands: "Horizontal cells are (r mod 167, c mod 3); vertical cells are (r mod 3, c mod 167); 501 each, stored row by row, 3 and 167 wide." So a
+-- horizontal class is 3 places from the next and its short classes 1, and a vertical class 1 place from the next and its short classes a period
+abbrev pub strideOf : Bool → ℕ
+strideOf s = cond s 3 1
+
+abbrev pub acrossOf : ℕ → Bool → ℕ
+acrossOf period s = cond s 1 period
+
+abbrev pub sideOf : Periods → Bool → Side
+sideOf p s = record {
+  orientation = cond s 0 1;
+  stride = strideOf s;
+  across = acrossOf (p .v) s;
+  cells = cellsAt (bySide p) s;
+  groups = cond s (cellsEnd (bySide p)) (cellsEnd (bySide p) + p .h * 6);
+}
+
+-- d is how its own side stands, over the periods P
+pub record Stands (P : Bool → ℕ) (d : Side) : Type 0 where
+  pub stride : d .stride ≡ strideOf (isHorizontal d)
+  pub across : d .across ≡ acrossOf (P false) (isHorizontal d)
+  pub cells : d .cells ≡ cellsAt P (isHorizontal d)
+  pub groups : d .groups ≡ groupsAt P 0 (isHorizontal d)
 
 -- a list so laid out, with cells C and m rows of groups G, and the surplus as it was
 module _ {A : Type 0} (d : A) (P : Bool → ℕ) (m : ℕ) (C : Bool → ℕ → A) (G : ℕ → Bool → ℕ → A) where

@@ -1,5 +1,5 @@
 -- A room laid out, stage by stage: cleared, its groups written, then the cells of a side; and two rooms so laid out are equal.
-use mathlib.Core.Path.{_≡_, sym, ap, _∙_}
+use mathlib.Core.Path.{_≡_, refl, sym, ap, _∙_}
 use mathlib.Core.Bool.{Bool, true, false, cond}
 use mathlib.Core.List.{List}
 use mathlib.Core.Logic.{⊎-elim}
@@ -13,7 +13,7 @@ use Rattle.laws.specs.Tests.{compared}
 use Rattle.laws.specs.Written.{Written}
 use Rattle.laws.specs.Zone.{Zone}
 use Rattle.board.specs.Sides.{is}
-use Rattle.room.specs.Room.{rowLength, cellsAt, cellsEnd, groupsAt, used, Laid}
+use Rattle.room.specs.Room.{rowLength, cellsAt, cellsEnd, groupsAt, used, sideOf, Stands, Laid}
 
 -- ---- the parts do not overlap
 module _ (P : Bool → ℕ) where
@@ -30,6 +30,11 @@ module _ (P : Bool → ℕ) where
 
   pub groups-past : (i : ℕ) (s : Bool) → cellsEnd P ≤ groupsAt P i s
   groups-past i s = omega arith
+
+  -- each side stands as it should
+  pub side-stands : (s : Bool) → Stands P (sideOf (record { h = P true; v = P false }) s)
+  side-stands true = record { stride = refl; across = refl; cells = refl; groups = omega arith }
+  side-stands false = record { stride = refl; across = refl; cells = refl; groups = omega arith }
 
 -- ---- stage by stage
 module _ {A : Type 0} (d : A) (P : Bool → ℕ) (m : ℕ) where

@@ -1,11 +1,12 @@
-// Lent room: how much of it is used, over both periods, and clearing it.
+// Lent room: how the two sides of the tables stand in it, how much of it is used, over both periods, and clearing it.
 ghost use mathlib.Core.Path.{_≡_};
 ghost use Prim.Native.Nat.{_≤_};
 ghost use lib.ListN.{length};
 ghost use lib.IntN.{pos};
 ghost use Rattle.laws.specs.Cleared.{cleared};
 ghost use Rattle.laws.specs.Weights.{zeroF};
-ghost use Rattle.room.specs.Room.{bySide, used, PeriodsOk};
+ghost use mathlib.Core.Bool.{true, false};
+ghost use Rattle.room.specs.Room.{bySide, rowLength, used, sideOf, PeriodsOk};
 use laws::Periods;
 
 // What a call must lend of the u32 and of the f32 room, and of the i64 room: what two periods of 167 use.
@@ -13,12 +14,58 @@ pub const FLAT_TABLES: usize = 3006;
 
 pub const FLAT_SUMS: usize = 5010;
 
+// How one side of the tables stands in lent room: 0 for horizontal or 1 for vertical, how far a cell is from that of the next class along the pattern table
+// and from that of the next one across it, and where the side's cells and its groups start.
+pub struct Side {
+    pub orientation: u8,
+    pub stride: usize,
+    pub across: usize,
+    pub cells: usize,
+    pub groups: usize,
+}
+
+// The horizontal side: its cells stand first, the three of a class side by side; its groups stand after all cells.
+pub fn horizontal(p: Periods) -> Side
+    requires { ⌜ PeriodsOk p ⌝ }
+    ensures { λ d. ⌜ d ≡ sideOf p true ⌝ }
+{
+    Side {
+        orientation: 0,
+        stride: 3,
+        across: 1,
+        cells: 0,
+        groups: 3 * p.h + 3 * p.v,
+    }
+}
+
+// The vertical side: its cells stand after the horizontal ones, in three rows as long as its pattern table; its groups stand after the horizontal ones.
+pub fn vertical(p: Periods) -> Side
+    requires { ⌜ PeriodsOk p ⌝ }
+    ensures { λ d. ⌜ d ≡ sideOf p false ⌝ }
+{
+    Side {
+        orientation: 1,
+        stride: 1,
+        across: p.v,
+        cells: 3 * p.h,
+        groups: 3 * p.h + 3 * p.v + p.h * 6,
+    }
+}
+
+// How many places a row of the groups of both sides has.
+pub fn row_of_groups(p: Periods) -> usize
+    requires { ⌜ PeriodsOk p ⌝ }
+    ensures { λ r. ⌜ r ≡ rowLength (p .h) (p .v) ⌝ }
+{
+    (p.h + p.v) * 6
+}
+
 // How many places of the u32 and of the f32 room are used: the cells of both sides and one row of groups. 3,006 for two periods of 167.
 pub fn used_by_tables(p: Periods) -> usize
     requires { ⌜ PeriodsOk p ⌝ }
     ensures { λ r. ⌜ r ≡ used (bySide p) 1 ⌝ }
 {
-    3 * p.h + 3 * p.v + (p.h + p.v) * 6
+    3 * p.h + 3 * p.v + row_of_groups(p)
 }
 
 // How many places of the i64 room are used: the cells of both sides and two rows of groups. 5,010 for two periods of 167.
@@ -26,7 +73,7 @@ pub fn used_by_sums(p: Periods) -> usize
     requires { ⌜ PeriodsOk p ⌝ }
     ensures { λ r. ⌜ r ≡ used (bySide p) 2 ⌝ }
 {
-    3 * p.h + 3 * p.v + 2 * ((p.h + p.v) * 6)
+    3 * p.h + 3 * p.v + 2 * row_of_groups(p)
 }
 
 // Sets the first n places of a lent u32 slice to 0; the surplus stays as it was.

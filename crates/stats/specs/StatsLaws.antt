@@ -3,15 +3,12 @@ use mathlib.Core.Path.{_≡_, refl, sym, ap, ap₂, _∙_}
 use mathlib.Core.Bool.{Bool, true, false}
 use Prim.Native.Nat.{ℕ, _+_, _≤_, _<_}
 use native.Mathlib.Omega.{arith}
-use lib.ListN.{getD, length}
-use lib.IntN.{ℤ, pos}
+use lib.ListN.{getD}
 use lib.Ieee.{Float, nan, binary32, add}
 use Rattle.laws.specs.Fold.{fold, put, one, count, fold-more, fold-zero}
 use Rattle.laws.specs.Counting.{count-le}
 use Rattle.laws.specs.Weights.{zeroF}
-use Rattle.board.specs.Transform.{lookupOf}
-use Rattle.board.specs.Hits.{EdgeList, Board, size, seen, look, predicted, hit, hits}
-use Rattle.board.specs.Domain.{EdgeOk}
+use Rattle.board.specs.Hits.{EdgeList, Board, size, hit, hits}
 use Rattle.figures.specs.Figures.{meanOf}
 use Rattle.refusals.specs.declared.Refusal.{Refusal}
 use Rattle.refusals.specs.declared.Admission.{Admission}
@@ -20,7 +17,6 @@ use Rattle.answer.specs.declared.MatchStats.{MatchStats}
 use Rattle.answer.specs.declared.StatsAnswer.the-variants.{Counted, Refused}
 use Rattle.figures.specs.declared.Fit.{Fit}
 use Rattle.admission.specs.Refusals.{statsAdmission}
-use Rattle.admission.specs.Accepted.{StatsAccepted}
 use Rattle.stats.specs.Stats.{statsRate, hitWeight, statsOf, statsAnswer, orCounted, added, hitsAndWeight}
 
 module _ (E : EdgeList) (t row col : ℕ) (B : Board) where
@@ -51,10 +47,6 @@ module _ (E : EdgeList) (t row col : ℕ) (B : Board) where
   pub so-far-all : soFar (size E) ≡ hitsAndWeight E t row col B
   unfolding soFar hitsAndWeight hits
   so-far-all = refl
-
-  -- an edge of an accepted list
-  pub edge-ok : StatsAccepted E t row col B → (i : ℕ) → i < size E → EdgeOk (getD (E .rows) i (pos 0)) (getD (E .cols) i (pos 0)) (seen E i) t
-  edge-ok a i h = record { near-row = a .list .near-row i h; near-col = a .list .near-col i h; bit = a .list .bit i h; transform = a .transform }
 
   -- ---- the two ends
   module _ (a : Admission) (e : a ≡ statsAdmission E t row col B) where

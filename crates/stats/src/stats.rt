@@ -5,6 +5,7 @@ ghost use Rattle.board.specs.Hits.{edges, tables};
 ghost use Rattle.admission.specs.Accepted.{StatsAccepted};
 ghost use Rattle.stats.specs.Stats.{added, hitsAndWeight, statsRate, statsOf, statsAnswer};
 use answer::MatchStats;
+use answer::Square;
 use answer::StatsAnswer;
 use figures::Fit;
 use refusals::Admission;
@@ -30,37 +31,25 @@ fn count_hits<'a>(
     orientations: &[u8],
     bits: &[u8],
     confidences: &[f32],
-    transform: u8,
-    row: u32,
-    col: u32,
+    square: Square,
     h: &'a [u8],
     v: &'a [u8],
 ) -> Fit
     requires { ⌜ StatsAccepted
         (edges (now rows) (now cols) (now orientations) (now bits) (now confidences))
-        transform row col (tables (now h) (now v)) ⌝ }
+        (square .transform) (square .row) (square .col) (tables (now h) (now v)) ⌝ }
     ensures { λ r. ⌜ r ≡ hitsAndWeight
         (edges (now (rows .entry)) (now (cols .entry)) (now (orientations .entry)) (now (bits .entry)) (now (confidences .entry)))
-        transform row col (tables (now (h .entry)) (now (v .entry))) ⌝ }
+        (square .transform) (square .row) (square .col) (tables (now (h .entry)) (now (v .entry))) ⌝ }
 {
-    let matrix = board::transform::matrix_of(transform);
+    let matrix = board::transform::matrix_of(square.transform);
     let mut sum = Fit {
         hits: 0,
         weight: 0.0,
     };
     for i in 0..rows.len() {
-        let hit = board::pattern::is_hit(
-            h,
-            v,
-            rows[i],
-            cols[i],
-            orientations[i],
-            bits[i],
-            transform,
-            matrix,
-            row,
-            col,
-        );
+        let edge = board::edge::edge_at(rows, cols, orientations, bits, i);
+        let hit = board::pattern::is_hit(h, v, edge, square, matrix);
         sum = add_edge(sum, hit, confidences[i]);
     }
     sum
@@ -109,18 +98,12 @@ pub fn match_stats<'a>(
     match admitted {
         Admission::Refused(refusal) => StatsAnswer::Refused(refusal),
         Admission::Accepted => {
-            let counted = count_hits(
-                rows,
-                cols,
-                orientations,
-                bits,
-                confidences,
+            let square = Square {
                 transform,
                 row,
                 col,
-                h,
-                v,
-            );
+            };
+            let counted = count_hits(rows, cols, orientations, bits, confidences, square, h, v);
             let edges = rows.len() as u32;
             let hits = counted.hits;
             StatsAnswer::Counted(MatchStats {

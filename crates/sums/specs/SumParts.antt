@@ -10,14 +10,14 @@ use Rattle.laws.specs.Whole.{eqZ}
 use Rattle.laws.specs.Zone.{Zone}
 use Rattle.board.specs.Hits.{EdgeList, Board}
 use Rattle.board.specs.Sides.{tableOf, periodOf}
-use Rattle.board.specs.Domain.{ListOk, BoardOk}
-use Rattle.groups.specs.Groups.{Periods}
-use Rattle.room.specs.Room.{rowLength}
+use Rattle.board.specs.Domain.{EdgesOk, BoardOk}
+use Rattle.room.specs.declared.Side.{Side}
+use Rattle.room.specs.Room.{PeriodsOk, rowLength, isHorizontal, strideOf, acrossOf}
 use Rattle.groups.specs.Fill.{rowSum}
 use Rattle.groups.specs.Terms.{termSum}
 use Rattle.cells.specs.Cells.{longClass, shortClass, cellSum, family}
 use Rattle.cells.specs.Spread.{Spread}
-use Rattle.cells.specs.Credit.{runPlace, runTerm, RunPlaces, cellPattern, longStep, shortStep, FamilyPlaces}
+use Rattle.cells.specs.Credit.{runPlace, runTerm, RunPlaces, cellPattern, FamilyPlaces}
 use Rattle.sums.specs.Sums.{Likelihoods, matchAt, mismatchAt, LikelihoodsOk}
 
 -- place k of those from `at` on
@@ -35,10 +35,10 @@ rowsSum L M E X t n k = rowSum _+ℤ_ (pos 0) (valueAt X (k / rowLength L M)) L 
 
 -- what the groups of likelihoods can be filled from: an accepted list with its likelihoods, a transform, and room for both rows of groups
 pub record SumsFillReady (L M : ℕ) (E : EdgeList) (X : Likelihoods) (t base : ℕ) (a : List ℤ) : Type 0 where
-  pub list : ListOk E
+  pub list : EdgesOk E
   pub likelihoods : LikelihoodsOk E X
   pub transform : t < 8
-  pub periods : Periods L M
+  pub periods : PeriodsOk (record { h = L; v = M })
   pub room : base + 2 * rowLength L M ≤ length a
   pub clear : (k : ℕ) → k < 2 * rowLength L M → placesZ base a k ≡ pos 0
 
@@ -72,33 +72,33 @@ someSum zero m u = false
 someSum (suc n) m u = someSum n m u || not (eqZ (m n) (pos 0) && eqZ (u n) (pos 0))
 
 -- ---- a run of classes
-pub record RunReadyZ (terms : List (List ℤ)) (part : List ℕ) (n at long short : ℕ) (a : List ℤ) : Type 0 where
-  pub places : RunPlaces part n at long short
-  pub inside : (j : ℕ) → j < n * 3 → runPlace at long short j < length a
-  pub fits : (j : ℕ) → j < n * 3 → natAbs (getD a (runPlace at long short j) (pos 0) +ℤ runTerm (pos 0) terms part j) < 2 ^ 63
+pub record RunReadyZ (terms : List (List ℤ)) (part : List ℕ) (n at stride across : ℕ) (a : List ℤ) : Type 0 where
+  pub places : RunPlaces part n at stride across
+  pub inside : (j : ℕ) → j < n * 3 → runPlace at stride across j < length a
+  pub fits : (j : ℕ) → j < n * 3 → natAbs (getD a (runPlace at stride across j) (pos 0) +ℤ runTerm (pos 0) terms part j) < 2 ^ 63
 
 -- the first q cells have their term added, and nothing else changed
 abbrev pub RunCellsZ : List (List ℤ) → List ℕ → ℕ → ℕ → ℕ → ℕ → List ℤ → List ℤ → Type 0
-RunCellsZ terms part at long short q a a' = Spread (pos 0) _+ℤ_ (runPlace at long short) (runTerm (pos 0) terms part) q a a'
+RunCellsZ terms part at stride across q a a' = Spread (pos 0) _+ℤ_ (runPlace at stride across) (runTerm (pos 0) terms part) q a a'
 
 -- a run of n classes credited, three cells each
 abbrev pub RunCreditedZ : List (List ℤ) → List ℕ → ℕ → ℕ → ℕ → ℕ → List ℤ → List ℤ → Type 0
-RunCreditedZ terms part n at long short a a' = RunCellsZ terms part at long short (n * 3) a a'
+RunCreditedZ terms part n at stride across a a' = RunCellsZ terms part at stride across (n * 3) a a'
 
 -- ---- a family: what it adds to cell k, where its groups stand from `from` and `also` on
 abbrev pub gainZ : Board → Bool → ℕ → ℕ → ℕ → List ℤ → ℕ → ℤ
 gainZ B s f from also a k = termZ 6 (placesZ from a) (placesZ also a) (cellPattern B s f k) (shortClass B s k)
 
 -- what a family can be credited from: its places, its twelve groups, and room for the cells
-pub record FamilyReadyZ (B : Board) (s : Bool) (f long short cells from also : ℕ) (a : List ℤ) : Type 0 where
-  pub places : FamilyPlaces B s f long short
-  pub twelve : Twelve (from + f * 6) (also + f * 6) a
-  pub room : cells + 3 * periodOf B s ≤ length a
-  pub fits : (k : ℕ) → k < 3 * periodOf B s → natAbs (placesZ cells a k +ℤ gainZ B s f (from + f * 6) (also + f * 6) a k) < 2 ^ 63
+pub record FamilyReadyZ (B : Board) (d : Side) (also f : ℕ) (a : List ℤ) : Type 0 where
+  pub places : FamilyPlaces B d f
+  pub twelve : Twelve (d .groups + f * 6) (also + f * 6) a
+  pub room : d .cells + 3 * periodOf B (isHorizontal d) ≤ length a
+  pub fits : (k : ℕ) → k < 3 * periodOf B (isHorizontal d) → natAbs (placesZ (d .cells) a k +ℤ gainZ B (isHorizontal d) f (d .groups + f * 6) (also + f * 6) a k) < 2 ^ 63
 
 -- every cell of the side has the family's term added, and nothing else changed
-abbrev pub FamilyCreditedZ : Board → Bool → ℕ → ℕ → ℕ → ℕ → List ℤ → List ℤ → Type 0
-FamilyCreditedZ B s f cells from also a a' = Zone (pos 0) (λ k. placesZ cells a k +ℤ gainZ B s f (from + f * 6) (also + f * 6) a k) cells (3 * periodOf B s) a a'
+abbrev pub FamilyCreditedZ : Board → Side → ℕ → ℕ → List ℤ → List ℤ → Type 0
+FamilyCreditedZ B d also f a a' = Zone (pos 0) (λ k. placesZ (d .cells) a k +ℤ gainZ B (isHorizontal d) f (d .groups + f * 6) (also + f * 6) a k) (d .cells) (3 * periodOf B (isHorizontal d)) a a'
 
 -- ---- a side
 -- what a family adds, of groups that hold m k and u k each
@@ -109,20 +109,20 @@ familyZ m u f = termZ 6 (family m f) (family u f)
 abbrev pub cellZ : Board → Bool → ℕ → ℕ → List ℤ → ℕ → ℕ → ℤ
 cellZ B s from also a n k = cellSum _+ℤ_ (pos 0) (familyZ (placesZ from a) (placesZ also a)) (tableOf B s) n (longClass B s k) (shortClass B s k)
 
--- what one side can be built from: accepted tables, the steps between its cells, and groups that lie beyond them
-pub record SideReadyZ (B : Board) (s : Bool) (long short cells from also : ℕ) (a : List ℤ) : Type 0 where
+-- what one side can be built from: accepted tables, the steps between its cells, and groups that lie beyond them, the mismatch ones from `also` on
+pub record SideReadyZ (B : Board) (d : Side) (also : ℕ) (a : List ℤ) : Type 0 where
   pub board : BoardOk B
-  pub steps : (long ≡ longStep s) × (short ≡ shortStep B s)
-  pub apart : (cells + 3 * periodOf B s ≤ from) × (cells + 3 * periodOf B s ≤ also)
-  pub room : (from + periodOf B s * 6 ≤ length a) × (also + periodOf B s * 6 ≤ length a)
-  pub groups : (k : ℕ) → k < periodOf B s * 6 → (natAbs (placesZ from a k) ≤ 2 ^ 53) × (natAbs (placesZ also a k) ≤ 2 ^ 53)
-  pub small : (n k : ℕ) → n ≤ periodOf B s → natAbs (cellZ B s from also a n k) ≤ 2 ^ 53
-  pub clear : (k : ℕ) → k < 3 * periodOf B s → placesZ cells a k ≡ pos 0
+  pub steps : (d .stride ≡ strideOf (isHorizontal d)) × (d .across ≡ acrossOf (periodOf B false) (isHorizontal d))
+  pub apart : (d .cells + 3 * periodOf B (isHorizontal d) ≤ d .groups) × (d .cells + 3 * periodOf B (isHorizontal d) ≤ also)
+  pub room : (d .groups + periodOf B (isHorizontal d) * 6 ≤ length a) × (also + periodOf B (isHorizontal d) * 6 ≤ length a)
+  pub groups : (k : ℕ) → k < periodOf B (isHorizontal d) * 6 → (natAbs (placesZ (d .groups) a k) ≤ 2 ^ 53) × (natAbs (placesZ also a k) ≤ 2 ^ 53)
+  pub small : (n k : ℕ) → n ≤ periodOf B (isHorizontal d) → natAbs (cellZ B (isHorizontal d) (d .groups) also a n k) ≤ 2 ^ 53
+  pub clear : (k : ℕ) → k < 3 * periodOf B (isHorizontal d) → placesZ (d .cells) a k ≡ pos 0
 
 -- the first n families are in the cells, and nothing else changed
-abbrev pub SideCellsZ : Board → Bool → ℕ → ℕ → ℕ → ℕ → List ℤ → List ℤ → Type 0
-SideCellsZ B s cells from also n a a' = Zone (pos 0) (cellZ B s from also a n) cells (3 * periodOf B s) a a'
+abbrev pub SideCellsZ : Board → Side → ℕ → ℕ → List ℤ → List ℤ → Type 0
+SideCellsZ B d also n a a' = Zone (pos 0) (cellZ B (isHorizontal d) (d .groups) also a n) (d .cells) (3 * periodOf B (isHorizontal d)) a a'
 
 -- all families of one side credited
-abbrev pub SideBuiltZ : Board → Bool → ℕ → ℕ → ℕ → List ℤ → List ℤ → Type 0
-SideBuiltZ B s cells from also a a' = SideCellsZ B s cells from also (periodOf B s) a a'
+abbrev pub SideBuiltZ : Board → Side → ℕ → List ℤ → List ℤ → Type 0
+SideBuiltZ B d also a a' = SideCellsZ B d also (periodOf B (isHorizontal d)) a a'

@@ -21,7 +21,8 @@ use Rattle.board.specs.Hits.{EdgeList, Board, size}
 use Rattle.board.specs.Sides.{tableOf, periodOf}
 use Rattle.board.specs.HitsLaws.{side-some}
 use Rattle.likelihood.specs.SumLaws.{cell-size}
-use Rattle.room.specs.Room.{rowLength}
+use Rattle.room.specs.declared.Side.{Side}
+use Rattle.room.specs.Room.{rowLength, isHorizontal}
 use Rattle.groups.specs.Fill.{placeAt, rowSum}
 use Rattle.groups.specs.Terms.{agrees, termSum}
 use Rattle.cells.specs.Cells.{longClass, shortClass, family}
@@ -36,6 +37,14 @@ use Rattle.sums.specs.SumParts.{placesZ, valueAt, rowsSum, SumsFillReady
 use Rattle.sums.specs.SumsLaws.{terms-atZ, same-termZ, value-small}
 
 -- ---- groups
+-- what can be filled, and what is filled, by the periods and by numbers that equal them
+module _ (L M n m : ℕ) (E : EdgeList) (X : Likelihoods) (t base : ℕ) (e : n ≡ L) (f : m ≡ M) where
+  pub ready-heldZ : (a : List ℤ) → SumsFillReady L M E X t base a → SumsFillReady n m E X t base a
+  ready-heldZ a R = rw (e, f) R
+
+  pub filled-heldZ : (i k : ℕ) → k ≡ i → (a a' : List ℤ) → SumsFilled n m E X t base k a a' → SumsFilled L M E X t base i a a'
+  filled-heldZ i k q a a' F = rw (e, f, q) at F
+
 module _ (L M : ℕ) (E : EdgeList) (X : Likelihoods) (t base : ℕ) (a : List ℤ) (R : SumsFillReady L M E X t base a) where
   abbrev G : ℕ
   G = rowLength L M
@@ -134,33 +143,41 @@ module _ (L M : ℕ) (E : EdgeList) (X : Likelihoods) (t base : ℕ) (a : List �
         sums-more a''' f = zone-ext (pos 0) _ _ base (2 * G) a a''' part-2 (row-in 1 one-in a a'' (base + p + G) at-1 half (R .room) a''' f)
 
 -- ---- a run, cell by cell
-module _ (terms : List (List ℤ)) (part : List ℕ) (n at long short : ℕ) (a : List ℤ) (R : RunReadyZ terms part n at long short a) where
-  pub run-noneZ : RunCellsZ terms part at long short 0 a a
-  run-noneZ = spread-none (pos 0) _+ℤ_ (runPlace at long short) _ a
+module _ (terms : List (List ℤ)) (part : List ℕ) (n at stride across : ℕ) (a : List ℤ) (R : RunReadyZ terms part n at stride across a) where
+  pub run-noneZ : RunCellsZ terms part at stride across 0 a a
+  run-noneZ = spread-none (pos 0) _+ℤ_ (runPlace at stride across) _ a
 
   -- the cell at place k, of short class j of class i, is the q-th
-  module _ (i j q k : ℕ) (x : ℤ) (hi : i < n) (hj : j < 3) (eq : q ≡ i * 3 + j) (ek : k ≡ at + (i * long + j * short)) (ex : x ≡ entry (pos 0) terms (getD part i 0) j)
-      (a' : List ℤ) (r : RunCellsZ terms part at long short q a a') where
+  module _ (i j q k : ℕ) (x : ℤ) (hi : i < n) (hj : j < 3) (eq : q ≡ i * 3 + j) (ek : k ≡ at + (i * stride + j * across)) (ex : x ≡ entry (pos 0) terms (getD part i 0) j)
+      (a' : List ℤ) (r : RunCellsZ terms part at stride across q a a') where
     q-in : q < n * 3
-    q-in = in-run part n at long short (R .places) i j q k hi hj eq ek
+    q-in = in-run part n at stride across (R .places) i j q k hi hj eq ek
 
     said : x ≡ runTerm (pos 0) terms part q
-    said = cell-term part n at long short (R .places) i j q k hi hj eq ek (pos 0) terms x ex
+    said = cell-term part n at stride across (R .places) i j q k hi hj eq ek (pos 0) terms x ex
 
     -- it has room for its term
     pub run-roomZ : (k < length a') × (natAbs (getD a' k (pos 0) +ℤ x) < 2 ^ 63)
     run-roomZ =
-        let b : runPlace at long short q < length a' = omega (arith, R .inside q q-in, r .len) in
-        let f : natAbs (getD a' (runPlace at long short q) (pos 0) +ℤ runTerm (pos 0) terms part q) < 2 ^ 63 = rw (r .rest (runPlace at long short q) (cell-fresh part n at long short (R .places) i j q k hi hj eq ek)) (R .fits q q-in) in
-        rw (cell-place part n at long short (R .places) i j q k hi hj eq ek, said) (b, f)
+        let b : runPlace at stride across q < length a' = omega (arith, R .inside q q-in, r .len) in
+        let f : natAbs (getD a' (runPlace at stride across q) (pos 0) +ℤ runTerm (pos 0) terms part q) < 2 ^ 63 = rw (r .rest (runPlace at stride across q) (cell-fresh part n at stride across (R .places) i j q k hi hj eq ek)) (R .fits q q-in) in
+        rw (cell-place part n at stride across (R .places) i j q k hi hj eq ek, said) (b, f)
 
     -- and has it added
-    pub run-moreZ : (q' : ℕ) → q' ≡ q + 1 → (a'' : List ℤ) → a'' ≡ set a' k (getD a' k (pos 0) +ℤ x) → RunCellsZ terms part at long short q' a a''
-    run-moreZ q' e a'' p = rw e (cell-added part n at long short (R .places) i j q k hi hj eq ek (pos 0) _+ℤ_ _ a a' a'' x r (R .inside q q-in) said p)
+    pub run-moreZ : (q' : ℕ) → q' ≡ q + 1 → (a'' : List ℤ) → a'' ≡ set a' k (getD a' k (pos 0) +ℤ x) → RunCellsZ terms part at stride across q' a a''
+    run-moreZ q' e a'' p = rw e (cell-added part n at stride across (R .places) i j q k hi hj eq ek (pos 0) _+ℤ_ _ a a' a'' x r (R .inside q q-in) said p)
 
 -- ---- a family, where its terms stand in a table
-module _ (B : Board) (s : Bool) (f long short cells from also : ℕ) (a : List ℤ) (R : FamilyReadyZ B s f long short cells from also a)
-    (t : List (List ℤ)) (T : TermsZ (placesZ (from + f * 6) a) (placesZ (also + f * 6) a) t) where
+module _ (B : Board) (d : Side) (also f : ℕ) (a : List ℤ) (R : FamilyReadyZ B d also f a) (t : List (List ℤ)) (T : TermsZ (placesZ (d .groups + f * 6) a) (placesZ (also + f * 6) a) t) where
+  abbrev s : Bool
+  s = isHorizontal d
+
+  abbrev cells : ℕ
+  cells = d .cells
+
+  abbrev from : ℕ
+  from = d .groups
+
   abbrev ps : List ℕ
   ps = tableOf B s
 
@@ -172,31 +189,31 @@ module _ (B : Board) (s : Bool) (f long short cells from also : ℕ) (a : List �
 
   gains : (k : ℕ) → k < 3 * periodOf B s → entry (pos 0) t (cellPattern B s f k) (shortClass B s k) ≡ gain k
   gains k h =
-      terms-atZ (placesZ (from + f * 6) a) (placesZ (also + f * 6) a) t (cellPattern B s f k) (shortClass B s k) T (pattern-small B s f long short cells (R .places) (longClass B s k + f)) (short-below B (side-some B (R .places .board)) k s h)
+      terms-atZ (placesZ (from + f * 6) a) (placesZ (also + f * 6) a) t (cellPattern B s f k) (shortClass B s k) T (pattern-small B d f (R .places) (longClass B s k + f)) (short-below B (side-some B (R .places .board)) k s h)
 
   abbrev Room : ℕ → ℤ → Type 0
   Room k x = natAbs (getD a k (pos 0) +ℤ x) < 2 ^ 63
 
-  pub first-readyZ : (n : ℕ) → n ≡ n₁ → RunReadyZ t (drop f ps) n cells long short a
+  pub first-readyZ : (n : ℕ) → n ≡ n₁ → RunReadyZ t (drop f ps) n cells (d .stride) (d .across) a
   first-readyZ n e = rw e (record {
-    places = first-places B s f long short cells (R .places);
-    inside = first-inside B s f long short cells (R .places) (length a) (R .room);
-    fits = first-holds B s f long short cells (R .places) (pos 0) t gain gains Room (R .fits);
+    places = first-places B d f (R .places);
+    inside = first-inside B d f (R .places) (length a) (R .room);
+    fits = first-holds B d f (R .places) (pos 0) t gain gains Room (R .fits);
   })
 
   -- the second run, after the first
-  module _ (a₁ : List ℤ) (r₁ : RunCreditedZ t (drop f ps) n₁ cells long short a a₁) where
-    pub second-readyZ : (at : ℕ) → at ≡ cells + n₁ * long → RunReadyZ t (drop 0 ps) f at long short a₁
+  module _ (a₁ : List ℤ) (r₁ : RunCreditedZ t (drop f ps) n₁ cells (d .stride) (d .across) a a₁) where
+    pub second-readyZ : (at : ℕ) → at ≡ cells + n₁ * d .stride → RunReadyZ t (drop 0 ps) f at (d .stride) (d .across) a₁
     second-readyZ at e = rw e (record {
-      places = second-places B s f long short cells (R .places);
-      inside = second-inside B s f long short cells (R .places) (length a₁) (omega (arith, R .room, r₁ .len));
+      places = second-places B d f (R .places);
+      inside = second-inside B d f (R .places) (length a₁) (omega (arith, R .room, r₁ .len));
       fits = λ j h.
-          rw (second-place B s f long short cells (R .places), r₁ .rest (cells + stand B s (n₁ * 3 + j)) (second-fresh B s f long short cells (R .places) j h))
-          (second-holds B s f long short cells (R .places) (pos 0) t gain gains Room (R .fits) j h);
+          rw (second-place B d f (R .places), r₁ .rest (cells + stand B s (n₁ * 3 + j)) (second-fresh B d f (R .places) j h))
+          (second-holds B d f (R .places) (pos 0) t gain gains Room (R .fits) j h);
     })
 
-    pub family-creditedZ : (a₂ : List ℤ) → RunCreditedZ t (drop 0 ps) f (cells + n₁ * long) long short a₁ a₂ → FamilyCreditedZ B s f cells from also a a₂
-    family-creditedZ a₂ r₂ = family-zone B s f long short cells (R .places) (pos 0) t gain gains (pos 0) _+ℤ_ (λ x. x) a a₁ a₂ r₁ r₂
+    pub family-creditedZ : (a₂ : List ℤ) → RunCreditedZ t (drop 0 ps) f (cells + n₁ * d .stride) (d .stride) (d .across) a₁ a₂ → FamilyCreditedZ B d also f a a₂
+    family-creditedZ a₂ r₂ = family-zone B d f (R .places) (pos 0) t gain gains (pos 0) _+ℤ_ (λ x. x) a a₁ a₂ r₁ r₂
 
 -- ---- a family whose twelve sums are all 0: nothing is stored
 module _ (m u : ℕ → ℤ) where
@@ -250,31 +267,43 @@ no-termZ m u e p s = fold-ext _+ℤ_ (pos 0) 6 all all (λ j. cond (agrees p s j
     either true x y e d = e
     either false x y e d = d
 
-pub family-emptyZ : (B : Board) (s : Bool) (f cells from also : ℕ) (a : List ℤ) → someSum 6 (placesZ (from + f * 6) a) (placesZ (also + f * 6) a) ≡ false → FamilyCreditedZ B s f cells from also a a
-family-emptyZ B s f cells from also a none =
+pub family-emptyZ : (B : Board) (d : Side) (also f : ℕ) (a : List ℤ) → someSum 6 (placesZ (d .groups + f * 6) a) (placesZ (also + f * 6) a) ≡ false → FamilyCreditedZ B d also f a a
+family-emptyZ B d also f a none =
+    let s = isHorizontal d in
+    let cells = d .cells in
+    let from = d .groups in
     zone-none (pos 0) _ cells (3 * periodOf B s) a
     (λ k h. sym (ap (λ x. placesZ cells a k +ℤ x) (no-termZ (placesZ (from + f * 6) a) (placesZ (also + f * 6) a) none (cellPattern B s f k) (shortClass B s k)) ∙ +ℤ-idr (placesZ cells a k)))
 
 -- ---- a side, family by family
-module _ (B : Board) (s : Bool) (long short cells from also : ℕ) (a : List ℤ) (R : SideReadyZ B s long short cells from also a) where
-  pub side-noneZ : SideCellsZ B s cells from also 0 a a
-  side-noneZ = zone-none (pos 0) _ cells (3 * periodOf B s) a (λ k h. R .clear k h ∙ sym (cell-none _+ℤ_ (pos 0) (familyZ (placesZ from a) (placesZ also a)) (tableOf B s) (longClass B s k) (shortClass B s k)))
+module _ (B : Board) (d : Side) (also : ℕ) (a : List ℤ) (R : SideReadyZ B d also a) where
+  abbrev onH : Bool
+  onH = isHorizontal d
 
-  module _ (f : ℕ) (h : f < periodOf B s) (a' : List ℤ) (b : SideCellsZ B s cells from also f a a') where
-    from-same : (j : ℕ) → j < 6 → placesZ (from + f * 6) a' j ≡ family (placesZ from a) f j
-    from-same j l = same-groups (pos 0) _ cells (3 * periodOf B s) from a a' (R .apart .0) b f j
+  abbrev first : ℕ
+  first = d .cells
+
+  abbrev groups : ℕ
+  groups = d .groups
+
+  pub side-noneZ : SideCellsZ B d also 0 a a
+  side-noneZ = zone-none (pos 0) _ first (3 * periodOf B onH) a (λ k h. R .clear k h ∙ sym (cell-none _+ℤ_ (pos 0) (familyZ (placesZ groups a) (placesZ also a)) (tableOf B onH) (longClass B onH k) (shortClass B onH k)))
+
+  module _ (f : ℕ) (h : f < periodOf B onH) (a' : List ℤ) (b : SideCellsZ B d also f a a') where
+    from-same : (j : ℕ) → j < 6 → placesZ (groups + f * 6) a' j ≡ family (placesZ groups a) f j
+    from-same j l = same-groups (pos 0) _ first (3 * periodOf B onH) groups a a' (R .apart .0) b f j
 
     also-same : (j : ℕ) → j < 6 → placesZ (also + f * 6) a' j ≡ family (placesZ also a) f j
-    also-same j l = same-groups (pos 0) _ cells (3 * periodOf B s) also a a' (R .apart .1) b f j
+    also-same j l = same-groups (pos 0) _ first (3 * periodOf B onH) also a a' (R .apart .1) b f j
 
-    gain-same : (k : ℕ) → gainZ B s f (from + f * 6) (also + f * 6) a' k ≡ familyZ (placesZ from a) (placesZ also a) f (cellPattern B s f k) (shortClass B s k)
-    gain-same k = same-termZ 6 _ _ _ _ (cellPattern B s f k) (shortClass B s k) from-same also-same
+    gain-same : (k : ℕ) → gainZ B onH f (groups + f * 6) (also + f * 6) a' k ≡ familyZ (placesZ groups a) (placesZ also a) f (cellPattern B onH f k) (shortClass B onH k)
+    gain-same k = same-termZ 6 _ _ _ _ (cellPattern B onH f k) (shortClass B onH k) from-same also-same
 
     -- the sum with the family in
-    next : (k : ℕ) → k < 3 * periodOf B s → placesZ cells a' k +ℤ gainZ B s f (from + f * 6) (also + f * 6) a' k ≡ cellZ B s from also a (f + 1) k
-    next k l = ap₂ _+ℤ_ (b .inside k l) (gain-same k) ∙ sym (cell-more _+ℤ_ (pos 0) (familyZ (placesZ from a) (placesZ also a)) (tableOf B s) f (longClass B s k) (shortClass B s k))
+    next : (k : ℕ) → k < 3 * periodOf B onH → placesZ first a' k +ℤ gainZ B onH f (groups + f * 6) (also + f * 6) a' k ≡ cellZ B onH groups also a (f + 1) k
+    next k l = ap₂ _+ℤ_ (b .inside k l) (gain-same k) ∙ sym (cell-more _+ℤ_ (pos 0) (familyZ (placesZ groups a) (placesZ also a)) (tableOf B onH) f (longClass B onH k) (shortClass B onH k))
 
-    pub family-readyZ : FamilyReadyZ B s f long short cells from also a'
+    pub family-readyZ : FamilyReadyZ B d also f a'
     family-readyZ = record {
       places = record { board = R .board; steps = R .steps; in-table = h };
       twelve = record {
@@ -286,7 +315,7 @@ module _ (B : Board) (s : Bool) (long short cells from also : ℕ) (a : List ℤ
       fits = λ k l. rw (next k l) (omega (arith, R .small (f + 1) k (omega arith)));
     }
 
-    pub side-moreZ : (a'' : List ℤ) → FamilyCreditedZ B s f cells from also a' a'' → SideCellsZ B s cells from also (f + 1) a a''
+    pub side-moreZ : (a'' : List ℤ) → FamilyCreditedZ B d also f a' a'' → SideCellsZ B d also (f + 1) a a''
     side-moreZ a'' p =
-        zone-family _+ℤ_ (pos 0) (familyZ (placesZ from a) (placesZ also a)) (tableOf B s) (pos 0) (longClass B s) (shortClass B s) cells (3 * periodOf B s) f a a' a'' b
-        (zone-ext (pos 0) _ _ cells (3 * periodOf B s) a' a'' (λ k l. ap (λ x. placesZ cells a' k +ℤ x) (gain-same k)) p)
+        zone-family _+ℤ_ (pos 0) (familyZ (placesZ groups a) (placesZ also a)) (tableOf B onH) (pos 0) (longClass B onH) (shortClass B onH) first (3 * periodOf B onH) f a a' a'' b
+        (zone-ext (pos 0) _ _ first (3 * periodOf B onH) a' a'' (λ k l. ap (λ x. placesZ first a' k +ℤ x) (gain-same k)) p)

@@ -6,7 +6,7 @@ use lib.ListN.{length}
 use lib.IntN.{ℤ, pos, _+ℤ_}
 use Rattle.board.specs.Hits.{EdgeList, Board, size}
 use Rattle.board.specs.Sides.{periodOf}
-use Rattle.board.specs.Domain.{ListOk, BoardOk}
+use Rattle.board.specs.Domain.{EdgesOk, BoardOk}
 use Rattle.groups.specs.Groups.{groupSum}
 use Rattle.room.specs.Room.{used, Laid}
 use Rattle.sums.specs.Sums.{Likelihoods, LikelihoodsOk, cellScore}
@@ -16,9 +16,9 @@ use Rattle.sums.specs.SumParts.{valueAt}
 abbrev pub groupScore : Board → EdgeList → Likelihoods → ℕ → ℕ → Bool → ℕ → ℤ
 groupScore B E X t i = groupSum _+ℤ_ (pos 0) (valueAt X i) B E t
 
--- the list, its likelihoods, the pattern tables and the transform are accepted, and the room is long enough
+-- the edges, their likelihoods, the pattern tables and the transform are accepted, and the room is long enough. Confidences are not asked about: no sum reads them
 pub record SumsReady (B : Board) (E : EdgeList) (X : Likelihoods) (t : ℕ) (a : List ℤ) : Type 0 where
-  pub list : ListOk E
+  pub list : EdgesOk E
   pub likelihoods : LikelihoodsOk E X
   pub board : BoardOk B
   pub transform : t < 8

@@ -14,11 +14,12 @@ use Rattle.laws.specs.Grid.{rowOf, colOf, origins}
 use Rattle.laws.specs.Part.{view}
 use Rattle.laws.specs.GridLaws.{h-below, v-below}
 use Rattle.laws.specs.Residues.{joint-long, joint-short}
-use Rattle.board.specs.Hits.{EdgeList, Board, size, look, horizontal, hit}
+use Rattle.board.specs.Hits.{EdgeList, Board, size, bare, look, horizontal, hit}
 use Rattle.board.specs.Sides.{is, onSide, periodOf}
 use Rattle.board.specs.Domain.{ListOk, BoardOk}
 use Rattle.board.specs.HitsLaws.{side-some}
 use Rattle.likelihood.specs.SumLaws.{pair-size}
+use Rattle.groups.specs.Groups.{groupAt}
 use Rattle.cells.specs.Listed.{length-listed, getD-listed, view-listed}
 use Rattle.cells.specs.Cells.{width}
 use Rattle.room.specs.Room.{cellsAt, used}
@@ -109,3 +110,17 @@ sums-again B E F X Y t u a₀ a₁ a₂ p q = laid-again _ _ _ _ _ _ _ a₀ a₁
 
 pub sums-cleared : (B : Board) (E : EdgeList) (X : Likelihoods) (t : ℕ) (a a' : List ℤ) → SumsReady B E X t a → SumsBuilt B E X t a a' → cleared (pos 0) (used (periodOf B) 2) a' ≡ cleared (pos 0) (used (periodOf B) 2) a
 sums-cleared B E X t a a' R D = laid-cleared _ _ _ _ _ (pos 0) a a' (R .room) D
+
+-- ---- a list with its confidences and the same list without them have the same sums: what `build_sums`, which takes none, is asked and gives
+pub bare-ready : (B : Board) (E : EdgeList) (X : Likelihoods) (t : ℕ) (a : List ℤ) → SumsReady B E X t a → SumsReady B (bare E) X t a
+bare-ready B E X t a R = record {
+  list = R .list;
+  likelihoods = record { matches = R .likelihoods .matches; mismatches = R .likelihoods .mismatches; match = R .likelihoods .match; mismatch = R .likelihoods .mismatch };
+  board = R .board;
+  transform = R .transform;
+  room = R .room;
+}
+
+pub bare-built : (B : Board) (E : EdgeList) (X : Likelihoods) (t : ℕ) (a a' : List ℤ) → SumsBuilt B (bare E) X t a a' → SumsBuilt B E X t a a'
+unfolding cellScore sideScore groupAt hit look
+bare-built B E X t a a' D = record { len = D .len; cells = D .cells; groups = D .groups; surplus = D .surplus }

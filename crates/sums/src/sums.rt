@@ -1,14 +1,16 @@
 // The likelihood sums of one transform, in lent room: as the counts, with two rows of groups, match then mismatch, and no skipping of empty groups,
 // since adding 0 to a whole number changes nothing.
 ghost use mathlib.Core.Path.{_≡_};
+ghost use mathlib.Core.List.{[]};
 ghost use Prim.Native.Nat.{_<_, _^_};
-ghost use lib.Dec.{eqb};
 ghost use lib.ListN.{length, getD, set};
 ghost use lib.IntN.{pos, natAbs, _+ℤ_};
 ghost use Rattle.board.specs.Hits.{edges, tables};
 ghost use Rattle.sums.specs.Sums.{likelihoods};
 ghost use Rattle.sums.specs.SumParts.{placesZ, termZ, rowZ, Twelve, someSum, TermsZ, SumsFillReady, SumsFilled, RunReadyZ, RunCreditedZ, FamilyReadyZ, FamilyCreditedZ, SideReadyZ, SideBuiltZ};
 ghost use Rattle.sums.specs.SumsRoom.{SumsReady, SumsBuilt};
+use laws::Periods;
+use room::Side;
 
 // Adds x to place k.
 fn add_at(sums: &mut [i64], k: usize, x: i64)
@@ -24,33 +26,23 @@ fn fill_sums(
     cols: &[i32],
     orientations: &[u8],
     bits: &[u8],
-    confidences: &[f32],
     matches: &[f32],
     mismatches: &[f32],
     t: u8,
-    len: u32,
-    tall: u32,
+    periods: Periods,
     base: usize,
     sums: &mut [i64],
 )
-    requires { ⌜ SumsFillReady len tall (edges (now rows) (now cols) (now orientations) (now bits) (now confidences)) (likelihoods (now matches) (now mismatches)) t base (now sums) ⌝ }
-    ensures { λ _. ⌜ SumsFilled len tall (edges (now (rows .entry)) (now (cols .entry)) (now (orientations .entry)) (now (bits .entry)) (now (confidences .entry))) (likelihoods (now (matches .entry)) (now (mismatches .entry))) t base (length (now (rows .entry))) (now (sums .entry)) (now (sums .exit)) ⌝ }
+    requires { ⌜ SumsFillReady (periods .h) (periods .v) (edges (now rows) (now cols) (now orientations) (now bits) []) (likelihoods (now matches) (now mismatches)) t base (now sums) ⌝ }
+    ensures { λ _. ⌜ SumsFilled (periods .h) (periods .v) (edges (now (rows .entry)) (now (cols .entry)) (now (orientations .entry)) (now (bits .entry)) []) (likelihoods (now (matches .entry)) (now (mismatches .entry))) t base (length (now (rows .entry))) (now (sums .entry)) (now (sums .exit)) ⌝ }
 {
-    let row = ((len + tall) * 6) as usize;
+    let row = room::row_of_groups(periods);
     let matrix = board::transform::matrix_of(t);
-    let h = laws::modulus_of(len);
-    let v = laws::modulus_of(tall);
+    let h = laws::modulus_of(periods.h as u32);
+    let v = laws::modulus_of(periods.v as u32);
     for i in 0..rows.len() {
-        let p = groups::groups::group_place(
-            rows[i],
-            cols[i],
-            orientations[i],
-            bits[i],
-            t,
-            matrix,
-            h,
-            v,
-        );
+        let edge = board::edge::edge_at(rows, cols, orientations, bits, i);
+        let p = groups::groups::group_place(edge, t, matrix, h, v);
         let at = base + p as usize;
         let m = likelihood::quantize_ll(matches[i]);
         add_at(sums, at, m);
@@ -109,11 +101,11 @@ fn credit_sum_run(
     part: &[u8],
     n: usize,
     at: usize,
-    long: usize,
-    short: usize,
+    stride: usize,
+    across: usize,
 )
-    requires { ⌜ RunReadyZ terms (now part) n at long short (now sums) ⌝ }
-    ensures { λ _. ⌜ RunCreditedZ terms (now (part .entry)) n at long short (now (sums .entry)) (now (sums .exit)) ⌝ }
+    requires { ⌜ RunReadyZ terms (now part) n at stride across (now sums) ⌝ }
+    ensures { λ _. ⌜ RunCreditedZ terms (now (part .entry)) n at stride across (now (sums .entry)) (now (sums .exit)) ⌝ }
 {
     for i in 0..n {
         let pattern = part[i] as usize;
@@ -121,10 +113,10 @@ fn credit_sum_run(
         let a = row[0];
         let b = row[1];
         let c = row[2];
-        let k = at + i * long;
+        let k = at + i * stride;
         add_at(sums, k, a);
-        add_at(sums, k + short, b);
-        add_at(sums, k + 2 * short, c);
+        add_at(sums, k + across, b);
+        add_at(sums, k + 2 * across, c);
     }
 }
 
@@ -132,24 +124,32 @@ fn credit_sum_run(
 fn credit_sum_held<'a>(
     h: &'a [u8],
     v: &'a [u8],
-    orientation: u8,
-    family: usize,
-    long: usize,
-    short: usize,
-    cells: usize,
-    from: usize,
+    side: Side,
     also: usize,
+    family: usize,
     sums: &mut [i64],
 )
-    requires { ⌜ FamilyReadyZ (tables (now h) (now v)) (eqb orientation 0) family long short cells from also (now sums) ⌝ }
-    ensures { λ _. ⌜ FamilyCreditedZ (tables (now (h .entry)) (now (v .entry))) (eqb orientation 0) family cells from also (now (sums .entry)) (now (sums .exit)) ⌝ }
+    requires { ⌜ FamilyReadyZ (tables (now h) (now v)) side also family (now sums) ⌝ }
+    ensures { λ _. ⌜ FamilyCreditedZ (tables (now (h .entry)) (now (v .entry))) side also family (now (sums .entry)) (now (sums .exit)) ⌝ }
 {
-    let terms = fold_sums(sums, from + family * 6, also + family * 6);
+    let orientation = side.orientation;
+    let stride = side.stride;
+    let across = side.across;
+    let cells = side.cells;
+    let terms = fold_sums(sums, side.groups + family * 6, also + family * 6);
     let part = board::pattern::patterns_from(h, v, orientation, family);
     let n = part.len();
-    credit_sum_run(sums, terms, part, n, cells, long, short);
+    credit_sum_run(sums, terms, part, n, cells, stride, across);
     let whole = board::pattern::patterns_from(h, v, orientation, 0);
-    credit_sum_run(sums, terms, whole, family, cells + n * long, long, short);
+    credit_sum_run(
+        sums,
+        terms,
+        whole,
+        family,
+        cells + n * stride,
+        stride,
+        across,
+    );
 }
 
 // Whether one of the twelve sums of a family is not 0.
@@ -172,74 +172,37 @@ fn some_sum(sums: &[i64], from: usize, also: usize) -> bool
 fn credit_sum_family<'a>(
     h: &'a [u8],
     v: &'a [u8],
-    orientation: u8,
-    family: usize,
-    long: usize,
-    short: usize,
-    cells: usize,
-    from: usize,
+    side: Side,
     also: usize,
+    family: usize,
     sums: &mut [i64],
 )
-    requires { ⌜ FamilyReadyZ (tables (now h) (now v)) (eqb orientation 0) family long short cells from also (now sums) ⌝ }
-    ensures { λ _. ⌜ FamilyCreditedZ (tables (now (h .entry)) (now (v .entry))) (eqb orientation 0) family cells from also (now (sums .entry)) (now (sums .exit)) ⌝ }
+    requires { ⌜ FamilyReadyZ (tables (now h) (now v)) side also family (now sums) ⌝ }
+    ensures { λ _. ⌜ FamilyCreditedZ (tables (now (h .entry)) (now (v .entry))) side also family (now (sums .entry)) (now (sums .exit)) ⌝ }
 {
-    if some_sum(sums, from + family * 6, also + family * 6) {
-        credit_sum_held(
-            h,
-            v,
-            orientation,
-            family,
-            long,
-            short,
-            cells,
-            from,
-            also,
-            sums,
-        );
+    if some_sum(sums, side.groups + family * 6, also + family * 6) {
+        credit_sum_held(h, v, side, also, family, sums);
     }
 }
 
 // Adds all families of one side to its cells. The cells were cleared, and the groups stand.
-fn build_sum_side<'a>(
-    h: &'a [u8],
-    v: &'a [u8],
-    orientation: u8,
-    long: usize,
-    short: usize,
-    cells: usize,
-    from: usize,
-    also: usize,
-    sums: &mut [i64],
-)
-    requires { ⌜ SideReadyZ (tables (now h) (now v)) (eqb orientation 0) long short cells from also (now sums) ⌝ }
-    ensures { λ _. ⌜ SideBuiltZ (tables (now (h .entry)) (now (v .entry))) (eqb orientation 0) cells from also (now (sums .entry)) (now (sums .exit)) ⌝ }
+fn build_sum_side<'a>(h: &'a [u8], v: &'a [u8], side: Side, also: usize, sums: &mut [i64])
+    requires { ⌜ SideReadyZ (tables (now h) (now v)) side also (now sums) ⌝ }
+    ensures { λ _. ⌜ SideBuiltZ (tables (now (h .entry)) (now (v .entry))) side also (now (sums .entry)) (now (sums .exit)) ⌝ }
 {
-    let period = board::pattern::patterns_from(h, v, orientation, 0).len();
+    let period = board::pattern::patterns_from(h, v, side.orientation, 0).len();
     for family in 0..period {
-        credit_sum_family(
-            h,
-            v,
-            orientation,
-            family,
-            long,
-            short,
-            cells,
-            from,
-            also,
-            sums,
-        );
+        credit_sum_family(h, v, side, also, family, sums);
     }
 }
 
 // The likelihood sums of one transform: the used room is cleared, the groups are filled, then the horizontal cells are built, then the vertical ones.
-// The confidences are part of the list that the promise speaks of, and are not read.
+// A hit and a miss add their likelihoods, whatever the confidences: the list is taken without them.
 pub fn build_sums<'a>(
     rows: &[i32],
     cols: &[i32],
     orientations: &[u8],
     bits: &[u8],
-    confidences: &[f32],
     matches: &[f32],
     mismatches: &[f32],
     t: u8,
@@ -247,39 +210,30 @@ pub fn build_sums<'a>(
     v: &'a [u8],
     sums: &mut [i64],
 )
-    requires { ⌜ SumsReady (tables (now h) (now v)) (edges (now rows) (now cols) (now orientations) (now bits) (now confidences)) (likelihoods (now matches) (now mismatches)) t (now sums) ⌝ }
-    ensures { λ _. ⌜ SumsBuilt (tables (now (h .entry)) (now (v .entry))) (edges (now (rows .entry)) (now (cols .entry)) (now (orientations .entry)) (now (bits .entry)) (now (confidences .entry))) (likelihoods (now (matches .entry)) (now (mismatches .entry))) t (now (sums .entry)) (now (sums .exit)) ⌝ }
+    requires { ⌜ SumsReady (tables (now h) (now v)) (edges (now rows) (now cols) (now orientations) (now bits) []) (likelihoods (now matches) (now mismatches)) t (now sums) ⌝ }
+    ensures { λ _. ⌜ SumsBuilt (tables (now (h .entry)) (now (v .entry))) (edges (now (rows .entry)) (now (cols .entry)) (now (orientations .entry)) (now (bits .entry)) []) (likelihoods (now (matches .entry)) (now (mismatches .entry))) t (now (sums .entry)) (now (sums .exit)) ⌝ }
 {
-    let len = h.len();
-    let tall = v.len();
-    let base = 3 * len + 3 * tall;
-    let row = (len + tall) * 6;
-    let next = base + row;
-    room::clear_i64(sums, next + row);
+    let periods = Periods {
+        h: h.len(),
+        v: v.len(),
+    };
+    let end = room::used_by_sums(periods);
+    room::clear_i64(sums, end);
+    let horizontal = room::horizontal(periods);
     fill_sums(
         rows,
         cols,
         orientations,
         bits,
-        confidences,
         matches,
         mismatches,
         t,
-        len as u32,
-        tall as u32,
-        base,
+        periods,
+        horizontal.groups,
         sums,
     );
-    build_sum_side(h, v, 0, 3, 1, 0, base, next, sums);
-    build_sum_side(
-        h,
-        v,
-        1,
-        1,
-        tall,
-        3 * len,
-        base + len * 6,
-        next + len * 6,
-        sums,
-    );
+    let row = room::row_of_groups(periods);
+    build_sum_side(h, v, horizontal, horizontal.groups + row, sums);
+    let vertical = room::vertical(periods);
+    build_sum_side(h, v, vertical, vertical.groups + row, sums);
 }

@@ -14,6 +14,8 @@ use Rattle.laws.specs.WeightLaws.{upto-weightlike}
 use Rattle.laws.specs.Zone.{Zone, zone-none, zone-ext}
 use Rattle.board.specs.Hits.{Board}
 use Rattle.board.specs.Sides.{tableOf, periodOf}
+use Rattle.room.specs.declared.Side.{Side}
+use Rattle.room.specs.Room.{isHorizontal}
 use Rattle.groups.specs.Terms.{placesN, placesF}
 use Rattle.groups.specs.TermsLaws.{same-term}
 use Rattle.cells.specs.Cells.{longClass, shortClass, cellSum, family, familyC, familyW}
@@ -25,15 +27,24 @@ use Rattle.tables.specs.Side.{total, SideReady, SideCells}
 pub same-groups : {A : Type 0} (d : A) (Q : ℕ → A) (cells n groups : ℕ) (x x' : List A) → cells + n ≤ groups → Zone d Q cells n x x' → (f j : ℕ) → getD x' (groups + f * 6 + j) d ≡ getD x (groups + (f * 6 + j)) d
 same-groups d Q cells n groups x x' apart z f j = z .above (groups + f * 6 + j) (omega arith) ∙ ap (λ k. getD x k d) (add-assoc groups (f * 6) j)
 
-module _ (B : Board) (s : Bool) (long short cells groups : ℕ) (c : List ℕ) (w : List Float) (R : SideReady B s long short cells groups c w) where
-  pub side-none : SideCells B s cells groups 0 c c w w
+module _ (B : Board) (d : Side) (c : List ℕ) (w : List Float) (R : SideReady B d c w) where
+  abbrev s : Bool
+  s = isHorizontal d
+
+  abbrev cells : ℕ
+  cells = d .cells
+
+  abbrev groups : ℕ
+  groups = d .groups
+
+  pub side-none : SideCells B d 0 c c w w
   side-none = record {
     counts = zone-none 0 _ cells (3 * periodOf B s) c (λ k h. R .clearC k h ∙ sym (cell-none _+_ 0 (familyC (placesN groups c)) (tableOf B s) (longClass B s k) (shortClass B s k)));
     weights = zone-none nan _ cells (3 * periodOf B s) w (λ k h. R .clearW k h ∙ sym (cell-none (add binary32) zeroF (familyW (placesN groups c) (placesF groups w)) (tableOf B s) (longClass B s k) (shortClass B s k)));
   }
 
   -- the first f families are in, and family f comes next
-  module _ (f : ℕ) (h : f < periodOf B s) (c' : List ℕ) (w' : List Float) (b : SideCells B s cells groups f c c' w w') where
+  module _ (f : ℕ) (h : f < periodOf B s) (c' : List ℕ) (w' : List Float) (b : SideCells B d f c c' w w') where
     groupsC : (j : ℕ) → j < 6 → placesN (groups + f * 6) c' j ≡ family (placesN groups c) f j
     groupsC j l = same-groups 0 _ cells (3 * periodOf B s) groups c c' (R .apart) (b .counts) f j
 
@@ -51,7 +62,7 @@ module _ (B : Board) (s : Bool) (long short cells groups : ℕ) (c : List ℕ) (
         → placesN cells c' k + gainC B s f (groups + f * 6) c' k ≡ cellSum _+_ 0 (familyC (placesN groups c)) (tableOf B s) (f + 1) (longClass B s k) (shortClass B s k)
     next k l = ap₂ _+_ (b .counts .inside k l) (gain-count k) ∙ sym (cell-more _+_ 0 (familyC (placesN groups c)) (tableOf B s) f (longClass B s k) (shortClass B s k))
 
-    pub family-ready : FamilyReady B s f long short cells groups c' w'
+    pub family-ready : FamilyReady B d f c' w'
     family-ready = record {
       places = record { board = R .board; steps = R .steps; in-table = h };
       six = record {
@@ -72,7 +83,7 @@ module _ (B : Board) (s : Bool) (long short cells groups : ℕ) (c : List ℕ) (
           );
     }
 
-    pub side-more : (n : ℕ) → n ≡ f + 1 → (c'' : List ℕ) (w'' : List Float) → FamilyCredited B s f cells groups c' c'' w' w'' → SideCells B s cells groups n c c'' w w''
+    pub side-more : (n : ℕ) → n ≡ f + 1 → (c'' : List ℕ) (w'' : List Float) → FamilyCredited B d f c' c'' w' w'' → SideCells B d n c c'' w w''
     side-more n e c'' w'' p = rw e (record {
       counts =
           zone-family _+_ 0 (familyC (placesN groups c)) (tableOf B s) 0 (longClass B s) (shortClass B s) cells (3 * periodOf B s) f c c' c'' (b .counts)

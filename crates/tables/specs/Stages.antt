@@ -16,17 +16,18 @@ use Rattle.laws.specs.Zone.{Zone, zone-ext}
 use Rattle.board.specs.Hits.{EdgeList, Board, size, seen}
 use Rattle.board.specs.Sides.{is, tableOf, periodOf}
 use Rattle.board.specs.HitsLaws.{side-some}
-use Rattle.groups.specs.Groups.{member, confidenceAt, groupCount, groupWeight, Periods}
-use Rattle.room.specs.Room.{rowLength, cellsAt, cellsEnd, groupsAt, used, Laid}
+use Rattle.laws.specs.declared.Periods.{Periods}
+use Rattle.room.specs.declared.Side.{Side}
+use Rattle.groups.specs.Groups.{member, confidenceAt, groupCount, groupWeight}
+use Rattle.room.specs.Room.{PeriodsOk, rowLength, cellsAt, cellsEnd, groupsAt, used, isHorizontal, sideOf, Stands, Laid}
 use Rattle.groups.specs.Terms.{placesN, placesF}
 use Rattle.cells.specs.Cells.{longClass, shortClass, cellCount, cellWeight}
 use Rattle.tables.specs.CellsLaws.{same-cell, cell-count, total-edges, group-upto}
-use Rattle.cells.specs.Credit.{longStep, shortStep}
 use Rattle.groups.specs.Fill.{FillReady, Filled, rowSum}
 use Rattle.groups.specs.FillLaws.{row-side}
-use Rattle.tables.specs.Side.{total, SideReady, SideBuilt}
+use Rattle.tables.specs.Side.{total, cellC, cellW, SideReady, SideBuilt}
 use Rattle.tables.specs.Built.{TablesReady, TablesBuilt}
-use Rattle.room.specs.RoomLaws.{cells-in, groups-in, groups-past, laid-ext, laid-clear, laid-groups, laid-cells}
+use Rattle.room.specs.RoomLaws.{cells-in, side-stands, groups-in, groups-past, laid-ext, laid-clear, laid-groups, laid-cells}
 
 -- ---- of any sum: the groups of both sides, filled in one row, are the groups of each side
 pub row-groups : {A : Type 0} (op : A → A → A) (z : A) (f : ℕ → A) (B : Board) (E : EdgeList) (t : ℕ) → 0 < periodOf B true → ((i : ℕ) → i < size E → seen E i < 2) → (s : Bool) (k : ℕ) → k < periodOf B s * 6
@@ -38,52 +39,57 @@ pub both : {A : Type 0} (C : Bool → ℕ → A) (z : A) (s : Bool) (k : ℕ) �
 both C z true k = refl
 both C z false k = refl
 
-periods : (B : Board) (E : EdgeList) (t : ℕ) (c : List ℕ) (w : List Float) → TablesReady B E t c w → Periods (periodOf B true) (periodOf B false)
+periods : (B : Board) (E : EdgeList) (t : ℕ) (c : List ℕ) (w : List Float) → TablesReady B E t c w → PeriodsOk (record { h = periodOf B true; v = periodOf B false })
 periods B E t c w R = record {
   some = (side-some B (R .board) true, side-some B (R .board) false);
   few = (R .board .h .few, R .board .v .few);
 }
+
+-- built at a side, whichever way its value is written
+built-at : (B : Board) (d d' : Side) → d ≡ d' → (c c' : List ℕ) (w w' : List Float) → SideBuilt B d c c' w w' → SideBuilt B d' c c' w w'
+built-at B d d' e c c' w w' b = subst (λ (x : Side). SideBuilt B x c c' w w') e b
 
 -- ---- the tables of one transform
 module _ (B : Board) (E : EdgeList) (t : ℕ) (c₀ : List ℕ) (w₀ : List Float) (R : TablesReady B E t c₀ w₀) where
   abbrev P : Bool → ℕ
   P = periodOf B
 
-  abbrev end : ℕ
-  end = cellsEnd P + rowLength (P true) (P false)
+  -- the periods by value
+  abbrev both-periods : Periods
+  both-periods = record { h = P true; v = P false }
 
   some : (s : Bool) → 0 < P s
   some = side-some B (R .board)
 
-  end-used : used P 1 ≡ end
-  end-used = ap (λ x. cellsEnd P + x) (one-mul (rowLength (P true) (P false)))
+  pub periods-ok : PeriodsOk both-periods
+  periods-ok = periods B E t c₀ w₀ R
 
   -- cleared: ready to fill
-  module _ (c₁ : List ℕ) (w₁ : List Float) (ec : c₁ ≡ cleared 0 end c₀) (ew : w₁ ≡ cleared zeroF end w₀) where
-    uc : Written 0 (λ k. 0) c₀ c₁ end
-    uc = rw ec (cleared-written 0 0 end c₀ (omega (arith, end-used, R .room .0)))
+  module _ (end : ℕ) (ee : end ≡ used P 1) (c₁ : List ℕ) (w₁ : List Float) (ec : c₁ ≡ cleared 0 end c₀) (ew : w₁ ≡ cleared zeroF end w₀) where
+    uc : Written 0 (λ k. 0) c₀ c₁ (used P 1)
+    uc = rw (ec, ee) (cleared-written 0 0 (used P 1) c₀ (R .room .0))
 
-    uw : Written nan (λ k. zeroF) w₀ w₁ end
-    uw = rw ew (cleared-written nan zeroF end w₀ (omega (arith, end-used, R .room .1)))
+    uw : Written nan (λ k. zeroF) w₀ w₁ (used P 1)
+    uw = rw (ew, ee) (cleared-written nan zeroF (used P 1) w₀ (R .room .1))
 
     pub fill-ready : FillReady (P true) (P false) E t (cellsEnd P) c₁ w₁
     fill-ready = record {
       list = R .list;
       transform = R .transform;
-      periods = periods B E t c₀ w₀ R;
-      room = (omega (arith, end-used, R .room .0, uc .len), omega (arith, end-used, R .room .1, uw .len));
+      periods = periods-ok;
+      room = (omega (arith, R .room .0, uc .len), omega (arith, R .room .1, uw .len));
       counts = λ k h. uc .front (cellsEnd P + k) (omega arith);
       weights = λ k h. uw .front (cellsEnd P + k) (omega arith);
     }
 
     -- filled: the groups stand, and no cells
     module _ (c₂ : List ℕ) (w₂ : List Float) (F : Filled (P true) (P false) E t (cellsEnd P) (size E) c₁ c₂ w₁ w₂) where
-      filled : {A : Type 0} (d z : A) (op : A → A → A) (f : ℕ → A) (a₀ a₁ a₂ : List A) → Written d (λ k. z) a₀ a₁ end
+      filled : {A : Type 0} (d z : A) (op : A → A → A) (f : ℕ → A) (a₀ a₁ a₂ : List A) → Written d (λ k. z) a₀ a₁ (used P 1)
           → Zone d (rowSum op z f (P true) (P false) E t (size E)) (cellsEnd P) (rowLength (P true) (P false)) a₁ a₂
           → Laid d P 1 (λ s k. z) (λ i s k. fold op z (size E) (member B E t s k) f) a₀ a₂
       filled d z op f a₀ a₁ a₂ u z' =
           laid-groups d P 1 (λ s k. z) (λ i s k. z) (λ i s k. fold op z (size E) (member B E t s k) f) (rowSum op z f (P true) (P false) E t (size E)) a₀ a₁ a₂
-          (laid-clear d P 1 z a₀ a₁ (rw end-used u))
+          (laid-clear d P 1 z a₀ a₁ u)
           (rw (one-mul (rowLength (P true) (P false))) z')
           (λ i l s k h. ap (rowSum op z f (P true) (P false) E t (size E)) (only i l s k) ∙ row-groups op z f B E t (some true) (R .list .bit) s k h)
         where
@@ -97,40 +103,46 @@ module _ (B : Board) (E : EdgeList) (t : ℕ) (c₀ : List ℕ) (w₀ : List Flo
       pub filled-weights : Laid nan P 1 (λ s k. zeroF) (λ i. groupWeight B E t) w₀ w₂
       filled-weights = filled nan zeroF (add binary32) (confidenceAt E) w₀ w₁ w₂ uw (F .weights)
 
-  -- a side whose groups stand from g on
-  module _ (s : Bool) (C : Bool → ℕ → ℕ) (W : Bool → ℕ → Float) (c : List ℕ) (w : List Float)
-      (lc : Laid 0 P 1 C (λ i. groupCount B E t) c₀ c) (lw : Laid nan P 1 W (λ i. groupWeight B E t) w₀ w) (g : ℕ) (eg : g ≡ groupsAt P 0 s) where
+  -- a side whose groups stand
+  module _ (d : Side) (S : Stands P d) (C : Bool → ℕ → ℕ) (W : Bool → ℕ → Float) (c : List ℕ) (w : List Float)
+      (lc : Laid 0 P 1 C (λ i. groupCount B E t) c₀ c) (lw : Laid nan P 1 W (λ i. groupWeight B E t) w₀ w) where
+    abbrev s : Bool
+    s = isHorizontal d
+
+    abbrev g : ℕ
+    g = d .groups
+
     groupedC : (k : ℕ) → k < P s * 6 → placesN g c k ≡ groupCount B E t s k
-    groupedC k h = ap (λ x. placesN x c k) eg ∙ lc .groups 0 (omega arith) s k h
+    groupedC k h = ap (λ x. placesN x c k) (S .groups) ∙ lc .groups 0 (omega arith) s k h
 
     groupedW : (k : ℕ) → k < P s * 6 → placesF g w k ≡ groupWeight B E t s k
-    groupedW k h = ap (λ x. placesF x w k) eg ∙ lw .groups 0 (omega arith) s k h
+    groupedW k h = ap (λ x. placesF x w k) (S .groups) ∙ lw .groups 0 (omega arith) s k h
 
     few : total (placesN g c) (P s) ≤ 8192
     unfolding total
     few = le-trans (le-of-eq (fold-ext _+_ 0 (P s * 6) all all (placesN g c) (groupCount B E t s) (λ k l. refl) groupedC)) (le-trans (total-edges B E t s (P s)) (R .list .few))
 
     -- ready to be built, if its cells are clear
-    pub side-ready : ((k : ℕ) → C s k ≡ 0) → ((k : ℕ) → W s k ≡ zeroF) → SideReady B s (longStep s) (shortStep B s) (cellsAt P s) g c w
+    pub side-ready : ((k : ℕ) → C s k ≡ 0) → ((k : ℕ) → W s k ≡ zeroF) → SideReady B d c w
     side-ready zc zw = record {
       board = R .board;
-      steps = (refl, refl);
-      apart = omega (arith, eg, cells-in P s, groups-past P 0 s);
-      room = (omega (arith, eg, groups-in P 1 0 (omega arith) s, R .room .0, lc .len), omega (arith, eg, groups-in P 1 0 (omega arith) s, R .room .1, lw .len));
+      steps = (S .stride, S .across);
+      apart = omega (arith, S .cells, S .groups, cells-in P s, groups-past P 0 s);
+      room = (omega (arith, S .groups, groups-in P 1 0 (omega arith) s, R .room .0, lc .len), omega (arith, S .groups, groups-in P 1 0 (omega arith) s, R .room .1, lw .len));
       few = few;
       light = λ k h. rw (groupedC k h, groupedW k h) (upto-weight (groupWeight B E t s k) (groupCount B E t s k) (group-upto B E t (omega (arith, R .list .few)) (R .list .confidence) s k));
-      clearC = λ k h. lc .cells s k h ∙ zc k;
-      clearW = λ k h. lw .cells s k h ∙ zw k;
+      clearC = λ k h. ap (λ x. placesN x c k) (S .cells) ∙ lc .cells s k h ∙ zc k;
+      clearW = λ k h. ap (λ x. placesF x w k) (S .cells) ∙ lw .cells s k h ∙ zw k;
     }
 
     -- built: the side's cells stand too
-    module _ (c' : List ℕ) (w' : List Float) (b : SideBuilt B s (cellsAt P s) g c c' w w') where
+    module _ (c' : List ℕ) (w' : List Float) (b : SideBuilt B d c c' w w') where
       pub side-counts : Laid 0 P 1 (λ s' k. cond (is s s') (cellCount B E t s k) (C s' k)) (λ i. groupCount B E t) c₀ c'
       side-counts =
           laid-cells 0 P 1 s C (λ i. groupCount B E t) (cellCount B E t s) c₀ c c' lc
           (zone-ext 0 _ _ (cellsAt P s) (3 * P s) c c'
           (λ k h. same-cell _+_ 0 false (placesN g c) (groupCount B E t s) (λ b. placesN g c) (λ b. groupCount B E t s) (P s) groupedC (λ b. groupedC) (tableOf B s) (longClass B s k) (shortClass B s k) ∙ cell-count B E t some (R .list .bit) s k)
-          (b .counts))
+          (subst (λ x. Zone 0 (cellC B d c (P s)) x (3 * P s) c c') (S .cells) (b .counts)))
 
       pub side-weights : Laid nan P 1 (λ s' k. cond (is s s') (cellWeight B E t s k) (W s' k)) (λ i. groupWeight B E t) w₀ w'
       unfolding cellWeight
@@ -138,45 +150,49 @@ module _ (B : Board) (E : EdgeList) (t : ℕ) (c₀ : List ℕ) (w₀ : List Flo
           laid-cells nan P 1 s W (λ i. groupWeight B E t) (cellWeight B E t s) w₀ w w' lw
           (zone-ext nan _ _ (cellsAt P s) (3 * P s) w w'
           (λ k h. same-cell (add binary32) zeroF false (placesN g c) (groupCount B E t s) (λ b. placesF g w) (λ b. groupWeight B E t s) (P s) groupedC (λ b. groupedW) (tableOf B s) (longClass B s k) (shortClass B s k))
-          (b .weights))
+          (subst (λ x. Zone nan (cellW B d c w (P s)) x (3 * P s) w w') (S .cells) (b .weights)))
 
-  -- ---- the two sides, one after the other
-  module _ (c₁ : List ℕ) (w₁ : List Float) (ec : c₁ ≡ cleared 0 end c₀) (ew : w₁ ≡ cleared zeroF end w₀)
-      (c₂ : List ℕ) (w₂ : List Float) (F : Filled (P true) (P false) E t (cellsEnd P) (size E) c₁ c₂ w₁ w₂) where
-    abbrev lc₂ : Laid 0 P 1 (λ s k. 0) (λ i. groupCount B E t) c₀ c₂
-    lc₂ = filled-counts c₁ w₁ ec ew c₂ w₂ F
+  -- ---- the two sides, one after the other: d and d' as the code was told of them
+  abbrev side : Bool → Side
+  side = sideOf both-periods
 
-    abbrev lw₂ : Laid nan P 1 (λ s k. zeroF) (λ i. groupWeight B E t) w₀ w₂
-    lw₂ = filled-weights c₁ w₁ ec ew c₂ w₂ F
+  module _ (end : ℕ) (ee : end ≡ used P 1) (c₁ : List ℕ) (w₁ : List Float) (ec : c₁ ≡ cleared 0 end c₀) (ew : w₁ ≡ cleared zeroF end w₀) (d : Side) (ed : d ≡ side true) where
+    pub groups-ready : FillReady (P true) (P false) E t (d .groups) c₁ w₁
+    groups-ready = rw ed (fill-ready end ee c₁ w₁ ec ew)
 
-    at-h : cellsEnd P ≡ groupsAt P 0 true
-    at-h = omega arith
+    module _ (c₂ : List ℕ) (w₂ : List Float) (F : Filled (P true) (P false) E t (d .groups) (size E) c₁ c₂ w₁ w₂) where
+      F' : Filled (P true) (P false) E t (cellsEnd P) (size E) c₁ c₂ w₁ w₂
+      F' = subst (λ (x : Side). Filled (P true) (P false) E t (x .groups) (size E) c₁ c₂ w₁ w₂) ed F
 
-    at-v : cellsEnd P + P true * 6 ≡ groupsAt P 0 false
-    at-v = omega arith
+      abbrev lc₂ : Laid 0 P 1 (λ s k. 0) (λ i. groupCount B E t) c₀ c₂
+      lc₂ = filled-counts end ee c₁ w₁ ec ew c₂ w₂ F'
 
-    pub h-ready : SideReady B true 3 1 0 (cellsEnd P) c₂ w₂
-    h-ready = side-ready true (λ s k. 0) (λ s k. zeroF) c₂ w₂ lc₂ lw₂ (cellsEnd P) at-h (λ k. refl) (λ k. refl)
+      abbrev lw₂ : Laid nan P 1 (λ s k. zeroF) (λ i. groupWeight B E t) w₀ w₂
+      lw₂ = filled-weights end ee c₁ w₁ ec ew c₂ w₂ F'
 
-    module _ (c₃ : List ℕ) (w₃ : List Float) (bh : SideBuilt B true 0 (cellsEnd P) c₂ c₃ w₂ w₃) where
-      abbrev half-c : Bool → ℕ → ℕ
-      half-c s k = cond s (cellCount B E t true k) 0
+      pub h-ready : SideReady B d c₂ w₂
+      h-ready = rw ed (side-ready (side true) (side-stands P true) (λ s k. 0) (λ s k. zeroF) c₂ w₂ lc₂ lw₂ (λ k. refl) (λ k. refl))
 
-      abbrev half-w : Bool → ℕ → Float
-      half-w s k = cond s (cellWeight B E t true k) zeroF
+      module _ (c₃ : List ℕ) (w₃ : List Float) (bh : SideBuilt B d c₂ c₃ w₂ w₃) (d' : Side) (ed' : d' ≡ side false) where
+        abbrev half-c : Bool → ℕ → ℕ
+        half-c s k = cond s (cellCount B E t true k) 0
 
-      abbrev lc₃ : Laid 0 P 1 half-c (λ i. groupCount B E t) c₀ c₃
-      lc₃ = side-counts true (λ s k. 0) (λ s k. zeroF) c₂ w₂ lc₂ lw₂ (cellsEnd P) at-h c₃ w₃ bh
+        abbrev half-w : Bool → ℕ → Float
+        half-w s k = cond s (cellWeight B E t true k) zeroF
 
-      abbrev lw₃ : Laid nan P 1 half-w (λ i. groupWeight B E t) w₀ w₃
-      lw₃ = side-weights true (λ s k. 0) (λ s k. zeroF) c₂ w₂ lc₂ lw₂ (cellsEnd P) at-h c₃ w₃ bh
+        lc₃ : Laid 0 P 1 half-c (λ i. groupCount B E t) c₀ c₃
+        lc₃ = side-counts (side true) (side-stands P true) (λ s k. 0) (λ s k. zeroF) c₂ w₂ lc₂ lw₂ c₃ w₃ (built-at B d (side true) ed c₂ c₃ w₂ w₃ bh)
 
-      pub v-ready : SideReady B false 1 (P false) (3 * P true) (cellsEnd P + P true * 6) c₃ w₃
-      v-ready = side-ready false half-c half-w c₃ w₃ lc₃ lw₃ (cellsEnd P + P true * 6) at-v (λ k. refl) (λ k. refl)
+        lw₃ : Laid nan P 1 half-w (λ i. groupWeight B E t) w₀ w₃
+        lw₃ = side-weights (side true) (side-stands P true) (λ s k. 0) (λ s k. zeroF) c₂ w₂ lc₂ lw₂ c₃ w₃ (built-at B d (side true) ed c₂ c₃ w₂ w₃ bh)
 
-      module _ (c₄ : List ℕ) (w₄ : List Float) (bv : SideBuilt B false (3 * P true) (cellsEnd P + P true * 6) c₃ c₄ w₃ w₄) where
-        pub tables-built : TablesBuilt B E t c₀ c₄ w₀ w₄
-        tables-built = record {
-          counts = laid-ext 0 P 1 _ (cellCount B E t) (λ i. groupCount B E t) c₀ c₄ (both (cellCount B E t) 0) (side-counts false half-c half-w c₃ w₃ lc₃ lw₃ (cellsEnd P + P true * 6) at-v c₄ w₄ bv);
-          weights = laid-ext nan P 1 _ (cellWeight B E t) (λ i. groupWeight B E t) w₀ w₄ (both (cellWeight B E t) zeroF) (side-weights false half-c half-w c₃ w₃ lc₃ lw₃ (cellsEnd P + P true * 6) at-v c₄ w₄ bv);
-        }
+        pub v-ready : SideReady B d' c₃ w₃
+        v-ready = rw ed' (side-ready (side false) (side-stands P false) half-c half-w c₃ w₃ lc₃ lw₃ (λ k. refl) (λ k. refl))
+
+        pub tables-built : (c₄ : List ℕ) (w₄ : List Float) → SideBuilt B d' c₃ c₄ w₃ w₄ → TablesBuilt B E t c₀ c₄ w₀ w₄
+        tables-built c₄ w₄ b =
+            let bv = built-at B d' (side false) ed' c₃ c₄ w₃ w₄ b in
+            record {
+              counts = laid-ext 0 P 1 _ (cellCount B E t) (λ i. groupCount B E t) c₀ c₄ (both (cellCount B E t) 0) (side-counts (side false) (side-stands P false) half-c half-w c₃ w₃ lc₃ lw₃ c₄ w₄ bv);
+              weights = laid-ext nan P 1 _ (cellWeight B E t) (λ i. groupWeight B E t) w₀ w₄ (both (cellWeight B E t) zeroF) (side-weights (side false) (side-stands P false) half-c half-w c₃ w₃ lc₃ lw₃ c₄ w₄ bv);
+            }

@@ -1,39 +1,19 @@
 // The class tables of one transform, in lent room.
-ghost use lib.Dec.{eqb};
 ghost use Rattle.board.specs.Hits.{edges, tables};
 ghost use Rattle.tables.specs.Side.{SideReady, SideBuilt};
 ghost use Rattle.tables.specs.Built.{TablesReady, TablesBuilt};
+use laws::Periods;
+use room::Side;
 
 // Adds all families of one side to its cells, by rising long residue: the n-th is family n - 1. The order is a promise, since weights are rounded with each
 // addition. The cells were cleared, and the groups stand.
-fn build_side<'a>(
-    h: &'a [u8],
-    v: &'a [u8],
-    orientation: u8,
-    long: usize,
-    short: usize,
-    cells: usize,
-    groups: usize,
-    counts: &mut [u32],
-    weights: &mut [f32],
-)
-    requires { ⌜ SideReady (tables (now h) (now v)) (eqb orientation 0) long short cells groups (now counts) (now weights) ⌝ }
-    ensures { λ _. ⌜ SideBuilt (tables (now (h .entry)) (now (v .entry))) (eqb orientation 0) cells groups (now (counts .entry)) (now (counts .exit)) (now (weights .entry)) (now (weights .exit)) ⌝ }
+fn build_side<'a>(h: &'a [u8], v: &'a [u8], side: Side, counts: &mut [u32], weights: &mut [f32])
+    requires { ⌜ SideReady (tables (now h) (now v)) side (now counts) (now weights) ⌝ }
+    ensures { λ _. ⌜ SideBuilt (tables (now (h .entry)) (now (v .entry))) side (now (counts .entry)) (now (counts .exit)) (now (weights .entry)) (now (weights .exit)) ⌝ }
 {
-    let period = board::pattern::patterns_from(h, v, orientation, 0).len();
+    let period = board::pattern::patterns_from(h, v, side.orientation, 0).len();
     for nth in 1..period + 1 {
-        crate::credit::credit_family(
-            h,
-            v,
-            orientation,
-            nth - 1,
-            long,
-            short,
-            cells,
-            groups,
-            counts,
-            weights,
-        );
+        crate::credit::credit_family(h, v, side, nth - 1, counts, weights);
     }
 }
 
@@ -53,12 +33,14 @@ pub fn build_tables<'a>(
     requires { ⌜ TablesReady (tables (now h) (now v)) (edges (now rows) (now cols) (now orientations) (now bits) (now confidences)) t (now counts) (now weights) ⌝ }
     ensures { λ _. ⌜ TablesBuilt (tables (now (h .entry)) (now (v .entry))) (edges (now (rows .entry)) (now (cols .entry)) (now (orientations .entry)) (now (bits .entry)) (now (confidences .entry))) t (now (counts .entry)) (now (counts .exit)) (now (weights .entry)) (now (weights .exit)) ⌝ }
 {
-    let len = h.len();
-    let tall = v.len();
-    let base = 3 * len + 3 * tall;
-    let end = base + (len + tall) * 6;
+    let periods = Periods {
+        h: h.len(),
+        v: v.len(),
+    };
+    let end = room::used_by_tables(periods);
     room::clear_u32(counts, end);
     room::clear_f32(weights, end);
+    let horizontal = room::horizontal(periods);
     groups::groups::fill_groups(
         rows,
         cols,
@@ -66,12 +48,11 @@ pub fn build_tables<'a>(
         bits,
         confidences,
         t,
-        len as u32,
-        tall as u32,
-        base,
+        periods,
+        horizontal.groups,
         counts,
         weights,
     );
-    build_side(h, v, 0, 3, 1, 0, base, counts, weights);
-    build_side(h, v, 1, 1, tall, 3 * len, base + len * 6, counts, weights);
+    build_side(h, v, horizontal, counts, weights);
+    build_side(h, v, room::vertical(periods), counts, weights);
 }

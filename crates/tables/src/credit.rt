@@ -1,29 +1,29 @@
 // Crediting: a family's terms added to the cells of one side.
-ghost use lib.Dec.{eqb};
 ghost use Rattle.board.specs.Hits.{tables};
 ghost use Rattle.cells.specs.Credit.{FamilyReady, FamilyCredited};
+use room::Side;
 
 // Folds one family of a side and credits it to the side's cells, in two runs: class c reads the pattern c places after the family, so the
 // classes past the table's end read it from its start.
 fn credit_held<'a>(
     h: &'a [u8],
     v: &'a [u8],
-    orientation: u8,
+    side: Side,
     family: usize,
-    long: usize,
-    short: usize,
-    cells: usize,
-    groups: usize,
     counts: &mut [u32],
     weights: &mut [f32],
 )
-    requires { ⌜ FamilyReady (tables (now h) (now v)) (eqb orientation 0) family long short cells groups (now counts) (now weights) ⌝ }
-    ensures { λ _. ⌜ FamilyCredited (tables (now (h .entry)) (now (v .entry))) (eqb orientation 0) family cells groups (now (counts .entry)) (now (counts .exit)) (now (weights .entry)) (now (weights .exit)) ⌝ }
+    requires { ⌜ FamilyReady (tables (now h) (now v)) side family (now counts) (now weights) ⌝ }
+    ensures { λ _. ⌜ FamilyCredited (tables (now (h .entry)) (now (v .entry))) side family (now (counts .entry)) (now (counts .exit)) (now (weights .entry)) (now (weights .exit)) ⌝ }
 {
-    let terms = groups::terms::fold_family(counts, weights, groups + family * 6);
+    let orientation = side.orientation;
+    let stride = side.stride;
+    let across = side.across;
+    let cells = side.cells;
+    let terms = groups::terms::fold_family(counts, weights, side.groups + family * 6);
     let part = board::pattern::patterns_from(h, v, orientation, family);
     let n = part.len();
-    cells::run::credit_run(counts, weights, terms, part, n, cells, long, short);
+    cells::run::credit_run(counts, weights, terms, part, n, cells, stride, across);
     let whole = board::pattern::patterns_from(h, v, orientation, 0);
     cells::run::credit_run(
         counts,
@@ -31,9 +31,9 @@ fn credit_held<'a>(
         terms,
         whole,
         family,
-        cells + n * long,
-        long,
-        short,
+        cells + n * stride,
+        stride,
+        across,
     );
 }
 
@@ -42,30 +42,15 @@ fn credit_held<'a>(
 pub fn credit_family<'a>(
     h: &'a [u8],
     v: &'a [u8],
-    orientation: u8,
+    side: Side,
     family: usize,
-    long: usize,
-    short: usize,
-    cells: usize,
-    groups: usize,
     counts: &mut [u32],
     weights: &mut [f32],
 )
-    requires { ⌜ FamilyReady (tables (now h) (now v)) (eqb orientation 0) family long short cells groups (now counts) (now weights) ⌝ }
-    ensures { λ _. ⌜ FamilyCredited (tables (now (h .entry)) (now (v .entry))) (eqb orientation 0) family cells groups (now (counts .entry)) (now (counts .exit)) (now (weights .entry)) (now (weights .exit)) ⌝ }
+    requires { ⌜ FamilyReady (tables (now h) (now v)) side family (now counts) (now weights) ⌝ }
+    ensures { λ _. ⌜ FamilyCredited (tables (now (h .entry)) (now (v .entry))) side family (now (counts .entry)) (now (counts .exit)) (now (weights .entry)) (now (weights .exit)) ⌝ }
 {
-    if groups::terms::edges_held(counts, groups + family * 6) != 0 {
-        credit_held(
-            h,
-            v,
-            orientation,
-            family,
-            long,
-            short,
-            cells,
-            groups,
-            counts,
-            weights,
-        );
+    if groups::terms::edges_held(counts, side.groups + family * 6) != 0 {
+        credit_held(h, v, side, family, counts, weights);
     }
 }

@@ -1,3 +1,4 @@
+-- The first end is mapped by the matrix and read back; the other lies a column of the matrix further, and both are looked up.
 use borrow.Author.Needs.{needs}
 use mathlib.Core.Path.{_≡_, sym, subst, _∙_, ap₂}
 use native.Mathlib.Omega.{arith}
@@ -6,7 +7,6 @@ use lib.IntN.{ℤ, pos, natAbs, _+ℤ_}
 use borrow.Author.Tests.{eq-eqb, ne-eqb}
 use mir.Syntax.{w32}
 use mir.Val.{SFits}
-use mir.Facts.{toZ-ofZ}
 use Rattle.laws.specs.Signed.{read, fit-at, read-at}
 use Rattle.laws.specs.Whole.{abs-add}
 use Rattle.board.specs.Transform.{mat, mapped, joined, lookupOf, lookupOfEnds}
@@ -35,19 +35,25 @@ entry-requires-4 c κs = search needs
 -- the mapped first end, as it is read back, and the other
 module _ (c : tie.After-apply2) where
   abbrev s : tie.Start
-  s = c .before .before
+  s = c .before .before .before .before
 
   abbrev t : ℕ
   t = s .args .t
 
   abbrev at : ℕ → ℤ
-  at i = mapped t i (s .args .col) (s .args .row)
+  at i = mapped t i (s .args .edge .col) (s .args .edge .row)
 
   small : (i : ℕ) → natAbs (at i) ≤ 2000000
-  small i = omega (arith, mapped-abs t i (s .args .col) (s .args .row), s .pre .1, s .pre .2)
+  small i = omega (arith, mapped-abs t i (s .args .edge .col) (s .args .edge .row), s .pre .1, s .pre .2)
 
-  back : (i : ℕ) (x : ℤ) → x ≡ mapped t i (read w32 (s .args .col)) (read w32 (s .args .row)) → read w32 x ≡ at i
-  back i x e = read-at w32 (e ∙ ap₂ (mapped t i) (toZ-ofZ (s .fits .col)) (toZ-ofZ (s .fits .row))) (omega (arith, small i))
+  row-back : read w32 (s .args .edge .row) ≡ s .args .edge .row
+  row-back = search needs
+
+  col-back : read w32 (s .args .edge .col) ≡ s .args .edge .col
+  col-back = search needs
+
+  back : (i : ℕ) (x : ℤ) → x ≡ mapped t i (read w32 (s .args .edge .col)) (read w32 (s .args .edge .row)) → read w32 x ≡ at i
+  back i x e = read-at w32 (e ∙ ap₂ (mapped t i) col-back row-back) (omega (arith, small i))
 
   col-is : read w32 (c .before .apply .result) ≡ at 0
   col-is = back 0 _ (c .before .apply .ensures)
@@ -79,55 +85,55 @@ module _ (c : tie.After-apply2) where
   near-row = subst (λ (z : ℤ). natAbs z ≤ 2000001) (sym row-is) (omega (arith, small 1))
 
   -- the edge along a row, and along a column
-  along : lookupOfEnds (at 0) (at 1) (at 0 +ℤ mat t 0 0) (at 1 +ℤ mat t 1 0) ≡ joined t (s .args .col) (s .args .row) (s .args .col +ℤ pos 1) (s .args .row)
+  along : lookupOfEnds (at 0) (at 1) (at 0 +ℤ mat t 0 0) (at 1 +ℤ mat t 1 0) ≡ joined t (s .args .edge .col) (s .args .edge .row) (s .args .edge .col +ℤ pos 1) (s .args .edge .row)
   unfolding joined
-  along = ap₂ (lookupOfEnds (at 0) (at 1)) (sym (next-col t 0 (s .args .col) (s .args .row))) (sym (next-col t 1 (s .args .col) (s .args .row)))
+  along = ap₂ (lookupOfEnds (at 0) (at 1)) (sym (next-col t 0 (s .args .edge .col) (s .args .edge .row))) (sym (next-col t 1 (s .args .edge .col) (s .args .edge .row)))
 
-  down : lookupOfEnds (at 0) (at 1) (at 0 +ℤ mat t 0 1) (at 1 +ℤ mat t 1 1) ≡ joined t (s .args .col) (s .args .row) (s .args .col) (s .args .row +ℤ pos 1)
+  down : lookupOfEnds (at 0) (at 1) (at 0 +ℤ mat t 0 1) (at 1 +ℤ mat t 1 1) ≡ joined t (s .args .edge .col) (s .args .edge .row) (s .args .edge .col) (s .args .edge .row +ℤ pos 1)
   unfolding joined
-  down = ap₂ (lookupOfEnds (at 0) (at 1)) (sym (next-row t 0 (s .args .col) (s .args .row))) (sym (next-row t 1 (s .args .col) (s .args .row)))
+  down = ap₂ (lookupOfEnds (at 0) (at 1)) (sym (next-row t 0 (s .args .edge .col) (s .args .edge .row))) (sym (next-row t 1 (s .args .edge .col) (s .args .edge .row)))
 
 add-lookup-of-ends : tie.Need-add-lookup-of-ends
-add-lookup-of-ends c = let k = c .before .before in fits-moved k 0 _ (k .before .apply .result) _ (col-is k) (c .entry .ensures)
+add-lookup-of-ends c = let k = c .before .before .before in fits-moved k 0 _ (k .before .apply .result) _ (col-is k) (c .entry .ensures)
 
 add-lookup-of-ends-2 : tie.Need-add-lookup-of-ends-2
-add-lookup-of-ends-2 c = let k = c .before .before .before in fits-moved k 1 _ (k .apply2 .result) _ (row-is k) (c .entry2 .ensures)
+add-lookup-of-ends-2 c = let k = c .before .before .before .before in fits-moved k 1 _ (k .apply2 .result) _ (row-is k) (c .entry2 .ensures)
 
 lookup-of-ends-requires : tie.Need-lookup-of-ends-requires
 lookup-of-ends-requires c κs =
-    let k = c .before .before .before in
+    let k = c .before .before .before .before in
     (near-col k, near-row k, near-moved k 0 _ (k .before .apply .result) _ (col-is k) (c .before .entry .ensures), near-moved k 1 _ (k .apply2 .result) _ (row-is k) (c .entry2 .ensures))
 
 add-lookup-of-ends-3 : tie.Need-add-lookup-of-ends-3
-add-lookup-of-ends-3 c = let k = c .before .before in fits-moved k 0 _ (k .before .apply .result) _ (col-is k) (c .entry3 .ensures)
+add-lookup-of-ends-3 c = let k = c .before .before .before in fits-moved k 0 _ (k .before .apply .result) _ (col-is k) (c .entry3 .ensures)
 
 add-lookup-of-ends-4 : tie.Need-add-lookup-of-ends-4
-add-lookup-of-ends-4 c = let k = c .before .before .before in fits-moved k 1 _ (k .apply2 .result) _ (row-is k) (c .entry4 .ensures)
+add-lookup-of-ends-4 c = let k = c .before .before .before .before in fits-moved k 1 _ (k .apply2 .result) _ (row-is k) (c .entry4 .ensures)
 
 lookup-of-ends-requires-2 : tie.Need-lookup-of-ends-requires-2
 lookup-of-ends-requires-2 c κs =
-    let k = c .before .before .before in
+    let k = c .before .before .before .before in
     (near-col k, near-row k, near-moved k 0 _ (k .before .apply .result) _ (col-is k) (c .before .entry3 .ensures), near-moved k 1 _ (k .apply2 .result) _ (row-is k) (c .entry4 .ensures))
 
 returns : tie.Need-returns
 unfolding lookupOf
 returns c =
     let e = c .before in
-    let k = e .before .before .before in
+    let k = e .before .before .before .before in
     c .lookup-of-ends .ensures
     ∙ (λ i. lookupOfEnds (col-is k i) (row-is k i) (is-moved k 0 _ (k .before .apply .result) _ (col-is k) (e .before .entry .ensures) i) (is-moved k 1 _ (k .apply2 .result) _ (row-is k) (e .entry2 .ensures) i))
     ∙ along k
-    ∙ sym (rw (eq-eqb (s k .args .orientation) 0 (e .before .before .if1 .taken)))
+    ∙ sym (rw (eq-eqb (s k .args .edge .orientation) 0 (e .before .before .if1 .taken)))
 
 returns-2 : tie.Need-returns-2
 unfolding lookupOf
 returns-2 c =
     let e = c .before in
-    let k = e .before .before .before in
+    let k = e .before .before .before .before in
     c .lookup-of-ends2 .ensures
     ∙ (λ i. lookupOfEnds (col-is k i) (row-is k i) (is-moved k 0 _ (k .before .apply .result) _ (col-is k) (e .before .entry3 .ensures) i) (is-moved k 1 _ (k .apply2 .result) _ (row-is k) (e .entry4 .ensures) i))
     ∙ down k
-    ∙ sym (rw (ne-eqb (s k .args .orientation) 0 (e .before .before .if1 .left)))
+    ∙ sym (rw (ne-eqb (s k .args .edge .orientation) 0 (e .before .before .if1 .left)))
 
 pub transform-edge-lookup-spec : {M : Type 1} → statement M
 transform-edge-lookup-spec =

@@ -13,10 +13,10 @@ use Rattle.cells.proofs.run.credit_fours.Statement.{statement}
 use Rattle.cells.proofs.run.credit_fours.Tie as tie
 
 abbrev Inv-loop : tie.InvT-loop
-Inv-loop counts₀ weights₀ part n at short terms i₀ i-end counts weights i = (i ≤ n / 4) × CountsIn terms part at 1 short (i * 4 * 3) counts₀ counts × WeightsIn terms part at 1 short (i * 4 * 3) weights₀ weights
+Inv-loop counts₀ weights₀ part n at across terms i₀ i-end counts weights i = (i ≤ n / 4) × CountsIn terms part at 1 across (i * 4 * 3) counts₀ counts × WeightsIn terms part at 1 across (i * 4 * 3) weights₀ weights
 
 abbrev μ-loop : tie.MeasureT-loop
-μ-loop counts₀ weights₀ part n at short terms i₀ i-end counts weights i = n / 4 - i
+μ-loop counts₀ weights₀ part n at across terms i₀ i-end counts weights i = n / 4 - i
 
 loop-holds : tie.Need-loop-holds Inv-loop μ-loop
 loop-holds c = (omega arith, spread-none 0 _+_ _ _ _, spread-none nan (add binary32) _ _ _)
@@ -93,10 +93,10 @@ array-copy-out-d : tie.Need-array-copy-out-d Inv-loop μ-loop
 array-copy-out-d c = let m = c .before .before .before .before .before .before .before in omega (arith, c .before .before .before .before .before .before .before .before .before .before .before .before .pre .places .small _ (one m 3 (lit< tt)))
 
 add-credit-four : tie.Need-add-credit-four Inv-loop μ-loop
-add-credit-four c = let s = c .before .before .before .before .before .before .before .before .before .before .before .before .before .before .before in let m = c .before .before .before .before .before .before .before .before .before .before in omega (arith, cell-in (s .args .t3) (now (s .args .part)) (s .args .n) (s .args .at) 1 (s .args .short) (now (s .args .counts)) (now (s .args .weights)) (s .pre) _ _ (first m) refl)
+add-credit-four c = let s = c .before .before .before .before .before .before .before .before .before .before .before .before .before .before .before in let m = c .before .before .before .before .before .before .before .before .before .before in omega (arith, cell-in (s .args .t3) (now (s .args .part)) (s .args .n) (s .args .at) 1 (s .args .across) (now (s .args .counts)) (now (s .args .weights)) (s .pre) _ _ (first m) refl)
 
 credit-four-requires : tie.Need-credit-four-requires Inv-loop μ-loop
-credit-four-requires c κs = let s = c .before .before .before .before .before .before .before .before .before .before .before .before .before .before .before in let m = c .before .before .before .before .before .before .before .before .before .before in (four-counts-fit (s .args .t3) (now (s .args .part)) (s .args .n) (s .args .at) 1 (s .args .short) (now (s .args .counts)) (now (s .args .weights)) (s .pre) refl _ _ (four m) refl _ (c .before .before .before .before .before .before .before .before .before .before .before .loop .inv .1), four-weights-fit (s .args .t3) (now (s .args .part)) (s .args .n) (s .args .at) 1 (s .args .short) (now (s .args .counts)) (now (s .args .weights)) (s .pre) refl _ _ (four m) refl _ (c .before .before .before .before .before .before .before .before .before .before .before .loop .inv .2))
+credit-four-requires c κs = let s = c .before .before .before .before .before .before .before .before .before .before .before .before .before .before .before in let m = c .before .before .before .before .before .before .before .before .before .before in (four-counts-fit (s .args .t3) (now (s .args .part)) (s .args .n) (s .args .at) 1 (s .args .across) (now (s .args .counts)) (now (s .args .weights)) (s .pre) refl _ _ (four m) refl _ (c .before .before .before .before .before .before .before .before .before .before .before .loop .inv .1), four-weights-fit (s .args .t3) (now (s .args .part)) (s .args .n) (s .args .at) 1 (s .args .across) (now (s .args .counts)) (now (s .args .weights)) (s .pre) refl _ _ (four m) refl _ (c .before .before .before .before .before .before .before .before .before .before .before .loop .inv .2))
 
 add-i : tie.Need-add-i Inv-loop μ-loop
 add-i c = omega arith
@@ -110,8 +110,8 @@ loop-again c =
     let m = c .before .before .before .before .before .before .before .before .before .before .before .before .before .before .before in
     let r = c .before .before .before .before .credit-four .ensures in (
       omega (arith, m .loop-test .taken),
-      four-counts-more (s .args .t3) (now (s .args .part)) (s .args .n) (s .args .at) 1 (s .args .short) (now (s .args .counts)) (now (s .args .weights)) (s .pre) refl _ _ (four m) refl _ (c .before .before .before .before .before .before .before .before .before .before .before .before .before .before .before .before .loop .inv .1) _ (omega arith) _ (r .0),
-      four-weights-more (s .args .t3) (now (s .args .part)) (s .args .n) (s .args .at) 1 (s .args .short) (now (s .args .counts)) (now (s .args .weights)) (s .pre) refl _ _ (four m) refl _ (c .before .before .before .before .before .before .before .before .before .before .before .before .before .before .before .before .loop .inv .2) _ (omega arith) _ (r .1),
+      four-counts-more (s .args .t3) (now (s .args .part)) (s .args .n) (s .args .at) 1 (s .args .across) (now (s .args .counts)) (now (s .args .weights)) (s .pre) refl _ _ (four m) refl _ (c .before .before .before .before .before .before .before .before .before .before .before .before .before .before .before .before .loop .inv .1) _ (omega arith) _ (r .0),
+      four-weights-more (s .args .t3) (now (s .args .part)) (s .args .n) (s .args .at) 1 (s .args .across) (now (s .args .counts)) (now (s .args .weights)) (s .pre) refl _ _ (four m) refl _ (c .before .before .before .before .before .before .before .before .before .before .before .before .before .before .before .before .loop .inv .2) _ (omega arith) _ (r .1),
     )
 
 same-length : tie.Need-same-length Inv-loop μ-loop
@@ -125,7 +125,7 @@ returns c =
     let a = c .before .before .before .before .before .args in
     let l = c .before .loop in
     let e : l .i ≡ a .n / 4 = omega arith in
-    subst (λ (m : ℕ). RunCells (a .t3) (now (a .part)) (a .at) 1 (a .short) (m * 4 * 3) (now (a .counts)) (l .counts) (now (a .weights)) (l .weights)) e (record { counts = l .inv .1; weights = l .inv .2 })
+    subst (λ (m : ℕ). RunCells (a .t3) (now (a .part)) (a .at) 1 (a .across) (m * 4 * 3) (now (a .counts)) (l .counts) (now (a .weights)) (l .weights)) e (record { counts = l .inv .1; weights = l .inv .2 })
 
 pub credit-fours-spec : {M : Type 1} → statement M
 credit-fours-spec =

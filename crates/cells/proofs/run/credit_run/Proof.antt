@@ -9,11 +9,11 @@ use Rattle.cells.proofs.run.credit_run.Statement.{statement}
 use Rattle.cells.proofs.run.credit_run.Tie as tie
 
 -- where the rest begins
-low : (c : tie.After-shared-slice-known) (m : ℕ) → m ≤ c .before .before .before .args .n → c .before .before .before .args .at + m * c .before .before .before .args .long < 2 ^ 64
-low c m h = let s = c .before .before .before in next-low (s .args .terms) (now (s .args .part)) (s .args .n) (s .args .at) (s .args .long) (s .args .short) (now (s .args .counts)) (now (s .args .weights)) (s .pre) m h (2 ^ 64) (omega (arith, s .fits .at)) (omega arith)
+low : (c : tie.After-shared-slice-known) (m : ℕ) → m ≤ c .before .before .before .args .n → c .before .before .before .args .at + m * c .before .before .before .args .stride < 2 ^ 64
+low c m h = let s = c .before .before .before in next-low (s .args .terms) (now (s .args .part)) (s .args .n) (s .args .at) (s .args .stride) (s .args .across) (now (s .args .counts)) (now (s .args .weights)) (s .pre) m h (2 ^ 64) (omega (arith, s .fits .at)) (omega arith)
 
 credit-pairs-requires : tie.Need-credit-pairs-requires
-credit-pairs-requires c κs = let s = c .before .before .before .before .before .before in as-horizontal (s .args .terms) (now (s .args .part)) (s .args .n) (s .args .at) (s .args .long) (s .args .short) (now (s .args .counts)) (now (s .args .weights)) (s .pre) (c .before .before .if1 .taken)
+credit-pairs-requires c κs = let s = c .before .before .before .before .before .before in as-horizontal (s .args .terms) (now (s .args .part)) (s .args .n) (s .args .at) (s .args .stride) (s .args .across) (now (s .args .counts)) (now (s .args .weights)) (s .pre) (c .before .before .if1 .taken)
 
 mul-done : tie.Need-mul-done
 mul-done c = search needs
@@ -34,10 +34,10 @@ add-credit-singles : tie.Need-add-credit-singles
 add-credit-singles c = let s = c .before .before .before .before .before .before .before .before .before .before .before .before .before .before in omega (arith, low (c .before .before .before .before .before .before .before .before .before .before .before) (s .args .n / 2 * 2) (omega arith))
 
 credit-singles-requires : tie.Need-credit-singles-requires
-credit-singles-requires c κs = let s = c .before .before .before .before .before .before .before .before .before .before .before .before .before .before in rw (part-to-end (now (s .args .part)) (s .args .n / 2 * 2)) (rest-ready (s .args .terms) (now (s .args .part)) (s .args .n) (s .args .at) (s .args .long) (s .args .short) (now (s .args .counts)) (now (s .args .weights)) (s .pre) (s .args .n / 2 * 2) (s .args .n % 2) (omega arith) _ _ (of-horizontal (s .args .terms) (now (s .args .part)) (s .args .n) (s .args .at) (s .args .long) (s .args .short) (now (s .args .counts)) (now (s .args .weights)) (s .pre) (c .before .before .before .before .before .before .before .before .before .before .if1 .taken) _ _ _ (c .before .before .before .before .before .before .before .credit-pairs .ensures)))
+credit-singles-requires c κs = let s = c .before .before .before .before .before .before .before .before .before .before .before .before .before .before in rw (part-to-end (now (s .args .part)) (s .args .n / 2 * 2)) (rest-ready (s .args .terms) (now (s .args .part)) (s .args .n) (s .args .at) (s .args .stride) (s .args .across) (now (s .args .counts)) (now (s .args .weights)) (s .pre) (s .args .n / 2 * 2) (s .args .n % 2) (omega arith) _ _ (of-horizontal (s .args .terms) (now (s .args .part)) (s .args .n) (s .args .at) (s .args .stride) (s .args .across) (now (s .args .counts)) (now (s .args .weights)) (s .pre) (c .before .before .before .before .before .before .before .before .before .before .if1 .taken) _ _ _ (c .before .before .before .before .before .before .before .credit-pairs .ensures)))
 
 credit-fours-requires : tie.Need-credit-fours-requires
-credit-fours-requires c κs = let s = c .before .before .before .before .before .before in as-vertical (s .args .terms) (now (s .args .part)) (s .args .n) (s .args .at) (s .args .long) (s .args .short) (now (s .args .counts)) (now (s .args .weights)) (s .pre) (c .before .before .if1 .left)
+credit-fours-requires c κs = let s = c .before .before .before .before .before .before in as-vertical (s .args .terms) (now (s .args .part)) (s .args .n) (s .args .at) (s .args .stride) (s .args .across) (now (s .args .counts)) (now (s .args .weights)) (s .pre) (c .before .before .if1 .left)
 
 mul-done-2 : tie.Need-mul-done-2
 mul-done-2 c = search needs
@@ -58,7 +58,7 @@ add-credit-singles-2 : tie.Need-add-credit-singles-2
 add-credit-singles-2 c = let s = c .before .before .before .before .before .before .before .before .before .before .before .before .before .before in omega (arith, low (c .before .before .before .before .before .before .before .before .before .before .before) (s .args .n / 4 * 4) (omega arith))
 
 credit-singles-requires-2 : tie.Need-credit-singles-requires-2
-credit-singles-requires-2 c κs = let s = c .before .before .before .before .before .before .before .before .before .before .before .before .before .before in rw (part-to-end (now (s .args .part)) (s .args .n / 4 * 4)) (rest-ready (s .args .terms) (now (s .args .part)) (s .args .n) (s .args .at) (s .args .long) (s .args .short) (now (s .args .counts)) (now (s .args .weights)) (s .pre) (s .args .n / 4 * 4) (s .args .n % 4) (omega arith) _ _ (of-vertical (s .args .terms) (now (s .args .part)) (s .args .n) (s .args .at) (s .args .long) (s .args .short) (now (s .args .counts)) (now (s .args .weights)) (s .pre) (c .before .before .before .before .before .before .before .before .before .before .if1 .left) _ _ _ (c .before .before .before .before .before .before .before .credit-fours .ensures)))
+credit-singles-requires-2 c κs = let s = c .before .before .before .before .before .before .before .before .before .before .before .before .before .before in rw (part-to-end (now (s .args .part)) (s .args .n / 4 * 4)) (rest-ready (s .args .terms) (now (s .args .part)) (s .args .n) (s .args .at) (s .args .stride) (s .args .across) (now (s .args .counts)) (now (s .args .weights)) (s .pre) (s .args .n / 4 * 4) (s .args .n % 4) (omega arith) _ _ (of-vertical (s .args .terms) (now (s .args .part)) (s .args .n) (s .args .at) (s .args .stride) (s .args .across) (now (s .args .counts)) (now (s .args .weights)) (s .pre) (c .before .before .before .before .before .before .before .before .before .before .if1 .left) _ _ _ (c .before .before .before .before .before .before .before .credit-fours .ensures)))
 
 same-length : tie.Need-same-length
 same-length c = search needs
@@ -67,7 +67,7 @@ same-length-2 : tie.Need-same-length-2
 same-length-2 c = search needs
 
 returns : tie.Need-returns
-returns c = let s = c .before .before .before .before .before .before .before .before .before .before .before .before .before .before .before .before .before .before .before in rest-credited (s .args .terms) (now (s .args .part)) (s .args .n) (s .args .at) (s .args .long) (s .args .short) (now (s .args .counts)) (now (s .args .weights)) (s .pre) (s .args .n / 2 * 2) (s .args .n % 2) (omega arith) _ _ (of-horizontal (s .args .terms) (now (s .args .part)) (s .args .n) (s .args .at) (s .args .long) (s .args .short) (now (s .args .counts)) (now (s .args .weights)) (s .pre) (c .before .before .before .before .before .before .before .before .before .before .before .before .before .before .before .if1 .taken) _ _ _ (c .before .before .before .before .before .before .before .before .before .before .before .before .credit-pairs .ensures)) _ _ (rw (part-to-end (now (s .args .part)) (s .args .n / 2 * 2)) at (c .before .before .before .before .credit-singles .ensures))
+returns c = let s = c .before .before .before .before .before .before .before .before .before .before .before .before .before .before .before .before .before .before .before in rest-credited (s .args .terms) (now (s .args .part)) (s .args .n) (s .args .at) (s .args .stride) (s .args .across) (now (s .args .counts)) (now (s .args .weights)) (s .pre) (s .args .n / 2 * 2) (s .args .n % 2) (omega arith) _ _ (of-horizontal (s .args .terms) (now (s .args .part)) (s .args .n) (s .args .at) (s .args .stride) (s .args .across) (now (s .args .counts)) (now (s .args .weights)) (s .pre) (c .before .before .before .before .before .before .before .before .before .before .before .before .before .before .before .if1 .taken) _ _ _ (c .before .before .before .before .before .before .before .before .before .before .before .before .credit-pairs .ensures)) _ _ (rw (part-to-end (now (s .args .part)) (s .args .n / 2 * 2)) at (c .before .before .before .before .credit-singles .ensures))
 
 same-length-3 : tie.Need-same-length-3
 same-length-3 c = search needs
@@ -76,7 +76,7 @@ same-length-4 : tie.Need-same-length-4
 same-length-4 c = search needs
 
 returns-2 : tie.Need-returns-2
-returns-2 c = let s = c .before .before .before .before .before .before .before .before .before .before .before .before .before .before .before .before .before .before .before in rest-credited (s .args .terms) (now (s .args .part)) (s .args .n) (s .args .at) (s .args .long) (s .args .short) (now (s .args .counts)) (now (s .args .weights)) (s .pre) (s .args .n / 4 * 4) (s .args .n % 4) (omega arith) _ _ (of-vertical (s .args .terms) (now (s .args .part)) (s .args .n) (s .args .at) (s .args .long) (s .args .short) (now (s .args .counts)) (now (s .args .weights)) (s .pre) (c .before .before .before .before .before .before .before .before .before .before .before .before .before .before .before .if1 .left) _ _ _ (c .before .before .before .before .before .before .before .before .before .before .before .before .credit-fours .ensures)) _ _ (rw (part-to-end (now (s .args .part)) (s .args .n / 4 * 4)) at (c .before .before .before .before .credit-singles2 .ensures))
+returns-2 c = let s = c .before .before .before .before .before .before .before .before .before .before .before .before .before .before .before .before .before .before .before in rest-credited (s .args .terms) (now (s .args .part)) (s .args .n) (s .args .at) (s .args .stride) (s .args .across) (now (s .args .counts)) (now (s .args .weights)) (s .pre) (s .args .n / 4 * 4) (s .args .n % 4) (omega arith) _ _ (of-vertical (s .args .terms) (now (s .args .part)) (s .args .n) (s .args .at) (s .args .stride) (s .args .across) (now (s .args .counts)) (now (s .args .weights)) (s .pre) (c .before .before .before .before .before .before .before .before .before .before .before .before .before .before .before .if1 .left) _ _ _ (c .before .before .before .before .before .before .before .before .before .before .before .before .credit-fours .ensures)) _ _ (rw (part-to-end (now (s .args .part)) (s .args .n / 4 * 4)) at (c .before .before .before .before .credit-singles2 .ensures))
 
 pub credit-run-spec : {M : Type 1} → statement M
 credit-run-spec =

@@ -1,103 +1,113 @@
-use mathlib.Core.Path.{_≡_, refl, ap₂, subst, _∙_}
+-- After i turns the first i edges are in their groups. The invariant speaks of the periods by the moduli that hold them.
+use mathlib.Core.Path.{_≡_, refl}
+use mathlib.Core.List.{List}
 use Prim.Native.Nat.{ℕ, _+_, _*_, _-_, _^_, _≤_, _<_}
 use native.Mathlib.Omega.{arith}
 use denote.Ref.{now}
 use lib.ListN.{length, getD}
-use lib.IntN.{ℤ, pos}
-use mir.Syntax.{w32}
-use Rattle.laws.specs.Signed.{read, read-at}
+use lib.Ieee.{Float}
+use Rattle.laws.specs.declared.Modulus.{Modulus}
 use Rattle.laws.specs.Modulus.{modulus-n, modulus-ok}
-use Rattle.board.specs.declared.transform.EdgeLookup.{EdgeLookup}
-use Rattle.board.specs.Transform.{lookupOf}
-use Rattle.board.specs.Hits.{EdgeList, edges, look}
-use Rattle.groups.specs.Groups.{placeOf}
+use Rattle.board.specs.Hits.{EdgeList, edges}
+use Rattle.board.specs.DomainLaws.{edges-ok, edge-ok}
 use Rattle.room.specs.Room.{rowLength}
-use Rattle.groups.specs.Fill.{Filled, placeAt}
-use Rattle.groups.specs.FillLaws.{place-held, filled-none, filled-more, filled-few}
+use Rattle.groups.specs.Fill.{FillReady, Filled, placeAt}
+use Rattle.groups.specs.FillLaws.{place-held, ready-held, filled-held, filled-none, filled-more, filled-few}
 use Rattle.groups.proofs.groups.fill_groups.Statement.{statement}
 use Rattle.groups.proofs.groups.fill_groups.Tie as tie
 
 abbrev Inv-loop : tie.InvT-loop
-Inv-loop rows cols orientations bits confidences t len tall base counts₀ weights₀ matrix h v i₀ i-end counts weights i =
-    (i ≤ length rows) × Filled len tall (edges rows cols orientations bits confidences) t base i counts₀ counts weights₀ weights
+Inv-loop rows cols orientations bits confidences t base counts₀ weights₀ matrix h v i₀ i-end counts weights i =
+    (i ≤ length rows) × Filled (h .n) (v .n) (edges rows cols orientations bits confidences) t base i counts₀ counts weights₀ weights
 
 abbrev μ-loop : tie.MeasureT-loop
-μ-loop rows cols orientations bits confidences t len tall base counts₀ weights₀ matrix h v i₀ i-end counts weights i =
+μ-loop rows cols orientations bits confidences t base counts₀ weights₀ matrix h v i₀ i-end counts weights i =
     i-end - i
 
 matrix-of-requires : tie.Need-matrix-of-requires Inv-loop μ-loop
 matrix-of-requires c κs = c .before .before .before .before .before .pre .transform
 
+cast-modulus-of : tie.Need-cast-modulus-of Inv-loop μ-loop
+cast-modulus-of c = let p = c .before .before .before .before .before .before .before .pre in omega (arith, p .periods .few .0)
+
 modulus-of-requires : tie.Need-modulus-of-requires Inv-loop μ-loop
-modulus-of-requires c κs = let p = c .before .before .before .before .before .before .pre in (p .periods .some .0, p .periods .few .0)
+modulus-of-requires c κs = let p = c .before .before .before .before .before .before .before .pre in (p .periods .some .0, p .periods .few .0)
+
+cast-modulus-of-2 : tie.Need-cast-modulus-of-2 Inv-loop μ-loop
+cast-modulus-of-2 c = let p = c .before .before .before .before .before .before .before .before .before .pre in omega (arith, p .periods .few .1)
 
 modulus-of-requires-2 : tie.Need-modulus-of-requires-2 Inv-loop μ-loop
-modulus-of-requires-2 c κs = let p = c .before .before .before .before .before .before .before .pre in (p .periods .some .1, p .periods .few .1)
+modulus-of-requires-2 c κs = let p = c .before .before .before .before .before .before .before .before .before .pre in (p .periods .some .1, p .periods .few .1)
 
-loop-holds : tie.Need-loop-holds Inv-loop μ-loop
-loop-holds c = (omega arith, filled-none _ _ _ _ _ _ _ (c .before .before .before .before .before .before .before .before .pre))
-
-mul-group-place : tie.Need-mul-group-place Inv-loop μ-loop
-mul-group-place c = omega arith
-
-shared-slice-copy-out-group-place : tie.Need-shared-slice-copy-out-group-place Inv-loop μ-loop
-shared-slice-copy-out-group-place c = omega arith
-
-mul-group-place-2 : tie.Need-mul-group-place-2 Inv-loop μ-loop
-mul-group-place-2 c = omega arith
-
-shared-slice-copy-out-group-place-2 : tie.Need-shared-slice-copy-out-group-place-2 Inv-loop μ-loop
-shared-slice-copy-out-group-place-2 c = omega arith
-
-shared-slice-read-group-place : tie.Need-shared-slice-read-group-place Inv-loop μ-loop
-shared-slice-read-group-place c = omega arith
-
-shared-slice-read-group-place-2 : tie.Need-shared-slice-read-group-place-2 Inv-loop μ-loop
-shared-slice-read-group-place-2 c = omega arith
-
--- the edge's coordinates, as they are read back
-module _ (c : tie.In-loop Inv-loop μ-loop) where
+-- the moduli are made: they hold the periods
+module _ (c : tie.After-modulus-of2 Inv-loop μ-loop) where
   abbrev st : tie.Start Inv-loop μ-loop
   st = c .before .before .before .before .before .before .before .before .before .before
 
-  row-back : let z = getD (now (st .args .rows)) (c .before .loop .i) (pos 0) in read w32 z ≡ z
-  row-back = read-at w32 refl (omega (arith, st .pre .list .near-row (c .before .loop .i) (c .loop-test .taken)))
+  abbrev E : EdgeList
+  E = let a = st .args in edges (now (a .rows)) (now (a .cols)) (now (a .orientations)) (now (a .bits)) (now (a .confidences))
 
-  col-back : let z = getD (now (st .args .cols)) (c .before .loop .i) (pos 0) in read w32 z ≡ z
-  col-back = read-at w32 refl (omega (arith, st .pre .list .near-col (c .before .loop .i) (c .loop-test .taken)))
+  abbrev h : Modulus
+  h = c .before .before .modulus-of .result
+
+  abbrev v : Modulus
+  v = c .modulus-of2 .result
+
+  h-is : h .n ≡ st .args .periods .h
+  h-is = modulus-n _ _ (c .before .before .modulus-of .ensures)
+
+  v-is : v .n ≡ st .args .periods .v
+  v-is = modulus-n _ _ (c .modulus-of2 .ensures)
+
+  ready : FillReady (h .n) (v .n) E (st .args .t) (st .args .base) (now (st .args .counts)) (now (st .args .weights))
+  ready = ready-held _ _ _ _ E _ _ h-is v-is _ _ (st .pre)
+
+loop-holds : tie.Need-loop-holds Inv-loop μ-loop
+loop-holds c = (omega arith, filled-none _ _ _ _ _ _ _ (ready c))
+
+edge-at-requires : tie.Need-edge-at-requires Inv-loop μ-loop
+edge-at-requires c κs =
+    let l = st (c .before .before) .pre .list in
+    let h = c .loop-test .taken in
+    (h, omega (arith, l .cols), omega (arith, l .orientations), omega (arith, l .bits))
 
 group-place-requires : tie.Need-group-place-requires Inv-loop μ-loop
 group-place-requires c κs =
-    let l = c .before .before .before .before in
-    let p = st l .pre in
-    let i = l .before .loop .i in
-    let h = l .loop-test .taken in
-    (rw (row-back l, col-back l) (record { near-row = p .list .near-row i h; near-col = p .list .near-col i h; bit = p .list .bit i h; transform = p .transform }), (modulus-ok _ _ (l .before .before .before .modulus-of .ensures) (p .periods .some .0) (p .periods .few .0), modulus-ok _ _ (l .before .before .modulus-of2 .ensures) (p .periods .some .1) (p .periods .few .1), l .before .before .before .before .matrix-of .ensures))
+    let l = c .before in
+    let m = l .before .before in
+    let p = st m .pre in (
+      edge-ok (E m) _ (edges-ok (E m) (p .list)) (p .transform) (l .before .loop .i) (l .loop-test .taken) _ (c .edge-at .ensures),
+      (modulus-ok _ _ (m .before .before .modulus-of .ensures) (p .periods .some .0) (p .periods .few .0), modulus-ok _ _ (m .modulus-of2 .ensures) (p .periods .some .1) (p .periods .few .1), m .before .before .before .before .matrix-of .ensures),
+    )
 
 -- the place of its group, and the room there
 module _ (c : tie.After-group-place Inv-loop μ-loop) where
   abbrev here : tie.In-loop Inv-loop μ-loop
-  here = c .before .before .before .before .before
+  here = c .before .before
 
-  abbrev E : EdgeList
-  E = let a = st here .args in edges (now (a .rows)) (now (a .cols)) (now (a .orientations)) (now (a .bits)) (now (a .confidences))
+  abbrev made : tie.After-modulus-of2 Inv-loop μ-loop
+  made = here .before .before
 
-  abbrev got : EdgeLookup
-  got = let a = st here .args in lookupOf (a .t) (read w32 (getD (now (a .rows)) (here .before .loop .i) (pos 0))) (read w32 (getD (now (a .cols)) (here .before .loop .i) (pos 0))) (getD (now (a .orientations)) (here .before .loop .i) 0)
+  abbrev i : ℕ
+  i = here .before .loop .i
 
-  told : (c .group-place .result ≡ placeOf (st here .args .len) (st here .args .tall) got (getD (now (st here .args .bits)) (here .before .loop .i) 0)) × (c .group-place .result < rowLength (st here .args .len) (st here .args .tall))
-  told = place-held _ _ _ _ got (getD (now (st here .args .bits)) (here .before .loop .i) 0) _ (modulus-n _ _ (here .before .before .before .modulus-of .ensures)) (modulus-n _ _ (here .before .before .modulus-of2 .ensures)) (c .group-place .ensures)
+  abbrev counts : List ℕ
+  counts = here .before .loop .counts
 
-  found : c .group-place .result ≡ placeAt (st here .args .len) (st here .args .tall) E (st here .args .t) (here .before .loop .i)
-  unfolding look
-  found =
-      let a = st here .args in
-      let i = here .before .loop .i in
-      told .0
-      ∙ ap₂ (λ (x y : ℤ). placeOf (a .len) (a .tall) (lookupOf (a .t) x y (getD (now (a .orientations)) i 0)) (getD (now (a .bits)) i 0)) (row-back here) (col-back here)
+  abbrev weights : List Float
+  weights = here .before .loop .weights
 
-  room : (st here .args .base + c .group-place .result < length (here .before .loop .counts)) × (st here .args .base + c .group-place .result < length (here .before .loop .weights)) × (getD (here .before .loop .counts) (st here .args .base + c .group-place .result) 0 ≤ 8192)
-  room = filled-few _ _ _ _ _ _ _ (st here .pre) (here .before .loop .i) (c .group-place .result) (here .before .loop .counts) (here .before .loop .weights) (here .before .loop .inv .1) (here .before .loop .inv .0) (told .1)
+  abbrev p : ℕ
+  p = c .group-place .result
+
+  abbrev at : ℕ
+  at = st made .args .base + p
+
+  told : (p ≡ placeAt (h made .n) (v made .n) (E made) (st made .args .t) i) × (p < rowLength (h made .n) (v made .n))
+  told = place-held _ _ _ _ (E made) (st made .args .t) i _ p refl refl (c .before .edge-at .ensures) (c .group-place .ensures)
+
+  room : (at < length counts) × (at < length weights) × (getD counts at 0 ≤ 8192)
+  room = filled-few _ _ (E made) _ _ _ _ (ready made) i p counts weights (here .before .loop .inv .1) (here .before .loop .inv .0) (told .1)
 
 -- both slices are short, and the group stands in both
 few : (c : tie.Start Inv-loop μ-loop) → (4 * length (now (c .args .counts)) < 2 ^ 64) × (4 * length (now (c .args .weights)) < 2 ^ 64)
@@ -106,8 +116,15 @@ few c = (omega arith, omega arith)
 in-both : (b p n r x y : ℕ) → p < r → b + r ≤ x → b + r ≤ y → 4 * x < 2 ^ 64 → 4 * y < 2 ^ 64 → n ≡ b + p → (4 * n < 2 ^ 64) × (n < x) × (n < y)
 in-both b p n r x y h i j k l e = omega arith
 
-inside : (c : tie.After-group-place Inv-loop μ-loop) → let n = st (here c) .args .base + c .group-place .result in (4 * n < 2 ^ 64) × (n < length (now (st (here c) .args .counts))) × (n < length (now (st (here c) .args .weights)))
-inside c = let s = st (here c) in in-both (s .args .base) (c .group-place .result) _ (rowLength (s .args .len) (s .args .tall)) _ _ (told c .1) (s .pre .room .0) (s .pre .room .1) (few s .0) (few s .1) refl
+inside : (c : tie.After-group-place Inv-loop μ-loop) → (4 * at c < 2 ^ 64) × (at c < length (now (st (made c) .args .counts))) × (at c < length (now (st (made c) .args .weights)))
+inside c =
+    let m = made c in
+    let s = st m in
+    in-both (s .args .base) (p c) _ (rowLength (h m .n) (v m .n)) _ _ (told c .1) (ready m .room .0) (ready m .room .1) (few s .0) (few s .1) refl
+
+-- the edge is one of the list
+turn : (c : tie.After-group-place Inv-loop μ-loop) → (i c < 8192) × (i c < length (now (st (made c) .args .confidences)))
+turn c = let l = st (made c) .pre .list in (omega (arith, here c .loop-test .taken, l .few), omega (arith, here c .loop-test .taken, l .confidences))
 
 cast-at : tie.Need-cast-at Inv-loop μ-loop
 cast-at c = omega arith
@@ -128,10 +145,10 @@ slice-write-counts : tie.Need-slice-write-counts Inv-loop μ-loop
 slice-write-counts c = omega (arith, room (c .before) .0)
 
 mul-weights : tie.Need-mul-weights Inv-loop μ-loop
-mul-weights c = omega arith
+mul-weights c = omega (arith, turn (c .before))
 
 shared-slice-read-weights : tie.Need-shared-slice-read-weights Inv-loop μ-loop
-shared-slice-read-weights c = omega arith
+shared-slice-read-weights c = omega (arith, turn (c .before .before))
 
 mul-weights-2 : tie.Need-mul-weights-2 Inv-loop μ-loop
 mul-weights-2 c = omega (arith, inside (c .before .before))
@@ -143,16 +160,15 @@ slice-write-weights : tie.Need-slice-write-weights Inv-loop μ-loop
 slice-write-weights c = omega (arith, room (c .before .before .before) .1)
 
 add-i : tie.Need-add-i Inv-loop μ-loop
-add-i c = omega arith
+add-i c = omega (arith, turn (c .before .before .before))
 
 loop-less : tie.Need-loop-less Inv-loop μ-loop
 loop-less c = omega arith
 
 loop-again : tie.Need-loop-again Inv-loop μ-loop
 loop-again c =
-    let p = c .before .before .before in
-    let h = here p in
-    (omega arith, filled-more _ _ _ _ _ _ _ (st h .pre) (h .before .loop .i) (p .group-place .result) (h .before .loop .counts) (h .before .loop .weights) (h .before .loop .inv .1) (found p) (told p .1))
+    let g = c .before .before .before in
+    (omega arith, filled-more _ _ (E (made g)) _ _ _ _ (ready (made g)) (i g) (p g) (counts g) (weights g) (here g .before .loop .inv .1) (told g .0) (told g .1))
 
 same-length : tie.Need-same-length Inv-loop μ-loop
 same-length c = c .before .loop .inv .1 .counts .len
@@ -163,9 +179,10 @@ same-length-2 c = c .before .loop .inv .1 .weights .len
 returns : tie.Need-returns Inv-loop μ-loop
 returns c =
     let l = c .before .loop in
-    let a = c .before .before .before .before .before .before .before .before .before .before .args in
-    let e : l .i ≡ length (now (a .rows)) = omega arith in
-    subst (λ (n : ℕ). Filled (a .len) (a .tall) (edges (now (a .rows)) (now (a .cols)) (now (a .orientations)) (now (a .bits)) (now (a .confidences))) (a .t) (a .base) n (now (a .counts)) (l .counts) (now (a .weights)) (l .weights)) e (l .inv .1)
+    let m = c .before .before in
+    let a = st m .args in
+    let e : l .i ≡ length (now (a .rows)) = omega (arith, l .inv .0, c .loop-test .left) in
+    filled-held _ _ _ _ (E m) (a .t) (a .base) (h-is m) (v-is m) _ _ e _ _ _ _ (l .inv .1)
 
 pub fill-groups-spec : {M : Type 1} → statement M
 fill-groups-spec =
@@ -174,15 +191,12 @@ fill-groups-spec =
     Inv-loop
     μ-loop
     matrix-of-requires
+    cast-modulus-of
     modulus-of-requires
+    cast-modulus-of-2
     modulus-of-requires-2
     loop-holds
-    mul-group-place
-    shared-slice-copy-out-group-place
-    mul-group-place-2
-    shared-slice-copy-out-group-place-2
-    shared-slice-read-group-place
-    shared-slice-read-group-place-2
+    edge-at-requires
     group-place-requires
     cast-at
     add-at

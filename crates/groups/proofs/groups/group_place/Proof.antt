@@ -1,14 +1,15 @@
+-- The edge is looked up, its coordinates are near enough for the moduli, and its side says in which half of the row its group stands.
 use mathlib.Core.Path.{_≡_, sym, ap, ap₂, subst, _∙_}
 use Prim.Native.Nat.{ℕ, _+_, _*_, _≤_, _<_}
 use lib.IntN.{ℤ, natAbs}
-use mir.Facts.{toZ-ofZ}
 use mir.Syntax.{w32}
 use Rattle.laws.specs.Signed.{read}
 use borrow.Author.Tests.{eq-eqb, ne-eqb}
 use Rattle.board.specs.declared.transform.EdgeLookup.{EdgeLookup}
 use Rattle.board.specs.Transform.{lookupOf}
 use Rattle.board.specs.TransformLaws.{lookup-near}
-use Rattle.groups.specs.Groups.{group, placeOf, Periods}
+use Rattle.room.specs.Room.{PeriodsOk}
+use Rattle.groups.specs.Groups.{group, placeOf}
 use Rattle.groups.specs.FillLaws.{place-below}
 use borrow.Author.Needs.{needs}
 use Rattle.groups.proofs.groups.group_place.Statement.{statement}
@@ -31,13 +32,13 @@ module _ (c : tie.After-struct-known) where
   abbrev got : EdgeLookup
   got = c .before .before .before .transform-edge-lookup .result
 
-  found : got ≡ lookupOf (st .args .t) (st .args .row) (st .args .col) (st .args .orientation)
-  found = c .before .before .before .transform-edge-lookup .ensures ∙ ap₂ (λ (x y : ℤ). lookupOf (st .args .t) x y (st .args .orientation)) (toZ-ofZ (st .fits .row)) (toZ-ofZ (st .fits .col))
+  found : got ≡ lookupOf (st .args .t) (st .args .edge .row) (st .args .edge .col) (st .args .edge .orientation)
+  found = c .before .before .before .transform-edge-lookup .ensures
 
   near : (natAbs (got .row) ≤ 2000002) × (natAbs (got .col) ≤ 2000002)
-  near = subst (λ (l : EdgeLookup). (natAbs (l .row) ≤ 2000002) × (natAbs (l .col) ≤ 2000002)) (sym found) (lookup-near (st .args .t) (st .args .row) (st .args .col) (st .args .orientation) (st .pre .0 .near-row) (st .pre .0 .near-col))
+  near = subst (λ (l : EdgeLookup). (natAbs (l .row) ≤ 2000002) × (natAbs (l .col) ≤ 2000002)) (sym found) (lookup-near (st .args .t) (st .args .edge .row) (st .args .edge .col) (st .args .edge .orientation) (st .pre .0 .near-row) (st .pre .0 .near-col))
 
-  periods : Periods L M
+  periods : PeriodsOk (record { h = L; v = M })
   periods = record { some = (st .pre .1 .0 .more, st .pre .1 .1 .more); few = (st .pre .1 .0 .few, st .pre .1 .1 .few) }
 
   row-back : read w32 (got .row) ≡ got .row
@@ -46,10 +47,10 @@ module _ (c : tie.After-struct-known) where
   col-back : read w32 (got .col) ≡ got .col
   col-back = search needs
 
-  done : (p : ℕ) → p ≡ placeOf L M got (st .args .bit) → (p ≡ placeOf L M (lookupOf (st .args .t) (st .args .row) (st .args .col) (st .args .orientation)) (st .args .bit)) × (p < (L + M) * 6)
+  done : (p : ℕ) → p ≡ placeOf L M got (st .args .edge .bit) → (p ≡ placeOf L M (lookupOf (st .args .t) (st .args .edge .row) (st .args .edge .col) (st .args .edge .orientation)) (st .args .edge .bit)) × (p < (L + M) * 6)
   done p e = (
-    e ∙ ap (λ (l : EdgeLookup). placeOf L M l (st .args .bit)) found,
-    subst (λ (x : ℕ). x < (L + M) * 6) (sym e) (place-below L M got (st .args .bit) periods (st .pre .0 .bit)),
+    e ∙ ap (λ (l : EdgeLookup). placeOf L M l (st .args .edge .bit)) found,
+    subst (λ (x : ℕ). x < (L + M) * 6) (sym e) (place-below L M got (st .args .edge .bit) periods (st .pre .0 .bit)),
   )
 
 group-of-requires : tie.Need-group-of-requires
@@ -71,12 +72,12 @@ add-result c = search needs
 returns : tie.Need-returns
 returns c =
     let k = c .before .before in
-    done k _ (c .group-of .ensures .0 ∙ ap₂ (λ (x y : ℤ). group (L k) x y (st k .args .bit)) (row-back k) (col-back k) ∙ sym (rw (eq-eqb (got k .orientation) 0 (c .before .if1 .taken))))
+    done k _ (c .group-of .ensures .0 ∙ ap₂ (λ (x y : ℤ). group (L k) x y (st k .args .edge .bit)) (row-back k) (col-back k) ∙ sym (rw (eq-eqb (got k .orientation) 0 (c .before .if1 .taken))))
 
 returns-2 : tie.Need-returns-2
 returns-2 c =
     let k = c .before .before .before in
-    done k _ (ap (λ (n : ℕ). L k * 6 + n) (c .group-of2 .ensures .0 ∙ ap₂ (λ (x y : ℤ). group (M k) x y (st k .args .bit)) (col-back k) (row-back k)) ∙ sym (rw (ne-eqb (got k .orientation) 0 (c .before .before .if1 .left))))
+    done k _ (ap (λ (n : ℕ). L k * 6 + n) (c .group-of2 .ensures .0 ∙ ap₂ (λ (x y : ℤ). group (M k) x y (st k .args .edge .bit)) (col-back k) (row-back k)) ∙ sym (rw (ne-eqb (got k .orientation) 0 (c .before .before .if1 .left))))
 
 pub group-place-spec : {M : Type 1} → statement M
 group-place-spec =

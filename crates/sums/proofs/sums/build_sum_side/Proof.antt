@@ -1,23 +1,24 @@
+-- After each turn one family more is in the side's cells.
 use mathlib.Core.Path.{_≡_, ap, subst, _∙_}
-use mathlib.Core.Bool.{Bool}
 use Prim.Native.Nat.{ℕ, _-_, _≤_}
 use native.Mathlib.Nat.{sub-zero}
 use native.Mathlib.Omega.{arith}
 use denote.Ref.{now}
-use lib.Dec.{eqb}
 use lib.ListN.{length, length-drop}
 use Rattle.board.specs.Hits.{Board, tables}
 use Rattle.board.specs.Sides.{tableOf, periodOf}
+use Rattle.room.specs.declared.Side.{Side}
+use Rattle.room.specs.Room.{isHorizontal}
 use Rattle.sums.specs.SumParts.{SideCellsZ}
 use Rattle.sums.specs.SumPartsLaws.{side-noneZ, family-readyZ, side-moreZ}
 use Rattle.sums.proofs.sums.build_sum_side.Statement.{statement}
 use Rattle.sums.proofs.sums.build_sum_side.Tie as tie
 
 abbrev Inv-loop : tie.InvT-loop
-Inv-loop h v orientation long short cells from also sums₀ period family₀ sums family = (family ≤ period) × SideCellsZ (tables h v) (eqb orientation 0) cells from also family sums₀ sums
+Inv-loop h v side also sums₀ period family₀ sums family = (family ≤ period) × SideCellsZ (tables h v) side also family sums₀ sums
 
 abbrev μ-loop : tie.MeasureT-loop
-μ-loop h v orientation long short cells from also sums₀ period family₀ sums family = period - family
+μ-loop h v side also sums₀ period family₀ sums family = period - family
 
 patterns-from-requires : tie.Need-patterns-from-requires Inv-loop μ-loop
 patterns-from-requires c κs = omega arith
@@ -26,7 +27,7 @@ loop-holds : tie.Need-loop-holds Inv-loop μ-loop
 loop-holds c =
     let st = c .before .before .before in
     let a = st .args in
-    (omega arith, side-noneZ (tables (now (a .h)) (now (a .v))) (eqb (a .orientation) 0) _ _ _ _ _ _ (st .pre))
+    (omega arith, side-noneZ (tables (now (a .h)) (now (a .v))) (a .side) _ _ (st .pre))
 
 -- the side's period was read off its table
 module _ (c : tie.At-loop Inv-loop μ-loop) where
@@ -36,16 +37,16 @@ module _ (c : tie.At-loop Inv-loop μ-loop) where
   abbrev B : Board
   B = tables (now (st .args .h)) (now (st .args .v))
 
-  abbrev s : Bool
-  s = eqb (st .args .orientation) 0
+  abbrev d : Side
+  d = st .args .side
 
-  period : length (now (c .before .patterns-from .result)) ≡ periodOf B s
-  period = ap length (c .before .patterns-from .ensures) ∙ length-drop 0 (tableOf B s) ∙ sub-zero (periodOf B s)
+  period : length (now (c .before .patterns-from .result)) ≡ periodOf B (isHorizontal d)
+  period = ap length (c .before .patterns-from .ensures) ∙ length-drop 0 (tableOf B (isHorizontal d)) ∙ sub-zero (periodOf B (isHorizontal d))
 
 credit-sum-family-requires : tie.Need-credit-sum-family-requires Inv-loop μ-loop
 credit-sum-family-requires c κs =
     let l = c .before .before in
-    family-readyZ (B l) (s l) _ _ _ _ _ _ (st l .pre) (l .loop .family) (omega (arith, period l, c .before .loop-test .taken)) _ (l .loop .inv .1)
+    family-readyZ (B l) (d l) _ _ (st l .pre) (l .loop .family) (omega (arith, period l, c .before .loop-test .taken)) _ (l .loop .inv .1)
 
 add-family : tie.Need-add-family Inv-loop μ-loop
 add-family c = omega arith
@@ -57,7 +58,7 @@ loop-again : tie.Need-loop-again Inv-loop μ-loop
 loop-again c =
     let e = c .before in
     let l = e .before .before .before in
-    (omega arith, side-moreZ (B l) (s l) _ _ _ _ _ _ (st l .pre) (l .loop .family) (omega (arith, period l, e .before .before .loop-test .taken)) _ (l .loop .inv .1) _ (e .credit-sum-family .ensures))
+    (omega arith, side-moreZ (B l) (d l) _ _ (st l .pre) (l .loop .family) (omega (arith, period l, e .before .before .loop-test .taken)) _ (l .loop .inv .1) _ (e .credit-sum-family .ensures))
 
 same-length : tie.Need-same-length Inv-loop μ-loop
 same-length c = c .before .loop .inv .1 .len
@@ -66,8 +67,8 @@ returns : tie.Need-returns Inv-loop μ-loop
 returns c =
     let l = c .before in
     let a = st l .args in
-    let e : l .loop .family ≡ periodOf (B l) (s l) = omega (arith, period l, c .loop-test .left, l .loop .inv .0) in
-    subst (λ (n : ℕ). SideCellsZ (B l) (s l) (a .cells) (a .from) (a .also) n (now (a .sums)) (l .loop .sums)) e (l .loop .inv .1)
+    let e : l .loop .family ≡ periodOf (B l) (isHorizontal (d l)) = omega (arith, period l, c .loop-test .left, l .loop .inv .0) in
+    subst (λ (n : ℕ). SideCellsZ (B l) (d l) (a .also) n (now (a .sums)) (l .loop .sums)) e (l .loop .inv .1)
 
 pub build-sum-side-spec : {M : Type 1} → statement M
 build-sum-side-spec =

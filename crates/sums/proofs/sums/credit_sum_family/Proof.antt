@@ -1,6 +1,6 @@
+-- A family whose twelve sums are all 0 has terms of 0, so that storing nothing is crediting it.
 use mathlib.Core.Path.{sym, _∙_}
 use denote.Ref.{now}
-use lib.Dec.{eqb}
 use Rattle.board.specs.Hits.{tables}
 use Rattle.sums.specs.SumPartsLaws.{family-emptyZ}
 use borrow.Author.Needs.{needs}
@@ -37,8 +37,8 @@ same-length-2 c = search needs
 -- all sums are 0: nothing is stored
 returns-2 : tie.Need-returns-2
 returns-2 c =
-    let a = c .before .before .before .before .before .args in
-    family-emptyZ (tables (now (a .h)) (now (a .v))) (eqb (a .orientation) 0) (a .family) (a .cells) (a .from) (a .also) (now (a .sums)) (sym (c .before .some-sum .ensures) ∙ c .if1 .left)
+    let a = c .before .before .before .before .before .before .args in
+    family-emptyZ (tables (now (a .h)) (now (a .v))) (a .side) (a .also) (a .family) (now (a .sums)) (sym (c .before .some-sum .ensures) ∙ c .if1 .left)
 
 pub credit-sum-family-spec : {M : Type 1} → statement M
 credit-sum-family-spec =

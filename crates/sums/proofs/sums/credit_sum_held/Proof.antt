@@ -1,3 +1,4 @@
+-- As for counts: two runs, the classes before the table's end and those past it, reach every cell of the side once.
 use mathlib.Core.Path.{_≡_, ap, _∙_}
 use mathlib.Core.Bool.{Bool}
 use mathlib.Core.List.{List}
@@ -5,11 +6,11 @@ use Prim.Native.Nat.{ℕ, _+_, _*_, _-_, _^_, _≤_, _<_}
 use native.Mathlib.Nat.{le-refl, le-trans, le-add-left, lt-of-le-of-lt, add-le-add}
 use native.Mathlib.Omega.{arith}
 use denote.Ref.{now}
-use lib.Dec.{eqb}
 use lib.ListN.{length, drop, length-drop}
 use Rattle.board.specs.Hits.{Board, tables}
 use Rattle.board.specs.Sides.{tableOf, periodOf}
-use Rattle.cells.specs.RunLaws.{first-long}
+use Rattle.room.specs.Room.{isHorizontal}
+use Rattle.cells.specs.RunLaws.{first-stride}
 use Rattle.sums.specs.SumParts.{RunCreditedZ}
 use Rattle.sums.specs.SumPartsLaws.{first-readyZ, second-readyZ, family-creditedZ}
 use borrow.Author.Needs.{needs}
@@ -37,13 +38,13 @@ patterns-from-requires c κs = search needs
 -- the table of the side, and the part that the first run reads
 module _ (c : tie.After-patterns-from) where
   abbrev st : tie.Start
-  st = c .before .before .before .before .before
+  st = c .before .before .before .before .before .before
 
   abbrev B : Board
   B = tables (now (st .args .h)) (now (st .args .v))
 
   abbrev s : Bool
-  s = eqb (st .args .orientation) 0
+  s = isHorizontal (st .args .side)
 
   abbrev ps : List ℕ
   ps = tableOf B s
@@ -58,7 +59,7 @@ credit-sum-run-requires : tie.Need-credit-sum-run-requires
 credit-sum-run-requires c κs =
     let p = c .before in
     let a = st p .args in
-    rw (read p) (first-readyZ (B p) (s p) (a .family) (a .long) (a .short) (a .cells) (a .from) (a .also) (now (a .sums)) (st p .pre) (p .before .fold-sums .result) (p .before .fold-sums .ensures) _ (length-drop (a .family) (ps p)))
+    rw (read p) (first-readyZ (B p) (a .side) (a .also) (a .family) (now (a .sums)) (st p .pre) (p .before .fold-sums .result) (p .before .fold-sums .ensures) _ (length-drop (a .family) (ps p)))
 
 patterns-from-requires-2 : tie.Need-patterns-from-requires-2
 patterns-from-requires-2 c κs = search needs
@@ -68,16 +69,16 @@ module _ (c : tie.After-credit-sum-run) where
   abbrev found : tie.After-patterns-from
   found = c .before .before
 
-  into : length (now (found .patterns-from .result)) * st found .args .long ≤ 3 * periodOf (B found) (s found)
+  into : length (now (found .patterns-from .result)) * st found .args .side .stride ≤ 3 * periodOf (B found) (s found)
   into =
       let a = st found .args in
-      rw (long found) (first-long (B found) (s found) (a .family) (a .long) (a .short) (a .cells) (st found .pre .places))
+      rw (long found) (first-stride (B found) (a .side) (a .family) (st found .pre .places))
 
   -- the second run starts inside the room
-  starts : st found .args .cells + length (now (found .patterns-from .result)) * st found .args .long ≤ length (now (st found .args .sums))
-  starts = le-trans (add-le-add (le-refl (st found .args .cells)) into) (st found .pre .room)
+  starts : st found .args .side .cells + length (now (found .patterns-from .result)) * st found .args .side .stride ≤ length (now (st found .args .sums))
+  starts = le-trans (add-le-add (le-refl (st found .args .side .cells)) into) (st found .pre .room)
 
-  first : let a = st found .args in RunCreditedZ (found .before .fold-sums .result) (drop (a .family) (ps found)) (length (ps found) - a .family) (a .cells) (a .long) (a .short) (now (a .sums)) (c .credit-sum-run .last .0)
+  first : let a = st found .args in RunCreditedZ (found .before .fold-sums .result) (drop (a .family) (ps found)) (length (ps found) - a .family) (a .side .cells) (a .side .stride) (a .side .across) (now (a .sums)) (c .credit-sum-run .last .0)
   first = rw (read found, length-drop (st found .args .family) (ps found)) at (c .credit-sum-run .ensures)
 
 -- a slice is shorter than 2 ^ 64
@@ -95,7 +96,7 @@ credit-sum-run-requires-2 c κs =
     let r = c .before .before .before in
     let p = found r in
     let a = st p .args in
-    rw (c .before .patterns-from2 .ensures) (second-readyZ (B p) (s p) (a .family) (a .long) (a .short) (a .cells) (a .from) (a .also) (now (a .sums)) (st p .pre) (p .before .fold-sums .result) (p .before .fold-sums .ensures) _ (first r) _ (ap (λ (n : ℕ). a .cells + n * a .long) (long p)))
+    rw (c .before .patterns-from2 .ensures) (second-readyZ (B p) (a .side) (a .also) (a .family) (now (a .sums)) (st p .pre) (p .before .fold-sums .result) (p .before .fold-sums .ensures) _ (first r) _ (ap (λ (n : ℕ). a .side .cells + n * a .side .stride) (long p)))
 
 same-length : tie.Need-same-length
 same-length c = search needs
@@ -107,7 +108,7 @@ returns c =
     let r = q .before .before in
     let p = found r in
     let a = st p .args in
-    family-creditedZ (B p) (s p) (a .family) (a .long) (a .short) (a .cells) (a .from) (a .also) (now (a .sums)) (st p .pre) (p .before .fold-sums .result) (p .before .fold-sums .ensures) _ (first r) _ (rw (q .patterns-from2 .ensures, long p) at (e .credit-sum-run2 .ensures))
+    family-creditedZ (B p) (a .side) (a .also) (a .family) (now (a .sums)) (st p .pre) (p .before .fold-sums .result) (p .before .fold-sums .ensures) _ (first r) _ (rw (q .patterns-from2 .ensures, long p) at (e .credit-sum-run2 .ensures))
 
 pub credit-sum-held-spec : {M : Type 1} → statement M
 credit-sum-held-spec =

@@ -18,10 +18,10 @@ use Rattle.sums.proofs.sums.credit_sum_run.Statement.{statement}
 use Rattle.sums.proofs.sums.credit_sum_run.Tie as tie
 
 abbrev Inv-loop : tie.InvT-loop
-Inv-loop sums₀ part n at long short terms i₀ sums i = (i ≤ n) × RunCellsZ terms part at long short (i * 3) sums₀ sums
+Inv-loop sums₀ part n at stride across terms i₀ sums i = (i ≤ n) × RunCellsZ terms part at stride across (i * 3) sums₀ sums
 
 abbrev μ-loop : tie.MeasureT-loop
-μ-loop sums₀ part n at long short terms i₀ sums i = n - i
+μ-loop sums₀ part n at stride across terms i₀ sums i = n - i
 
 loop-holds : tie.Need-loop-holds Inv-loop μ-loop
 loop-holds c = (omega arith, run-noneZ _ _ _ _ _ _ _ (c .before .pre))
@@ -48,40 +48,40 @@ module _ (c : tie.In-loop Inv-loop μ-loop) where
   kept j = read w64 (termOf j)
 
   -- where its cells stand
-  inside : (j : ℕ) → j < 3 → st .args .at + (i * st .args .long + j * st .args .short) < length (now (st .args .sums))
-  inside j h = subst (λ (x : ℕ). x < length (now (st .args .sums))) (run-place (st .args .at) (st .args .long) (st .args .short) i j h) (st .pre .inside (i * 3 + j) (omega (arith, c .loop-test .taken)))
+  inside : (j : ℕ) → j < 3 → st .args .at + (i * st .args .stride + j * st .args .across) < length (now (st .args .sums))
+  inside j h = subst (λ (x : ℕ). x < length (now (st .args .sums))) (run-place (st .args .at) (st .args .stride) (st .args .across) i j h) (st .pre .inside (i * 3 + j) (omega (arith, c .loop-test .taken)))
 
   abbrev cell : ℕ
-  cell = st .args .at + i * st .args .long
+  cell = st .args .at + i * st .args .stride
 
   module _ (back : (j : ℕ) → j < 3 → kept j ≡ termOf j) where
     -- the first cell's room, and the run with it
     room₀ : (cell < length (c .before .loop .sums)) × (natAbs (getD (c .before .loop .sums) cell (pos 0) +ℤ kept 0) < 2 ^ 63)
     room₀ = run-roomZ _ _ _ _ _ _ _ (st .pre) i 0 (i * 3) cell (kept 0) (c .loop-test .taken) (lit< tt) (omega arith) (omega arith) (back 0 (lit< tt)) _ (c .before .loop .inv .1)
 
-    more₀ : (a : List ℤ) → a ≡ set (c .before .loop .sums) cell (getD (c .before .loop .sums) cell (pos 0) +ℤ kept 0) → RunCellsZ (st .args .t2) (now (st .args .part)) (st .args .at) (st .args .long) (st .args .short) (i * 3 + 1) (now (st .args .sums)) a
+    more₀ : (a : List ℤ) → a ≡ set (c .before .loop .sums) cell (getD (c .before .loop .sums) cell (pos 0) +ℤ kept 0) → RunCellsZ (st .args .t2) (now (st .args .part)) (st .args .at) (st .args .stride) (st .args .across) (i * 3 + 1) (now (st .args .sums)) a
     more₀ a p = run-moreZ _ _ _ _ _ _ _ (st .pre) i 0 (i * 3) cell (kept 0) (c .loop-test .taken) (lit< tt) (omega arith) (omega arith) (back 0 (lit< tt)) _ (c .before .loop .inv .1) (i * 3 + 1) refl a p
 
     -- the second
     module _ (a₁ : List ℤ) (p₁ : a₁ ≡ set (c .before .loop .sums) cell (getD (c .before .loop .sums) cell (pos 0) +ℤ kept 0)) where
       abbrev cell₁ : ℕ
-      cell₁ = cell + st .args .short
+      cell₁ = cell + st .args .across
 
       room₁ : (cell₁ < length a₁) × (natAbs (getD a₁ cell₁ (pos 0) +ℤ kept 1) < 2 ^ 63)
       room₁ = run-roomZ _ _ _ _ _ _ _ (st .pre) i 1 (i * 3 + 1) cell₁ (kept 1) (c .loop-test .taken) (lit< tt) (omega arith) (omega arith) (back 1 (lit< tt)) _ (more₀ a₁ p₁)
 
-      more₁ : (a : List ℤ) → a ≡ set a₁ cell₁ (getD a₁ cell₁ (pos 0) +ℤ kept 1) → RunCellsZ (st .args .t2) (now (st .args .part)) (st .args .at) (st .args .long) (st .args .short) (i * 3 + 2) (now (st .args .sums)) a
+      more₁ : (a : List ℤ) → a ≡ set a₁ cell₁ (getD a₁ cell₁ (pos 0) +ℤ kept 1) → RunCellsZ (st .args .t2) (now (st .args .part)) (st .args .at) (st .args .stride) (st .args .across) (i * 3 + 2) (now (st .args .sums)) a
       more₁ a p = run-moreZ _ _ _ _ _ _ _ (st .pre) i 1 (i * 3 + 1) cell₁ (kept 1) (c .loop-test .taken) (lit< tt) (omega arith) (omega arith) (back 1 (lit< tt)) _ (more₀ a₁ p₁) (i * 3 + 2) (omega arith) a p
 
       -- the third
       module _ (a₂ : List ℤ) (p₂ : a₂ ≡ set a₁ cell₁ (getD a₁ cell₁ (pos 0) +ℤ kept 1)) where
         abbrev cell₂ : ℕ
-        cell₂ = cell + 2 * st .args .short
+        cell₂ = cell + 2 * st .args .across
 
         room₂ : (cell₂ < length a₂) × (natAbs (getD a₂ cell₂ (pos 0) +ℤ kept 2) < 2 ^ 63)
         room₂ = run-roomZ _ _ _ _ _ _ _ (st .pre) i 2 (i * 3 + 2) cell₂ (kept 2) (c .loop-test .taken) (lit< tt) (omega arith) (omega arith) (back 2 (lit< tt)) _ (more₁ a₂ p₂)
 
-        more₂ : (a : List ℤ) → a ≡ set a₂ cell₂ (getD a₂ cell₂ (pos 0) +ℤ kept 2) → RunCellsZ (st .args .t2) (now (st .args .part)) (st .args .at) (st .args .long) (st .args .short) ((i + 1) * 3) (now (st .args .sums)) a
+        more₂ : (a : List ℤ) → a ≡ set a₂ cell₂ (getD a₂ cell₂ (pos 0) +ℤ kept 2) → RunCellsZ (st .args .t2) (now (st .args .part)) (st .args .at) (st .args .stride) (st .args .across) ((i + 1) * 3) (now (st .args .sums)) a
         more₂ a p = run-moreZ _ _ _ _ _ _ _ (st .pre) i 2 (i * 3 + 2) cell₂ (kept 2) (c .loop-test .taken) (lit< tt) (omega arith) (omega arith) (back 2 (lit< tt)) _ (more₁ a₂ p₂) ((i + 1) * 3) (omega arith) a p
 
 -- the terms are kept as they are
@@ -154,7 +154,7 @@ returns c =
     let l = c .before .loop in
     let a = c .before .before .before .args in
     let e : l .i ≡ a .n = omega arith in
-    subst (λ (m : ℕ). RunCellsZ (a .t2) (now (a .part)) (a .at) (a .long) (a .short) (m * 3) (now (a .sums)) (l .sums)) e (l .inv .1)
+    subst (λ (m : ℕ). RunCellsZ (a .t2) (now (a .part)) (a .at) (a .stride) (a .across) (m * 3) (now (a .sums)) (l .sums)) e (l .inv .1)
 
 pub credit-sum-run-spec : {M : Type 1} → statement M
 credit-sum-run-spec =

@@ -1,119 +1,132 @@
-use mathlib.Core.Path.{_≡_, refl, ap₂, subst, _∙_}
-use mathlib.Core.List.{List}
+-- After i turns the first i edges are in their groups, in both rows. The invariant speaks of the periods by the moduli that hold them.
+use mathlib.Core.Path.{_≡_, refl, sym, ap₂, subst, _∙_}
+use mathlib.Core.List.{List, []}
 use Prim.Native.Nat.{ℕ, _+_, _*_, _-_, _^_, _≤_, _<_}
 use native.Mathlib.Omega.{arith}
 use denote.Ref.{now}
 use lib.ListN.{length, getD, set}
 use lib.IntN.{ℤ, pos, natAbs, _+ℤ_}
-use mir.Syntax.{w32, w64}
+use mir.Syntax.{w64}
+use Rattle.laws.specs.declared.Modulus.{Modulus}
 use Rattle.laws.specs.Signed.{read, read-at}
 use Rattle.laws.specs.Modulus.{modulus-n, modulus-ok}
-use Rattle.board.specs.declared.transform.EdgeLookup.{EdgeLookup}
-use Rattle.board.specs.Transform.{lookupOf}
-use Rattle.board.specs.Hits.{EdgeList, edges, look}
-use Rattle.groups.specs.Groups.{placeOf}
+use Rattle.board.specs.Hits.{EdgeList, edges}
+use Rattle.board.specs.DomainLaws.{edge-ok}
 use Rattle.room.specs.Room.{rowLength}
 use Rattle.groups.specs.Fill.{placeAt}
 use Rattle.groups.specs.FillLaws.{place-held}
 use Rattle.sums.specs.Sums.{Likelihoods, likelihoods, matchAt, mismatchAt}
-use Rattle.sums.specs.SumParts.{SumsFilled}
+use Rattle.sums.specs.SumParts.{SumsFillReady, SumsFilled}
 use Rattle.sums.specs.SumsLaws.{value-small}
-use Rattle.sums.specs.SumPartsLaws.{sums-none, match-room, mismatch-room, sums-more}
+use Rattle.sums.specs.SumPartsLaws.{ready-heldZ, filled-heldZ, sums-none, match-room, mismatch-room, sums-more}
 use Rattle.sums.proofs.sums.fill_sums.Statement.{statement}
 use Rattle.sums.proofs.sums.fill_sums.Tie as tie
 
 abbrev Inv-loop : tie.InvT-loop
-Inv-loop rows cols orientations bits confidences matches mismatches t len tall base sums₀ row matrix h v i₀ i-end sums i = (i ≤ length rows) × SumsFilled len tall (edges rows cols orientations bits confidences) (likelihoods matches mismatches) t base i sums₀ sums
+Inv-loop rows cols orientations bits matches mismatches t base sums₀ row matrix h v i₀ i-end sums i =
+    (i ≤ length rows) × SumsFilled (h .n) (v .n) (edges rows cols orientations bits []) (likelihoods matches mismatches) t base i sums₀ sums
 
 abbrev μ-loop : tie.MeasureT-loop
-μ-loop rows cols orientations bits confidences matches mismatches t len tall base sums₀ row matrix h v i₀ i-end sums i = i-end - i
+μ-loop rows cols orientations bits matches mismatches t base sums₀ row matrix h v i₀ i-end sums i = i-end - i
 
-add-row : tie.Need-add-row Inv-loop μ-loop
-add-row c = omega arith
-
-mul-row : tie.Need-mul-row Inv-loop μ-loop
-mul-row c = omega arith
-
-cast-row : tie.Need-cast-row Inv-loop μ-loop
-cast-row c = omega arith
+row-of-groups-requires : tie.Need-row-of-groups-requires Inv-loop μ-loop
+row-of-groups-requires c κs = let p = c .before .before .before .before .pre .periods in record { some = p .some; few = p .few }
 
 matrix-of-requires : tie.Need-matrix-of-requires Inv-loop μ-loop
 matrix-of-requires c κs = c .before .before .before .before .before .pre .transform
 
+cast-modulus-of : tie.Need-cast-modulus-of Inv-loop μ-loop
+cast-modulus-of c = let p = c .before .before .before .before .before .before .before .pre in omega (arith, p .periods .few .0)
+
 modulus-of-requires : tie.Need-modulus-of-requires Inv-loop μ-loop
-modulus-of-requires c κs = let p = c .before .before .before .before .before .before .pre in (p .periods .some .0, p .periods .few .0)
+modulus-of-requires c κs = let p = c .before .before .before .before .before .before .before .pre in (p .periods .some .0, p .periods .few .0)
+
+cast-modulus-of-2 : tie.Need-cast-modulus-of-2 Inv-loop μ-loop
+cast-modulus-of-2 c = let p = c .before .before .before .before .before .before .before .before .before .pre in omega (arith, p .periods .few .1)
 
 modulus-of-requires-2 : tie.Need-modulus-of-requires-2 Inv-loop μ-loop
-modulus-of-requires-2 c κs = let p = c .before .before .before .before .before .before .before .pre in (p .periods .some .1, p .periods .few .1)
+modulus-of-requires-2 c κs = let p = c .before .before .before .before .before .before .before .before .before .pre in (p .periods .some .1, p .periods .few .1)
 
-loop-holds : tie.Need-loop-holds Inv-loop μ-loop
-loop-holds c = (omega arith, sums-none _ _ _ _ _ _ _ (c .before .before .before .before .before .before .before .before .pre))
-
-mul-group-place : tie.Need-mul-group-place Inv-loop μ-loop
-mul-group-place c = omega arith
-
-shared-slice-copy-out-group-place : tie.Need-shared-slice-copy-out-group-place Inv-loop μ-loop
-shared-slice-copy-out-group-place c = omega arith
-
-mul-group-place-2 : tie.Need-mul-group-place-2 Inv-loop μ-loop
-mul-group-place-2 c = omega arith
-
-shared-slice-copy-out-group-place-2 : tie.Need-shared-slice-copy-out-group-place-2 Inv-loop μ-loop
-shared-slice-copy-out-group-place-2 c = omega arith
-
-shared-slice-read-group-place : tie.Need-shared-slice-read-group-place Inv-loop μ-loop
-shared-slice-read-group-place c = omega arith
-
-shared-slice-read-group-place-2 : tie.Need-shared-slice-read-group-place-2 Inv-loop μ-loop
-shared-slice-read-group-place-2 c = omega arith
-
--- the edge's coordinates, as they are read back
-module _ (c : tie.In-loop Inv-loop μ-loop) where
+-- the moduli are made: they hold the periods
+module _ (c : tie.After-modulus-of2 Inv-loop μ-loop) where
   abbrev st : tie.Start Inv-loop μ-loop
   st = c .before .before .before .before .before .before .before .before .before .before
 
-  abbrev i : ℕ
-  i = c .before .loop .i
-
   abbrev E : EdgeList
-  E = let a = st .args in edges (now (a .rows)) (now (a .cols)) (now (a .orientations)) (now (a .bits)) (now (a .confidences))
+  E = let a = st .args in edges (now (a .rows)) (now (a .cols)) (now (a .orientations)) (now (a .bits)) []
 
   abbrev X : Likelihoods
   X = likelihoods (now (st .args .matches)) (now (st .args .mismatches))
 
-  row-back : let z = getD (now (st .args .rows)) i (pos 0) in read w32 z ≡ z
-  row-back = read-at w32 refl (omega (arith, st .pre .list .near-row i (c .loop-test .taken)))
+  abbrev h : Modulus
+  h = c .before .before .modulus-of .result
 
-  col-back : let z = getD (now (st .args .cols)) i (pos 0) in read w32 z ≡ z
-  col-back = read-at w32 refl (omega (arith, st .pre .list .near-col i (c .loop-test .taken)))
+  abbrev v : Modulus
+  v = c .modulus-of2 .result
+
+  h-is : h .n ≡ st .args .periods .h
+  h-is = modulus-n _ _ (c .before .before .modulus-of .ensures)
+
+  v-is : v .n ≡ st .args .periods .v
+  v-is = modulus-n _ _ (c .modulus-of2 .ensures)
+
+  -- the row, as it was measured
+  abbrev row : ℕ
+  row = c .before .before .before .before .before .row-of-groups .result
+
+  row-is : row ≡ rowLength (h .n) (v .n)
+  row-is = c .before .before .before .before .before .row-of-groups .ensures ∙ sym (ap₂ rowLength h-is v-is)
+
+  ready : SumsFillReady (h .n) (v .n) E X (st .args .t) (st .args .base) (now (st .args .sums))
+  ready = ready-heldZ _ _ _ _ E X _ _ h-is v-is _ (st .pre)
+
+loop-holds : tie.Need-loop-holds Inv-loop μ-loop
+loop-holds c = (omega arith, sums-none _ _ (E c) (X c) _ _ _ (ready c))
+
+edge-at-requires : tie.Need-edge-at-requires Inv-loop μ-loop
+edge-at-requires c κs =
+    let l = st (c .before .before) .pre .list in
+    let h = c .loop-test .taken in
+    (h, omega (arith, h, l .cols), omega (arith, h, l .orientations), omega (arith, h, l .bits))
 
 group-place-requires : tie.Need-group-place-requires Inv-loop μ-loop
 group-place-requires c κs =
-    let l = c .before .before .before .before in
-    let p = st l .pre in
-    let h = l .loop-test .taken in
-    (rw (row-back l, col-back l) (record { near-row = p .list .near-row (i l) h; near-col = p .list .near-col (i l) h; bit = p .list .bit (i l) h; transform = p .transform }), (modulus-ok _ _ (l .before .before .before .modulus-of .ensures) (p .periods .some .0) (p .periods .few .0), modulus-ok _ _ (l .before .before .modulus-of2 .ensures) (p .periods .some .1) (p .periods .few .1), l .before .before .before .before .matrix-of .ensures))
+    let l = c .before in
+    let m = l .before .before in
+    let p = st m .pre in (
+      edge-ok (E m) _ (p .list) (p .transform) (l .before .loop .i) (l .loop-test .taken) _ (c .edge-at .ensures),
+      (modulus-ok _ _ (m .before .before .modulus-of .ensures) (p .periods .some .0) (p .periods .few .0), modulus-ok _ _ (m .modulus-of2 .ensures) (p .periods .some .1) (p .periods .few .1), m .before .before .before .before .matrix-of .ensures),
+    )
 
 -- the place of its groups
 module _ (c : tie.After-group-place Inv-loop μ-loop) where
   abbrev here : tie.In-loop Inv-loop μ-loop
-  here = c .before .before .before .before .before
+  here = c .before .before
+
+  abbrev made : tie.After-modulus-of2 Inv-loop μ-loop
+  made = here .before .before
+
+  abbrev i : ℕ
+  i = here .before .loop .i
+
+  abbrev sums : List ℤ
+  sums = here .before .loop .sums
 
   abbrev p : ℕ
   p = c .group-place .result
 
-  abbrev got : EdgeLookup
-  got = let a = st here .args in lookupOf (a .t) (read w32 (getD (now (a .rows)) (i here) (pos 0))) (read w32 (getD (now (a .cols)) (i here) (pos 0))) (getD (now (a .orientations)) (i here) 0)
+  abbrev at : ℕ
+  at = st made .args .base + p
 
-  told : (p ≡ placeOf (st here .args .len) (st here .args .tall) got (getD (now (st here .args .bits)) (i here) 0)) × (p < rowLength (st here .args .len) (st here .args .tall))
-  told = place-held _ _ _ _ got (getD (now (st here .args .bits)) (i here) 0) _ (modulus-n _ _ (here .before .before .before .modulus-of .ensures)) (modulus-n _ _ (here .before .before .modulus-of2 .ensures)) (c .group-place .ensures)
+  told : (p ≡ placeAt (h made .n) (v made .n) (E made) (st made .args .t) i) × (p < rowLength (h made .n) (v made .n))
+  told = place-held _ _ _ _ (E made) (st made .args .t) i _ p refl refl (c .before .edge-at .ensures) (c .group-place .ensures)
 
-  found : p ≡ placeAt (st here .args .len) (st here .args .tall) (E here) (st here .args .t) (i here)
-  unfolding look
-  found =
-      let a = st here .args in
-      told .0
-      ∙ ap₂ (λ (x y : ℤ). placeOf (a .len) (a .tall) (lookupOf (a .t) x y (getD (now (a .orientations)) (i here) 0)) (getD (now (a .bits)) (i here) 0)) (row-back here) (col-back here)
+  -- the edge is one of the list, and has its two likelihoods
+  turn : (i < 8192) × (i < length (now (st made .args .matches))) × (i < length (now (st made .args .mismatches)))
+  turn =
+      let q = st made .pre in
+      let h = here .loop-test .taken in
+      (omega (arith, h, q .list .few), omega (arith, h, q .likelihoods .matches), omega (arith, h, q .likelihoods .mismatches))
 
 -- a slice is shorter than 2 ^ 64
 short : (c : tie.Start Inv-loop μ-loop) → length (now (c .args .sums)) < 2 ^ 64
@@ -123,87 +136,91 @@ cast-at : tie.Need-cast-at Inv-loop μ-loop
 cast-at c = omega arith
 
 add-at : tie.Need-add-at Inv-loop μ-loop
-add-at c = let h = st (here c) in omega (arith, told c .1, h .pre .room, short h)
+add-at c = omega (arith, told c .1, ready (made c) .room, short (st (made c)))
 
 mul-quantize-ll : tie.Need-mul-quantize-ll Inv-loop μ-loop
-mul-quantize-ll c = omega arith
+mul-quantize-ll c = omega (arith, turn c .0)
 
 shared-slice-read-quantize-ll : tie.Need-shared-slice-read-quantize-ll Inv-loop μ-loop
-shared-slice-read-quantize-ll c = omega arith
+shared-slice-read-quantize-ll c = omega (arith, turn (c .before) .1)
 
 quantize-ll-requires : tie.Need-quantize-ll-requires Inv-loop μ-loop
-quantize-ll-requires c κs = let h = here (c .before) in st h .pre .likelihoods .match (i h) (h .loop-test .taken)
+quantize-ll-requires c κs = let g = c .before in st (made g) .pre .likelihoods .match (i g) (here g .loop-test .taken)
 
 -- its match likelihood, as it is kept
 module _ (c : tie.After-quantize-ll Inv-loop μ-loop) where
   abbrev g : tie.After-group-place Inv-loop μ-loop
   g = c .before .before
 
-  back : read w64 (c .quantize-ll .result) ≡ matchAt (X (here g)) (i (here g))
-  back = read-at w64 (c .quantize-ll .ensures .value) (omega (arith, value-small (E (here g)) (X (here g)) (st (here g) .pre .likelihoods) 0 (i (here g)) (here g .loop-test .taken)))
+  back : read w64 (c .quantize-ll .result) ≡ matchAt (X (made g)) (i g)
+  back = read-at w64 (c .quantize-ll .ensures .value) (omega (arith, value-small (E (made g)) (X (made g)) (st (made g) .pre .likelihoods) 0 (i g) (here g .loop-test .taken)))
 
-  abbrev at : ℕ
-  at = st (here g) .args .base + p g
-
-  match : (at < length (here g .before .loop .sums)) × (natAbs (getD (here g .before .loop .sums) at (pos 0) +ℤ read w64 (c .quantize-ll .result)) < 2 ^ 63)
-  match = rw back (match-room _ _ (E (here g)) (X (here g)) _ _ _ (st (here g) .pre) (i (here g)) (p g) (here g .loop-test .taken) (told g .1) (found g) (here g .before .loop .sums) (here g .before .loop .inv .1))
+  match : (at g < length (sums g)) × (natAbs (getD (sums g) (at g) (pos 0) +ℤ read w64 (c .quantize-ll .result)) < 2 ^ 63)
+  match = rw back (match-room _ _ (E (made g)) (X (made g)) _ _ _ (ready (made g)) (i g) (p g) (here g .loop-test .taken) (told g .1) (told g .0) (sums g) (here g .before .loop .inv .1))
 
 add-at-requires : tie.Need-add-at-requires Inv-loop μ-loop
 add-at-requires c κs = match (c .before)
 
 mul-quantize-ll-2 : tie.Need-mul-quantize-ll-2 Inv-loop μ-loop
-mul-quantize-ll-2 c = omega arith
+mul-quantize-ll-2 c = omega (arith, turn (g (c .before .before .before)) .0)
 
 shared-slice-read-quantize-ll-2 : tie.Need-shared-slice-read-quantize-ll-2 Inv-loop μ-loop
-shared-slice-read-quantize-ll-2 c = omega arith
+shared-slice-read-quantize-ll-2 c = omega (arith, turn (g (c .before .before .before .before)) .2)
 
 quantize-ll-requires-2 : tie.Need-quantize-ll-requires-2 Inv-loop μ-loop
-quantize-ll-requires-2 c κs = let h = here (g (c .before .before .before .before)) in st h .pre .likelihoods .mismatch (i h) (h .loop-test .taken)
+quantize-ll-requires-2 c κs = let d = g (c .before .before .before .before) in st (made d) .pre .likelihoods .mismatch (i d) (here d .loop-test .taken)
 
 -- its mismatch likelihood
 module _ (c : tie.After-quantize-ll2 Inv-loop μ-loop) where
   abbrev first : tie.After-quantize-ll Inv-loop μ-loop
   first = c .before .before .before .before .before
 
+  abbrev e : tie.After-group-place Inv-loop μ-loop
+  e = g first
+
   abbrev mid : List ℤ
   mid = c .before .before .before .add-at .last .0
 
-  put : mid ≡ set (here (g first) .before .loop .sums) (at first) (getD (here (g first) .before .loop .sums) (at first) (pos 0) +ℤ matchAt (X (here (g first))) (i (here (g first))))
+  put : mid ≡ set (sums e) (at e) (getD (sums e) (at e) (pos 0) +ℤ matchAt (X (made e)) (i e))
   put = rw (back first) at (c .before .before .before .add-at .ensures)
 
-  back₂ : read w64 (c .quantize-ll2 .result) ≡ mismatchAt (X (here (g first))) (i (here (g first)))
-  back₂ = read-at w64 (c .quantize-ll2 .ensures .value) (omega (arith, value-small (E (here (g first))) (X (here (g first))) (st (here (g first)) .pre .likelihoods) 1 (i (here (g first))) (here (g first) .loop-test .taken)))
+  back₂ : read w64 (c .quantize-ll2 .result) ≡ mismatchAt (X (made e)) (i e)
+  back₂ = read-at w64 (c .quantize-ll2 .ensures .value) (omega (arith, value-small (E (made e)) (X (made e)) (st (made e) .pre .likelihoods) 1 (i e) (here e .loop-test .taken)))
 
-  abbrev at₂ : ℕ
-  at₂ = at first + rowLength (st (here (g first)) .args .len) (st (here (g first)) .args .tall)
+  mismatch : (at e + row (made e) < length mid) × (natAbs (getD mid (at e + row (made e)) (pos 0) +ℤ read w64 (c .quantize-ll2 .result)) < 2 ^ 63)
+  mismatch =
+      rw back₂
+      (subst (λ (n : ℕ). (at e + n < length mid) × (natAbs (getD mid (at e + n) (pos 0) +ℤ mismatchAt (X (made e)) (i e)) < 2 ^ 63)) (sym (row-is (made e)))
+      (mismatch-room _ _ (E (made e)) (X (made e)) _ _ _ (ready (made e)) (i e) (p e) (here e .loop-test .taken) (told e .1) (told e .0) (sums e) (here e .before .loop .inv .1) mid put))
 
-  mismatch : (at₂ < length mid) × (natAbs (getD mid at₂ (pos 0) +ℤ read w64 (c .quantize-ll2 .result)) < 2 ^ 63)
-  mismatch = rw back₂ (mismatch-room _ _ (E (here (g first))) (X (here (g first))) _ _ _ (st (here (g first)) .pre) (i (here (g first))) (p (g first)) (here (g first) .loop-test .taken) (told (g first) .1) (found (g first)) (here (g first) .before .loop .sums) (here (g first) .before .loop .inv .1) mid put)
-
-under : (b p r n : ℕ) → p < r → b + 2 * r ≤ n → n < 2 ^ 64 → b + p + r < 2 ^ 64
-under b p r n h l k = omega arith
+under : (b p r q n : ℕ) → p < r → q ≡ r → b + 2 * r ≤ n → n < 2 ^ 64 → b + p + q < 2 ^ 64
+under b p r q n h e l k = omega arith
 
 add-add-at : tie.Need-add-add-at Inv-loop μ-loop
 add-add-at c =
     let d = g (first (c .before)) in
-    let h = st (here d) in
-    record { fits = under (h .args .base) (p d) (rowLength (h .args .len) (h .args .tall)) (length (now (h .args .sums))) (told d .1) (h .pre .room) (short h) }
+    let m = made d in
+    record { fits = under (st m .args .base) (p d) (rowLength (h m .n) (v m .n)) (row m) (length (now (st m .args .sums))) (told d .1) (row-is m) (ready m .room) (short (st m)) }
 
 add-at-requires-2 : tie.Need-add-at-requires-2 Inv-loop μ-loop
 add-at-requires-2 c κs = mismatch (c .before)
 
 add-i : tie.Need-add-i Inv-loop μ-loop
-add-i c = let h = here (g (first (c .before .before .before))) in omega (arith, h .loop-test .taken)
+add-i c = omega (arith, turn (g (first (c .before .before .before))) .0)
 
 loop-less : tie.Need-loop-less Inv-loop μ-loop
 loop-less c = omega arith
 
 loop-again : tie.Need-loop-again Inv-loop μ-loop
 loop-again c =
-    let e = c .before in
-    let q = e .before .before in
+    let l = c .before in
+    let q = l .before .before in
     let d = g (first q) in
-    (omega arith, sums-more _ _ (E (here d)) (X (here d)) _ _ _ (st (here d) .pre) (i (here d)) (p d) (here d .loop-test .taken) (told d .1) (found d) (here d .before .loop .sums) (here d .before .loop .inv .1) (mid q) (put q) _ (rw (back₂ q) at (e .add-at2 .ensures)))
+    let m = made d in (
+      omega arith,
+      sums-more _ _ (E m) (X m) _ _ _ (ready m) (i d) (p d) (here d .loop-test .taken) (told d .1) (told d .0) (sums d) (here d .before .loop .inv .1) (mid q) (put q) _
+          (subst (λ (n : ℕ). l .add-at2 .last .0 ≡ set (mid q) (at d + n) (getD (mid q) (at d + n) (pos 0) +ℤ mismatchAt (X m) (i d))) (row-is m) (rw (back₂ q) at (l .add-at2 .ensures))),
+    )
 
 same-length : tie.Need-same-length Inv-loop μ-loop
 same-length c = c .before .loop .inv .1 .len
@@ -211,9 +228,10 @@ same-length c = c .before .loop .inv .1 .len
 returns : tie.Need-returns Inv-loop μ-loop
 returns c =
     let l = c .before .loop in
-    let a = c .before .before .before .before .before .before .before .before .before .before .args in
-    let e : l .i ≡ length (now (a .rows)) = omega arith in
-    subst (λ (n : ℕ). SumsFilled (a .len) (a .tall) (edges (now (a .rows)) (now (a .cols)) (now (a .orientations)) (now (a .bits)) (now (a .confidences))) (likelihoods (now (a .matches)) (now (a .mismatches))) (a .t) (a .base) n (now (a .sums)) (l .sums)) e (l .inv .1)
+    let m = c .before .before in
+    let a = st m .args in
+    let e : l .i ≡ length (now (a .rows)) = omega (arith, l .inv .0, c .loop-test .left) in
+    filled-heldZ _ _ _ _ (E m) (X m) (a .t) (a .base) (h-is m) (v-is m) _ _ e _ _ (l .inv .1)
 
 pub fill-sums-spec : {M : Type 1} → statement M
 fill-sums-spec =
@@ -221,19 +239,14 @@ fill-sums-spec =
     (tie.spec
     Inv-loop
     μ-loop
-    add-row
-    mul-row
-    cast-row
+    row-of-groups-requires
     matrix-of-requires
+    cast-modulus-of
     modulus-of-requires
+    cast-modulus-of-2
     modulus-of-requires-2
     loop-holds
-    mul-group-place
-    shared-slice-copy-out-group-place
-    mul-group-place-2
-    shared-slice-copy-out-group-place-2
-    shared-slice-read-group-place
-    shared-slice-read-group-place-2
+    edge-at-requires
     group-place-requires
     cast-at
     add-at

@@ -1,6 +1,6 @@
+-- A family that holds no edge has terms of 0, so that storing nothing is crediting it.
 use mathlib.Core.Path.{sym, _∙_}
 use denote.Ref.{now}
-use lib.Dec.{eqb}
 use Rattle.board.specs.Hits.{tables}
 use Rattle.cells.specs.CreditLaws.{family-empty}
 use borrow.Author.Needs.{needs}
@@ -34,9 +34,9 @@ same-length-3 c = search needs
 -- no edge: nothing is stored
 returns-2 : tie.Need-returns-2
 returns-2 c =
-    let st = c .before .before .before .before .before .before .before in
+    let st = c .before .before .before .before .before .before .before .before in
     let a = st .args in
-    family-empty (tables (now (a .h)) (now (a .v))) (eqb (a .orientation) 0) (a .family) (a .long) (a .short) (a .cells) (a .groups) (now (a .counts)) (now (a .weights)) (st .pre) (sym (c .before .edges-held .ensures) ∙ c .if1 .left)
+    family-empty (tables (now (a .h)) (now (a .v))) (a .side) (a .family) (now (a .counts)) (now (a .weights)) (st .pre) (sym (c .before .edges-held .ensures) ∙ c .if1 .left)
 
 pub credit-family-spec : {M : Type 1} → statement M
 credit-family-spec =

@@ -59,12 +59,12 @@ fn span_of(view: View, entries: [i32; 2], origin: u32) -> Span {
 
 // The outline's columns, and its rows.
 fn span_of_columns(view: View, s: Square) -> Span {
-    let matrix = matrix_of(s.transform);
+    let matrix = matrix_of(s.transform as u32);
     span_of(view, matrix[0], s.col)
 }
 
 fn span_of_rows(view: View, s: Square) -> Span {
-    let matrix = matrix_of(s.transform);
+    let matrix = matrix_of(s.transform as u32);
     span_of(view, matrix[1], s.row)
 }
 
@@ -136,7 +136,7 @@ fn put_matrix(page: &mut [u8; 32768], at: usize, transform: u32) -> usize {
 fn put_faced(page: &mut [u8; 32768], at: usize, s: Square) -> usize {
     let place = [s.col, s.row];
     let n = put_wholes(page, at, b"<g transform=\"translate(% %) ", &place);
-    let n = put_matrix(page, n, s.transform);
+    let n = put_matrix(page, n, s.transform as u32);
     put_wholes(
         page,
         n,

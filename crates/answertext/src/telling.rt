@@ -16,8 +16,8 @@ use viewtext::view_file::View;
 
 // An orientation in words, with the transform's number.
 pub fn put_turn(page: &mut [u8; 32768], at: usize, s: Square) -> usize {
-    let n = put_orientation(page, at, s.transform);
-    let wholes = [s.transform];
+    let n = put_orientation(page, at, s.transform as u32);
+    let wholes = [s.transform as u32];
     put_wholes(page, n, b" (transform %)", &wholes)
 }
 
@@ -105,7 +105,7 @@ fn put_found(page: &mut [u8; 32768], at: usize, d: Decoded, soft: bool) -> usize
     );
     let n = put_turn(page, n, square);
     let n = put(page, n, b":\n               ");
-    let n = put_directions(page, n, square.transform);
+    let n = put_directions(page, n, square.transform as u32);
     let wholes = [d.hits, d.edges];
     let floats = [d.error_rate, d.mean_confidence];
     let n = put_form(
@@ -144,12 +144,12 @@ fn put_plain_found(page: &mut [u8; 32768], at: usize, d: Decoded) -> usize {
     let wholes = [
         square.row,
         square.col,
-        square.transform,
+        square.transform as u32,
         d.hits,
         d.edges,
         runner.row,
         runner.col,
-        runner.transform,
+        runner.transform as u32,
     ];
     let floats = [
         d.error_rate,

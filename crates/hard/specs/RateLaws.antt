@@ -14,7 +14,7 @@ use lib.Ieee.Back.{round-whole}
 use lib.Ieee.Order.{round-mono}
 use lib.Ieee.Positive.{num, den, through, first-pos}
 use lib.Ieee.Scale.{round-same, round-val, round-under, finite}
-use borrow.Author.Tests.{ltb-true, ltb-false, lt-ltb, ne-eqb}
+use borrow.Author.Tests.{ltb-true, ltb-false, lt-ltb, le-ltb, ne-eqb}
 use Rattle.laws.specs.Tests.{clash, not-so, compared, or-true}
 use Rattle.laws.specs.Weights.{zeroF, oneF, Weight, weightlike}
 use Rattle.laws.specs.WeightLaws.{confidence, lt-cross, eq-level}
@@ -134,3 +134,12 @@ fewer-over edges limit few more small l m e = go (eq-zero-or-pos edges)
 -- and where hits are within it, more hits are too
 pub more-within : (edges : ℕ) (limit : Float) (few more : ℕ) → edges ≤ 8192 → few ≤ more → more ≤ edges → overLimit edges limit few ≡ false → overLimit edges limit more ≡ false
 more-within edges limit few more small l m e = not-so (overLimit edges limit more) (λ d. clash (fewer-over edges limit few more small l m d) e)
+
+-- no share of misses is above 1, so a list that is selected with limit 1 never lacks a placing within it
+pub never-over-one : (edges hits : ℕ) → 0 < edges → edges ≤ 8192 → overLimit edges oneF hits ≡ false
+unfolding overLimit
+never-over-one edges hits p small =
+    let one : 0 < 1 = lit< tt in
+    let x = round binary32 false (edges - hits) edges in
+    let w = share-weight (edges - hits) edges p (omega arith) in
+    rw (rate-is edges hits p small) (lt-cross oneF x tt w ∙ le-ltb _ _ (no-smaller x oneF w tt (rw one-round at (round-mono binary32 (edges - hits) edges 1 1 p one (omega arith)))))

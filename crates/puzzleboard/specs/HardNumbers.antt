@@ -28,3 +28,32 @@ use Rattle.verdict.specs.Verdict.{refusedBy, agreed, decodedOf, judged, pick}
 use Rattle.puzzleboard.specs.Demand.{OnBoard}
 use Rattle.puzzleboard.specs.OneSelection.{NoneWithinLimit, SomeWithinLimit, NoneLeads, Winner, ended, refused-none, none-refused, refused-within, within-refused, some-winner, winner-some}
 use Rattle.puzzleboard.specs.Hard.{afterPhysical, afterLogical, hardCore}
+
+-- two numbers that differ are two refusals
+apart : (m n : ℕ) → (m ≡ n → ⊥) → {A : Type 0} → refusedBy m ≡ refusedBy n → A
+apart m n d e = let z : m ≡ n = cc in absurd (d z)
+
+found-not : (d : Decoded) (n : ℕ) → {A : Type 0} → Found d ≡ refusedBy n → A
+found-not d n e = let z : _≡_ {A = ℕ} 0 1 = cc in absurd (omega arith)
+
+module _ (call : HardCall) (m n : ℕ) (A : HardAccepted call m n) where
+  -- the two lists, and the winner of each, in short
+  abbrev LogicalWithin : Type 0
+  LogicalWithin = SomeWithinLimit (call .board) (call .logical) (call .transforms) (call .error-limit)
+
+  abbrev LogicalWinner : Type 0
+  LogicalWinner = Winner (call .board) (call .logical) (call .transforms) (call .error-limit) (A .board) (A .logical) (A .transforms .few)
+
+  abbrev PhysicalWinner : Type 0
+  PhysicalWinner = Winner (call .board) (call .physical) (call .transforms) oneF (A .board) (A .physical) (A .transforms .few)
+
+  -- the winners name the same transform and origin
+  abbrev Agree : LogicalWinner → PhysicalWinner → Bool
+  Agree w p = agreed (getD (call .transforms) (w .winner .placing .listed) 0) (w .winner) (getD (call .transforms) (p .winner .placing .listed) 0) (p .winner)
+
+  -- the physical list never gives 11: with limit 1 every placing is within it
+  pub physical-within : NoneWithinLimit (call .board) (call .physical) (call .transforms) oneF → ⊥
+  physical-within h =
+      let Q = record { listed = 0; row = 0; col = 0 } in
+      let o : OnBoard (call .board) (call .transforms) Q = record { in-list = A .transforms .some; row = omega (arith, A .board .h .some); col = omega (arith, A .board .v .some) } in
+      clash (h Q o) (never-over-one (size (call .physical)) (hitsAt (call .board) (call .physical) (call .transforms) Q) (A .some-physical) (A .physical .few))

@@ -22,7 +22,7 @@ fn refused(number: u32) -> [u32; 15] {
 fn found(d: Decoded) -> [u32; 15] {
     [
         NOT_REFUSED,
-        d.square.transform,
+        d.square.transform as u32,
         d.square.row,
         d.square.col,
         d.hits,
@@ -33,7 +33,7 @@ fn found(d: Decoded) -> [u32; 15] {
         bits_of(d.best_score),
         bits_of(d.runner_up_score),
         bits_of(d.margin),
-        d.runner_up.transform,
+        d.runner_up.transform as u32,
         d.runner_up.row,
         d.runner_up.col,
     ]

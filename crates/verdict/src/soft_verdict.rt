@@ -52,12 +52,12 @@ pub fn soft_decoded(t: u8, best: SoftBest, fit: Fit, edges: u32, runner: RunnerU
     ensures { λ r. ⌜ r ≡ softDecodedOf t best fit edges runner ⌝ }
 {
     let square = Square {
-        transform: t as u32,
+        transform: t,
         row: best.first.placing.row,
         col: best.first.placing.col,
     };
     let competitor = Square {
-        transform: runner.transform as u32,
+        transform: runner.transform,
         row: runner.row,
         col: runner.col,
     };

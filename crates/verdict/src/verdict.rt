@@ -34,12 +34,12 @@ fn decoded(t: u8, w: Candidate, runner: RunnerUp, edges: u32) -> Decoded
     ensures { λ r. ⌜ r ≡ decodedOf t w runner edges ⌝ }
 {
     let square = Square {
-        transform: t as u32,
+        transform: t,
         row: w.placing.row,
         col: w.placing.col,
     };
     let competitor = Square {
-        transform: runner.transform as u32,
+        transform: runner.transform,
         row: runner.row,
         col: runner.col,
     };

@@ -27,12 +27,12 @@ fn print_found(d: Decoded) {
     let square = d.square;
     let runner = d.runner_up;
     let wholes = [
-        square.transform,
+        square.transform as u32,
         square.row,
         square.col,
         d.hits,
         d.edges,
-        runner.transform,
+        runner.transform as u32,
         runner.row,
         runner.col,
     ];

@@ -1,6 +1,6 @@
 -- Document 01, 'Class tables': groups. "Each edge's confidence is added, in list order, to its group (long residue, short residue, bit), from 0."
 use mathlib.Core.Bool.{Bool, _&&_, cond}
-use Prim.Native.Nat.{ℕ, _+_, _*_, _≤_, _<_}
+use Prim.Native.Nat.{ℕ, _+_, _*_}
 use lib.Dec.{eqb}
 use lib.ListN.{getD}
 use lib.IntN.{ℤ}

@@ -11,6 +11,7 @@ use Rattle.laws.specs.Part.{view}
 use Rattle.laws.specs.Cleared.{SameBeyond}
 use Rattle.board.specs.Hits.{EdgeList, Board}
 use Rattle.board.specs.Sides.{periodOf}
+use Rattle.board.specs.DomainLaws.{edges-ok}
 use Rattle.board.specs.Domain.{ListOk, BoardOk}
 use Rattle.room.specs.Room.{used}
 use Rattle.sums.specs.Sums.{Likelihoods, LikelihoodsOk, score}
@@ -56,7 +57,7 @@ module _ (B : Board) (E : EdgeList) (X : Likelihoods) (ts : List ℕ) (a : List 
 
   pub room-next : (n : ℕ) (a' : List ℤ) → SumRoom B E X ts n a a' → n < length ts → SumsReady B E X (getD ts n 0) a'
   room-next n a' d h =
-      record { list = R .list; likelihoods = R .likelihoods; board = R .board; transform = R .small n h; room = omega (arith, R .room, room-length n a' d) }
+      record { list = edges-ok E (R .list); likelihoods = R .likelihoods; board = R .board; transform = R .small n h; room = omega (arith, R .room, room-length n a' d) }
 
   pub room-more : (n : ℕ) (a' a'' : List ℤ) → SumRoom B E X ts n a a' → SumsBuilt B E X (getD ts n 0) a' a'' → SumRoom B E X ts (n + 1) a a''
   unfolding SumRoom

@@ -50,7 +50,6 @@ pub fn scan_transforms<'a>(
             cols,
             orientations,
             bits,
-            confidences,
             matches,
             mismatches,
             t,

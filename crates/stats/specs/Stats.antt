@@ -1,6 +1,5 @@
 -- Document 01, end of 'Refusal numbers': match statistics. "edges, hits, rate, and mean over hits added in list order; no edges: rate 1; no hits: mean 0."
-use mathlib.Core.Bool.{Bool, true, false, cond}
-use mathlib.Core.List.{List}
+use mathlib.Core.Bool.{Bool, cond}
 use Prim.Native.Nat.{ℕ, _+_}
 use lib.Dec.{eqb}
 use lib.ListN.{getD}

@@ -1,11 +1,10 @@
 -- One edge more of match statistics, and the two ways in which they end.
 use mathlib.Core.Path.{_≡_, refl, sym, ap, ap₂, _∙_}
-use mathlib.Core.Bool.{Bool, true, false}
-use Prim.Native.Nat.{ℕ, _+_, _≤_, _<_}
-use native.Mathlib.Omega.{arith}
+use mathlib.Core.Bool.{Bool}
+use Prim.Native.Nat.{ℕ, _+_, _≤_}
 use lib.ListN.{getD}
 use lib.Ieee.{Float, nan, binary32, add}
-use Rattle.laws.specs.Fold.{fold, put, one, count, fold-more, fold-zero}
+use Rattle.laws.specs.Fold.{one, count, fold-more, fold-zero}
 use Rattle.laws.specs.Counting.{count-le}
 use Rattle.laws.specs.Weights.{zeroF}
 use Rattle.board.specs.Hits.{EdgeList, Board, size, hit, hits}

@@ -3,7 +3,7 @@ ghost use mathlib.Core.Path.{_≡_};
 ghost use Prim.Native.Nat.{_≤_, _<_};
 ghost use Rattle.board.specs.Hits.{edges, tables};
 ghost use Rattle.admission.specs.Accepted.{StatsAccepted};
-ghost use Rattle.stats.specs.Stats.{added, hitsAndWeight, statsRate, statsOf, statsAnswer};
+ghost use Rattle.stats.specs.Stats.{added, hitsAndWeight, statsRate, statsAnswer};
 use answer::MatchStats;
 use answer::Square;
 use answer::StatsAnswer;

@@ -1,6 +1,6 @@
 -- Laws of likelihood sums: a group more in a term, a family more in a cell, and the cell's sum against the edges.
 use mathlib.Core.Path.{_≡_, refl, sym, ap, ap₂, _∙_}
-use mathlib.Core.Bool.{Bool, true, false, _&&_, cond}
+use mathlib.Core.Bool.{Bool, true, false, cond}
 use mathlib.Core.List.{List, []}
 use Prim.Native.Nat.{ℕ, zero, suc, _+_, _*_, _/_, _%_, _^_, _≤_, _<_}
 use native.Mathlib.Omega.{arith}
@@ -8,7 +8,7 @@ use lib.IntN.{ℤ, pos, natAbs, _+ℤ_, +ℤ-idr, +ℤ-assoc, +ℤ-comm}
 use lib.ListN.{getD}
 use borrow.Author.Tests.{eq-eqb, ne-eqb}
 use Rattle.laws.specs.Tests.{and-comm}
-use Rattle.laws.specs.Fold.{fold, all, one, count, fold-hit}
+use Rattle.laws.specs.Fold.{all, one, count, fold-hit}
 use Rattle.laws.specs.Counting.{count-le}
 use Rattle.laws.specs.DoubleCounting.{fold-ext, fold-where, fold-split}
 use Rattle.board.specs.Hits.{EdgeList, Board, size, seen, look, horizontal, bitAt}

@@ -19,7 +19,7 @@ use Rattle.board.specs.HitsLaws.{side-some}
 use Rattle.laws.specs.declared.Periods.{Periods}
 use Rattle.room.specs.declared.Side.{Side}
 use Rattle.groups.specs.Groups.{member, confidenceAt, groupCount, groupWeight}
-use Rattle.room.specs.Room.{PeriodsOk, rowLength, cellsAt, cellsEnd, groupsAt, used, isHorizontal, sideOf, Stands, Laid}
+use Rattle.room.specs.Room.{PeriodsOk, rowLength, cellsAt, cellsEnd, used, isHorizontal, sideOf, Stands, Laid}
 use Rattle.groups.specs.Terms.{placesN, placesF}
 use Rattle.cells.specs.Cells.{longClass, shortClass, cellCount, cellWeight}
 use Rattle.tables.specs.CellsLaws.{same-cell, cell-count, total-edges, group-upto}

@@ -61,15 +61,19 @@ pub fn soft_decoded(t: u8, best: SoftBest, fit: Fit, edges: u32, runner: RunnerU
         row: runner.row,
         col: runner.col,
     };
+    let weighted_score = best.first.total / edges as f32;
+    let error_rate = figures::rate(edges, fit.hits);
+    let mean_confidence = figures::mean(fit.hits, fit.weight);
+    let runner_up_score = runner.hits as f32;
     Decoded {
         square,
         hits: fit.hits,
         edges,
-        weighted_score: best.first.total / edges as f32,
-        error_rate: figures::rate(edges, fit.hits),
-        mean_confidence: figures::mean(fit.hits, fit.weight),
+        weighted_score,
+        error_rate,
+        mean_confidence,
         best_score: best.first.total,
-        runner_up_score: runner.hits as f32,
+        runner_up_score,
         margin: best.margin,
         runner_up: competitor,
     }

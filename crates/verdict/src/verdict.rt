@@ -43,16 +43,20 @@ fn decoded(t: u8, w: Candidate, runner: RunnerUp, edges: u32) -> Decoded
         row: runner.row,
         col: runner.col,
     };
+    let error_rate = figures::rate(edges, w.hits);
+    let mean_confidence = figures::mean(w.hits, w.weight);
+    let runner_up_score = runner.hits as f32;
+    let margin = figures::margin(w.hits, runner.hits) as f32;
     Decoded {
         square,
         hits: w.hits,
         edges,
         weighted_score: w.score,
-        error_rate: figures::rate(edges, w.hits),
-        mean_confidence: figures::mean(w.hits, w.weight),
+        error_rate,
+        mean_confidence,
         best_score: w.score,
-        runner_up_score: runner.hits as f32,
-        margin: figures::margin(w.hits, runner.hits) as f32,
+        runner_up_score,
+        margin,
         runner_up: competitor,
     }
 }

@@ -7,6 +7,7 @@ use lib.ListN.{length, getD}
 use borrow.Author.Needs.{needs}
 use Rattle.board.specs.Hits.{EdgeList, Board, edges, tables}
 use Rattle.sums.specs.Sums.{Likelihoods, likelihoods}
+use Rattle.sums.specs.SumsTheorems.{bare-ready, bare-built}
 use Rattle.soft.specs.Select.{SoftScanned}
 use Rattle.soft.specs.SelectLaws.{scan-none, scan-more, scan-count, room-next, room-length, room-ready}
 use Rattle.soft.proofs.select.scan_transforms.Statement.{statement}
@@ -56,12 +57,14 @@ shared-slice-read-t : tie.Need-shared-slice-read-t Inv-loop μ-loop
 shared-slice-read-t c = omega arith
 
 build-sums-requires : tie.Need-build-sums-requires Inv-loop μ-loop
-build-sums-requires c κs = let l = c .before .before in room-next (B l) (E l) (X l) (ts l) _ (st l .pre) (at l) (l .before .loop .sums) (done l .room) (l .loop-test .taken)
+build-sums-requires c κs =
+    let l = c .before .before in
+    bare-ready (B l) (E l) (X l) _ _ (room-next (B l) (E l) (X l) (ts l) _ (st l .pre) (at l) (l .before .loop .sums) (done l .room) (l .loop-test .taken))
 
 fold-room-requires : tie.Need-fold-room-requires Inv-loop μ-loop
 fold-room-requires c κs =
     let l = c .before .before .before .before .before in (
-      room-ready (B l) (E l) (X l) (ts l) _ (st l .pre) (getD (ts l) (at l) 0) (l .before .loop .sums) _ (room-next (B l) (E l) (X l) (ts l) _ (st l .pre) (at l) _ (done l .room) (l .loop-test .taken)) (c .before .before .build-sums .ensures),
+      room-ready (B l) (E l) (X l) (ts l) _ (st l .pre) (getD (ts l) (at l) 0) (l .before .loop .sums) _ (room-next (B l) (E l) (X l) (ts l) _ (st l .pre) (at l) _ (done l .room) (l .loop-test .taken)) (bare-built (B l) (E l) (X l) _ _ _ (c .before .before .build-sums .ensures)),
       omega (arith, scan-count (B l) (E l) (X l) (ts l) _ (st l .pre) (at l) _ _ (done l), l .loop-test .taken, st l .pre .transforms .1),
     )
 
@@ -74,7 +77,7 @@ loop-less c = omega arith
 loop-again : tie.Need-loop-again Inv-loop μ-loop
 loop-again c =
     let l = c .before .before .before .before .before .before in
-    (omega arith, scan-more (B l) (E l) (X l) (ts l) _ (st l .pre) (at l) _ _ _ _ (l .loop-test .taken) (done l) (c .before .before .before .build-sums .ensures) (c .fold-room .ensures))
+    (omega arith, scan-more (B l) (E l) (X l) (ts l) _ (st l .pre) (at l) _ _ _ _ (l .loop-test .taken) (done l) (bare-built (B l) (E l) (X l) _ _ _ (c .before .before .before .build-sums .ensures)) (c .fold-room .ensures))
 
 same-length : tie.Need-same-length Inv-loop μ-loop
 same-length c = let s = c .before .before .before .before .before .before .before .before .before .before .before in room-length _ _ _ _ _ (s .pre) (c .before .loop .i) _ (c .before .loop .inv .1 .room)

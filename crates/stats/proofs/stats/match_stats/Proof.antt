@@ -1,11 +1,10 @@
-use mathlib.Core.Path.{_≡_, refl, sym, ap, ap₂, _∙_}
-use Prim.Native.Nat.{ℕ, _≤_}
+use mathlib.Core.Path.{sym, ap, ap₂, _∙_}
+use Prim.Native.Nat.{_≤_}
 use native.Mathlib.Omega.{arith}
 use denote.Ref.{now}
 use lib.Ieee.{Float}
 use Rattle.board.specs.Hits.{EdgeList, Board, edges, tables, size, hits}
 use Rattle.board.specs.HitsLaws.{hits-le}
-use Rattle.answer.specs.declared.MatchStats.{MatchStats}
 use Rattle.figures.specs.declared.Fit.{Fit}
 use Rattle.admission.specs.Accepted.{StatsAccepted, stats-accepted}
 use Rattle.stats.specs.Stats.{hitsAndWeight}

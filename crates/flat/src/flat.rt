@@ -44,9 +44,11 @@ fn found(d: Decoded) -> FlatAnswer
 {
     let square = d.square;
     let runner = d.runner_up;
+    let transform = square.transform as u32;
+    let runner_up_transform = runner.transform as u32;
     FlatAnswer {
         refusal: NOT_REFUSED,
-        transform: square.transform as u32,
+        transform,
         row: square.row,
         col: square.col,
         hits: d.hits,
@@ -57,7 +59,7 @@ fn found(d: Decoded) -> FlatAnswer
         best_score: d.best_score,
         runner_up_score: d.runner_up_score,
         margin: d.margin,
-        runner_up_transform: runner.transform as u32,
+        runner_up_transform,
         runner_up_row: runner.row,
         runner_up_col: runner.col,
     }

@@ -8,6 +8,7 @@ use native.Mathlib.Omega.{arith}
 use lib.ListN.{getD, length}
 use Rattle.laws.specs.Tests.{clash}
 use Rattle.laws.specs.Weights.{oneF}
+use Rattle.board.specs.declared.edge.Placing.{Placing}
 use Rattle.board.specs.Hits.{size, hitsAt}
 use Rattle.admission.specs.Calls.{HardCall}
 use Rattle.admission.specs.Accepted.{HardAccepted}
@@ -31,7 +32,7 @@ use Rattle.puzzleboard.specs.Hard.{afterPhysical, afterLogical, hardCore
 
 -- two numbers that differ are two refusals
 apart : (m n : ℕ) → (m ≡ n → ⊥) → {A : Type 0} → refusedBy m ≡ refusedBy n → A
-apart m n d e = let z : m ≡ n = cc in absurd (d z)
+apart m n d e = let z : numbered m ≡ numbered n = cc in absurd (d (ap (λ (x : Refusal). x .number) z))
 
 found-not : (d : Decoded) (n : ℕ) → {A : Type 0} → Found d ≡ refusedBy n → A
 found-not d n e = let z : _≡_ {A = ℕ} 0 1 = cc in absurd (omega arith)
@@ -54,6 +55,15 @@ module _ (call : HardCall) (m n : ℕ) (A : HardAccepted call m n) where
   -- the physical list never gives 11: with limit 1 every placing is within it
   pub physical-within : NoneWithinLimit (call .board) (call .physical) (call .transforms) oneF → ⊥
   physical-within h =
-      let Q = record { listed = 0; row = 0; col = 0 } in
+      let Q : Placing = record { listed = 0; row = 0; col = 0 } in
       let o : OnBoard (call .board) (call .transforms) Q = record { in-list = A .transforms .some; row = omega (arith, A .board .h .some); col = omega (arith, A .board .v .some) } in
       clash (h Q o) (never-over-one (size (call .physical)) (hitsAt (call .board) (call .physical) (call .transforms) Q) (A .some-physical) (A .physical .few))
+
+  -- ---- the ways in which an accepted call ends, in document 01's order
+  pub data HardEnd : Answer → Type 0 where
+    no-logical-confidence : noConfidence (call .logical) ≡ true → HardEnd (refusedBy why.noConfidence)
+    none-within : noConfidence (call .logical) ≡ false → NoneWithinLimit (call .board) (call .logical) (call .transforms) (call .error-limit) → HardEnd (refusedBy why.noneWithinLimit)
+    no-physical-confidence : noConfidence (call .logical) ≡ false → LogicalWithin → noConfidence (call .physical) ≡ true → HardEnd (refusedBy why.noConfidence)
+    winners-differ : (w : LogicalWinner) (p : PhysicalWinner) → Agree w p ≡ false → HardEnd (refusedBy why.listsDisagree)
+    none-leads : (w : LogicalWinner) (p : PhysicalWinner) → Agree w p ≡ true → NoneLeads (call .board) (call .logical) (call .transforms) (call .error-limit) → HardEnd (refusedBy why.notFarAhead)
+    found : (w : LogicalWinner) (p : PhysicalWinner) → Agree w p ≡ true → passed (size (call .logical)) (w .winner .hits) (w .runner-up .hits) ≡ true → (d : Decoded) → HardEnd (Found d)

@@ -2,6 +2,7 @@ pub mod Demand
 pub mod DemandLaws
 pub mod Hard
 pub mod HardLaws
+pub mod HardNumbers
 pub mod HardTheorems
 pub mod OneSelection
 pub mod Soft

@@ -9,12 +9,9 @@ use borrow.Author.Needs.{needs}
 use Rattle.verdict.proofs.soft_verdict.soft_decoded.Statement.{statement}
 use Rattle.verdict.proofs.soft_verdict.soft_decoded.Tie as tie
 
-cast-t8 : tie.Need-cast-t8
-cast-t8 c = search needs
-
-int-to-float-t9 : tie.Need-int-to-float-t9
+int-to-float-weighted-score : tie.Need-int-to-float-weighted-score
 unfolding inFloat
-int-to-float-t9 c = le→leb (c .before .before .args .edges) (2 ^ 24) (omega (arith, c .before .before .pre .1))
+int-to-float-weighted-score c = le→leb (c .before .args .edges) (2 ^ 24) (omega (arith, c .before .pre .1))
 
 rate-requires : tie.Need-rate-requires
 rate-requires c κs = search needs
@@ -22,14 +19,14 @@ rate-requires c κs = search needs
 mean-requires : tie.Need-mean-requires
 mean-requires c κs = search needs
 
-int-to-float-t13 : tie.Need-int-to-float-t13
+int-to-float-runner-up-score : tie.Need-int-to-float-runner-up-score
 unfolding inFloat
-int-to-float-t13 c = le→leb (c .before .before .before .before .before .before .args .runner .hits) (2 ^ 24) (omega (arith, c .before .before .before .before .before .before .pre .2))
+int-to-float-runner-up-score c = le→leb (c .before .before .before .before .before .args .runner .hits) (2 ^ 24) (omega (arith, c .before .before .before .before .before .pre .2))
 
 returns : tie.Need-returns
 unfolding softDecodedOf
 returns c =
-    let a = c .before .before .before .before .before .before .args in
+    let a = c .before .before .before .before .before .args in
     λ i. record {
       square = record { transform = a .t; row = a .best .first .placing .row; col = a .best .first .placing .col };
       hits = a .fit .hits;
@@ -44,4 +41,4 @@ returns c =
     }
 
 pub soft-decoded-spec : {M : Type 1} → statement M
-soft-decoded-spec = tie.close (tie.spec cast-t8 int-to-float-t9 rate-requires mean-requires int-to-float-t13 returns)
+soft-decoded-spec = tie.close (tie.spec int-to-float-weighted-score rate-requires mean-requires int-to-float-runner-up-score returns)

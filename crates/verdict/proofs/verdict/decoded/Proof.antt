@@ -9,30 +9,27 @@ use borrow.Author.Needs.{needs}
 use Rattle.verdict.proofs.verdict.decoded.Statement.{statement}
 use Rattle.verdict.proofs.verdict.decoded.Tie as tie
 
-cast-t7 : tie.Need-cast-t7
-cast-t7 c = search needs
-
 rate-requires : tie.Need-rate-requires
 rate-requires c κs = search needs
 
 mean-requires : tie.Need-mean-requires
 mean-requires c κs = search needs
 
-int-to-float-t10 : tie.Need-int-to-float-t10
+int-to-float-runner-up-score : tie.Need-int-to-float-runner-up-score
 unfolding inFloat
-int-to-float-t10 c = le→leb (c .before .before .before .before .args .runner .hits) (2 ^ 24) (omega arith)
+int-to-float-runner-up-score c = le→leb (c .before .before .before .args .runner .hits) (2 ^ 24) (omega arith)
 
 margin-requires : tie.Need-margin-requires
 margin-requires c κs = search needs
 
-int-to-float-t11 : tie.Need-int-to-float-t11
+int-to-float-margin : tie.Need-int-to-float-margin
 unfolding inFloat
-int-to-float-t11 c = le→leb (c .before .margin .result) (2 ^ 24) (omega (arith, c .before .margin .ensures))
+int-to-float-margin c = le→leb (c .before .margin .result) (2 ^ 24) (omega (arith, c .before .margin .ensures))
 
 returns : tie.Need-returns
 unfolding decodedOf
 returns c =
-    let a = c .before .before .before .before .before .before .args in
+    let a = c .before .before .before .before .before .args in
     λ i. record {
       square = record { transform = a .t; row = a .w .placing .row; col = a .w .placing .col };
       hits = a .w .hits;
@@ -47,4 +44,4 @@ returns c =
     }
 
 pub decoded-spec : {M : Type 1} → statement M
-decoded-spec = tie.close (tie.spec cast-t7 rate-requires mean-requires int-to-float-t10 margin-requires int-to-float-t11 returns)
+decoded-spec = tie.close (tie.spec rate-requires mean-requires int-to-float-runner-up-score margin-requires int-to-float-margin returns)

@@ -65,7 +65,7 @@ module _ (B : Board) (E : EdgeList) (ts : List ℕ) (limit : Float) where
     }
 
     -- the three ways in which a selection ends
-    abbrev Ended : Selection → Type 0
+    abbrev pub Ended : Selection → Type 0
     Ended (Refused r) = ((r ≡ numbered why.noConfidence) × (noConfidence E ≡ true)) ⊎ ((r ≡ numbered why.noneWithinLimit) × (noConfidence E ≡ false) × NoneWithinLimit)
     Ended (Selected w r) = (noConfidence E ≡ false) × SomeWithinLimit × ((passed (size E) (w .hits) (r .hits) ≡ true) ⊎ NoneLeads)
 

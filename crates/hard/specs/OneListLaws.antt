@@ -1,9 +1,10 @@
 -- The theorem on one list, by hits alone. `one-list`: selection and gate give the right outcome (there is one, `right-unique` of PlacingsLaws). Then the same
--- as named statements: `refuses-11`, `refuses-13`, `finds`, what is `reported` of a placing that passes, and `runner-up-exists`.
+-- as named statements: `refuses-none-within`, `refuses-not-ahead`, `finds`, what is `reported` of a placing that passes, and `runner-up-exists`.
 use mathlib.Core.Path.{_≡_, refl, sym, ap, _∙_}
 use mathlib.Core.Bool.{Bool, true, false, cond}
 use Prim.Native.Nat.{ℕ, _≤_, _<_}
 use lib.Ieee.{Float}
+use native.Mathlib.Nat.{le-trans}
 use Rattle.laws.specs.Tests.{clash, not-so}
 use Rattle.laws.specs.Grid.{origins}
 use Rattle.best.specs.CellTables.{CellTables, Period, TablesOk}
@@ -11,7 +12,7 @@ use Rattle.figures.specs.Gate.{passed}
 use Rattle.scan.specs.Scan.{overLimit, runnerUp}
 use Rattle.hard.specs.Transform.{bestOrigin, bestAt, selected}
 use Rattle.hard.specs.TransformLaws.{best-under}
-use Rattle.hard.specs.RateLaws.{fewer-over}
+use Rattle.hard.specs.RateLaws.{fewer-over, more-within}
 use Rattle.hard.specs.SummedLaws.{summed}
 use Rattle.hard.specs.Placings.{not-far-ahead, found, NoneWithin, Sole, MostOther, Right}
 use Rattle.hard.specs.PlacingsLaws.{sole-only}
@@ -67,16 +68,16 @@ module _ (L M edges : ℕ) (confidence limit : Float) (ts : ℕ → ℕ) (tab : 
 
   -- ---- the same, statement by statement
   -- (a) nothing is chosen exactly when no placing is within the limit
-  pub refuses-11 : (choice L M edges confidence limit ts tab n ≡ Nothing → NoneWithin n none edges limit hit) × (NoneWithin n none edges limit hit → choice L M edges confidence limit ts tab n ≡ Nothing)
-  refuses-11 = (known Nothing, λ h. go h chose (known chose refl))
+  pub refuses-none-within : (choice L M edges confidence limit ts tab n ≡ Nothing → NoneWithin n none edges limit hit) × (NoneWithin n none edges limit hit → choice L M edges confidence limit ts tab n ≡ Nothing)
+  refuses-none-within = (known Nothing, λ h. go h chose (known chose refl))
     where
       go : NoneWithin n none edges limit hit → (x : Choice) → Known x → x ≡ Nothing
       go h Nothing t = refl
       go h (Chosen c r) t = let W = t .0 in clash (h (c .placing .listed) (key c) (W .in-list) (W .inside)) (rw (W .at) (W .allowed))
 
   -- (b) a placing is chosen and the gate refuses it exactly when some placing is within the limit but none is ahead of every other
-  pub refuses-13 : (Stopped L M edges confidence limit ts tab n → Unclear L M edges confidence limit ts tab n) × (Unclear L M edges confidence limit ts tab n → Stopped L M edges confidence limit ts tab n)
-  refuses-13 = (λ s. let k = known (Chosen (s .0) (s .1)) (s .2) in judged (s .0) (s .1) (k .0) (k .1) false (s .3), λ u. go u chose refl)
+  pub refuses-not-ahead : (Stopped L M edges confidence limit ts tab n → Unclear L M edges confidence limit ts tab n) × (Unclear L M edges confidence limit ts tab n → Stopped L M edges confidence limit ts tab n)
+  refuses-not-ahead = (λ s. let k = known (Chosen (s .0) (s .1)) (s .2) in judged (s .0) (s .1) (k .0) (k .1) false (s .3), λ u. go u chose refl)
     where
       go : Unclear L M edges confidence limit ts tab n → (x : Choice) → chose ≡ x → Stopped L M edges confidence limit ts tab n
       go u Nothing e = let w = u .0 in clash (known Nothing e (w .0) (w .1) (w .2) (w .3)) (w .4)
@@ -122,12 +123,23 @@ module _ (L M edges : ℕ) (confidence limit : Float) (ts : ℕ → ℕ) (tab : 
   pub choice-in-range : (c : Candidate) (r : RunnerUp) → choice L M edges confidence limit ts tab n ≡ Chosen c r → InRange L M edges confidence limit ts tab n c r
   choice-in-range c r e = let w = known (Chosen c r) e in rw (w .1) (in-range L M edges confidence limit ts tab n p q few ok (c .placing .listed) c (w .0))
 
+  -- what is chosen has the hits that it says, and no placing within the limit has more
+  pub choice-most : (c : Candidate) (r : RunnerUp) → choice L M edges confidence limit ts tab n ≡ Chosen c r
+      → (hit (c .placing .listed) (keyAt M (c .placing .row) (c .placing .col)) ≡ c .hits) × ((i k : ℕ) → i < n → k < none → overLimit edges limit (hit i k) ≡ false → hit i k ≤ c .hits)
+  choice-most c r e =
+      let W = known (Chosen c r) e .0 in (
+        W .at,
+        λ i k hi hk h.
+            let m = summed L M p q edges (tab i) (ok i hi) .most k in
+            le-trans m (W .most i hi (more-within edges limit (hit i k) (bestAt tab i) (ok i hi .few) m (best-under L M p q edges (tab i) (ok i hi)) h)),
+      )
+
   -- ---- refusal 11 in document 01's words: "no listed transform's best hits are within the limit"
-  pub refuses-11-best : (choice L M edges confidence limit ts tab n ≡ Nothing → (i : ℕ) → i < n → overLimit edges limit (bestAt tab i) ≡ true)
+  pub none-within-best : (choice L M edges confidence limit ts tab n ≡ Nothing → (i : ℕ) → i < n → overLimit edges limit (bestAt tab i) ≡ true)
       × (((i : ℕ) → i < n → overLimit edges limit (bestAt tab i) ≡ true) → choice L M edges confidence limit ts tab n ≡ Nothing)
-  refuses-11-best = (over, λ h. refuses-11 .1 (λ i k hi hk. fewer-over edges limit (hit i k) (bestAt tab i) (ok i hi .few) (summed L M p q edges (tab i) (ok i hi) .most k) (best-under L M p q edges (tab i) (ok i hi)) (h i hi)))
+  none-within-best = (over, λ h. refuses-none-within .1 (λ i k hi hk. fewer-over edges limit (hit i k) (bestAt tab i) (ok i hi .few) (summed L M p q edges (tab i) (ok i hi) .most k) (best-under L M p q edges (tab i) (ok i hi)) (h i hi)))
     where
       over : choice L M edges confidence limit ts tab n ≡ Nothing → (i : ℕ) → i < n → overLimit edges limit (bestAt tab i) ≡ true
       over e i hi =
           let s = summed L M p q edges (tab i) (ok i hi) in
-          ap (overLimit edges limit) (sym (s .at)) ∙ refuses-11 .0 e i (bestOrigin (origins L M) (tab i)) hi (s .inside)
+          ap (overLimit edges limit) (sym (s .at)) ∙ refuses-none-within .0 e i (bestOrigin (origins L M) (tab i)) hi (s .inside)

@@ -3,6 +3,7 @@ use mathlib.Core.Path.{_≡_, refl, sym, ap, subst, _∙_}
 use mathlib.Core.Bool.{Bool, true, false, cond}
 use mathlib.Core.List.{List}
 use Prim.Native.Nat.{ℕ, _*_, _/_, _%_, _≤_, _<_}
+use native.Mathlib.Nat.{le-trans, le-of-eq}
 use native.Mathlib.Omega.{arith}
 use lib.ListN.{getD, length}
 use lib.Ieee.{Float}
@@ -13,11 +14,11 @@ use Rattle.board.specs.Domain.{ListOk, BoardOk}
 use Rattle.tables.specs.TablesTheorems.{key-hits}
 use Rattle.best.specs.CellTables.{CellTables, TablesOk}
 use Rattle.figures.specs.Gate.{passed}
-use Rattle.scan.specs.Scan.{chosen}
+use Rattle.scan.specs.Scan.{overLimit, chosen}
 use Rattle.hard.specs.Placings.{not-far-ahead, found, Right, Sole, MostOther}
 use Rattle.hard.specs.PlacingsLaws.{right-ext, sole-only}
 use Rattle.hard.specs.OneList.{hitsOf, keyAt, originNumber, outcomeOf, InRange}
-use Rattle.hard.specs.OneListLaws.{one-list, choice-in-range, reported}
+use Rattle.hard.specs.OneListLaws.{one-list, choice-in-range, choice-most, reported}
 use Rattle.scan.specs.declared.scan.Candidate.{Candidate}
 use Rattle.scan.specs.declared.scan.RunnerUp.{RunnerUp}
 use Rattle.scan.specs.declared.scan.Choice.{Choice}
@@ -98,6 +99,16 @@ module _ (B : Board) (E : EdgeList) (ts : List ℕ) (limit : Float) where
     unfolding scanOf
     selected-in-range w r e =
         choice-in-range L M (size E) (totalConfidence E) limit (λ p. getD ts p 0) tab (length ts) (period-h B board) (period-v B board) few all-ok w r (selected-chosen w r e .1)
+
+    -- a winner has the hits that it says, and no placing within the limit has more
+    pub selected-most : (w : Candidate) (r : RunnerUp) → selection B E ts limit ≡ Selected w r
+        → (hitsAtKey B E ts (w .placing .listed) (keyAt M (w .placing .row) (w .placing .col)) ≡ w .hits) × ((p k : ℕ) → p < length ts → k < originNumber L M → overLimit (size E) limit (hitsAtKey B E ts p k) ≡ false → hitsAtKey B E ts p k ≤ w .hits)
+    unfolding scanOf
+    selected-most w r e =
+        let m = choice-most L M (size E) (totalConfidence E) limit (λ p. getD ts p 0) tab (length ts) (period-h B board) (period-v B board) few all-ok w r (selected-chosen w r e .1) in (
+          sym (counted (w .placing .listed) (keyAt M (w .placing .row) (w .placing .col))) ∙ m .0,
+          λ p k hp hk h. le-trans (le-of-eq (sym (counted p k))) (m .1 p k hp hk (ap (overLimit (size E) limit) (counted p k) ∙ h)),
+        )
 
     abbrev none : ℕ
     none = originNumber L M

@@ -25,7 +25,7 @@ use Rattle.puzzleboard.specs.Demand.{OnBoard, Same, missesAt, Leads, Run
 
 -- ---- one list has one leading placing
 -- two placings are the same one, or not
-same-or-not : (P Q : Placing) → Same P Q ⊎ (Same P Q → ⊥)
+pub same-or-not : (P Q : Placing) → Same P Q ⊎ (Same P Q → ⊥)
 same-or-not P Q = go (eqb (P .listed) (Q .listed)) (eqb (P .row) (Q .row)) (eqb (P .col) (Q .col)) refl refl refl
   where
     go : (x y z : Bool) → eqb (P .listed) (Q .listed) ≡ x → eqb (P .row) (Q .row) ≡ y → eqb (P .col) (Q .col) ≡ z → Same P Q ⊎ (Same P Q → ⊥)

@@ -26,8 +26,9 @@ use Rattle.answer.specs.declared.Decoded.{Decoded}
 use Rattle.answer.specs.declared.Answer.{Answer}
 use Rattle.answer.specs.declared.Answer.the-variants.{Found, Refused}
 use Rattle.verdict.specs.Verdict.{refusedBy, agreed, decodedOf, judged, pick}
-use Rattle.puzzleboard.specs.Demand.{OnBoard}
-use Rattle.puzzleboard.specs.OneSelection.{NoneWithinLimit, SomeWithinLimit, NoneLeads, Winner, Ended, ended, refused-none, none-refused, refused-within, within-refused, some-winner, winner-some}
+use Rattle.puzzleboard.specs.Demand.{OnBoard, Same}
+use Rattle.puzzleboard.specs.DemandLaws.{same-or-not}
+use Rattle.puzzleboard.specs.OneSelection.{NoneWithinLimit, SomeWithinLimit, NoneLeads, Winner, Ended, ended, refused-none, none-refused, refused-within, within-refused, some-winner, winner-some, winner-most}
 use Rattle.puzzleboard.specs.Winners.{winner-leads}
 use Rattle.puzzleboard.specs.Hard.{afterPhysical, afterLogical, hardCore}
 
@@ -223,3 +224,21 @@ module _ (call : HardCall) (m n : ℕ) (A : HardAccepted call m n) where
       not-passed d =
           not-so (passed (size (call .logical)) (d .logical .winner .hits) (d .logical .runner-up .hits))
           (λ g. d .none-lead (d .logical .winner .placing) (winner-leads (call .board) (call .logical) (call .transforms) (call .error-limit) (A .board) (A .logical) L-few (d .logical .winner) (d .logical .runner-up) (d .logical .selected) g))
+
+  -- ---- the physical winner without tables
+  module _ (W : PhysicalWinner) where
+    -- no placing of the physical list has more hits than its winner, edge by edge
+    pub physical-most : (Q : Placing) → OnBoard (call .board) (call .transforms) Q
+        → hitsAt (call .board) (call .physical) (call .transforms) Q ≤ hitsAt (call .board) (call .physical) (call .transforms) (W .winner .placing)
+    physical-most Q o =
+        let m = winner-most (call .board) (call .physical) (call .transforms) oneF (A .board) (A .physical) L-few W in
+        let h = m .2 Q o (never-over-one (size (call .physical)) (hitsAt (call .board) (call .physical) (call .transforms) Q) (A .some-physical) (A .physical .few)) in
+        omega (arith, m .1)
+
+    -- a placing with more hits than every other is the winner, whatever the weights
+    pub physical-clear : (Q : Placing) → OnBoard (call .board) (call .transforms) Q
+        → ((R : Placing) → OnBoard (call .board) (call .transforms) R → (Same R Q → ⊥) → hitsAt (call .board) (call .physical) (call .transforms) R < hitsAt (call .board) (call .physical) (call .transforms) Q)
+        → Same (W .winner .placing) Q
+    physical-clear Q o h =
+        let m = winner-most (call .board) (call .physical) (call .transforms) oneF (A .board) (A .physical) L-few W in
+        ⊎-elim (λ s. s) (λ d. absurd (omega (arith, h (W .winner .placing) (m .0) d, physical-most Q o))) (same-or-not (W .winner .placing) Q)

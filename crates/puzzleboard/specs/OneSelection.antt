@@ -4,6 +4,7 @@ use mathlib.Core.Bool.{Bool, true, false, cond}
 use mathlib.Core.List.{List}
 use mathlib.Core.Logic.{_⊎_, inl, inr}
 use Prim.Native.Nat.{ℕ, _≤_, _<_}
+use native.Mathlib.Nat.{le-trans, le-of-eq}
 use native.Mathlib.Omega.{arith}
 use lib.ListN.{getD, length}
 use lib.Ieee.{Float}
@@ -27,8 +28,9 @@ use Rattle.hard.specs.declared.select.Selection.the-variants.{Refused, Selected
 use Rattle.hard.specs.Placings.{found, not-far-ahead, NoneWithin, SomeWithin, Right}
 use Rattle.hard.specs.OneList.{keyAt, originNumber, outcomeOf}
 use Rattle.hard.specs.Select.{ofChoice, orRefused, scanOf, selection}
-use Rattle.hard.specs.SelectTheorems.{hitsAtKey, selection-is, one-list-by-hits}
+use Rattle.hard.specs.SelectTheorems.{hitsAtKey, selection-is, selected-most, one-list-by-hits}
 use Rattle.puzzleboard.specs.Demand.{OnBoard, Leads}
+use Rattle.puzzleboard.specs.Winners.{winner-on}
 use Rattle.puzzleboard.specs.DemandLaws.{keyOf, placing, placing-on, key-below, key-back, hits-key, leads-sole}
 
 -- ---- in words of placings
@@ -131,3 +133,16 @@ module _ (B : Board) (E : EdgeList) (ts : List ℕ) (limit : Float) where
 
     pub winner-some : (W : Winner) → (noConfidence E ≡ false) × SomeWithinLimit × ((passed (size E) (W .winner .hits) (W .runner-up .hits) ≡ true) ⊎ NoneLeads)
     winner-some W = subst Ended (W .selected) ended
+
+    -- the winner is on the board and has the hits that it says, edge by edge, and no placing within the limit has more
+    pub winner-most : (W : Winner) → OnBoard B ts (W .winner .placing) × (hitsAt B E ts (W .winner .placing) ≡ W .winner .hits)
+        × ((Q : Placing) → OnBoard B ts Q → overLimit (size E) limit (hitsAt B E ts Q) ≡ false → hitsAt B E ts Q ≤ W .winner .hits)
+    winner-most W =
+        let o = winner-on B E ts limit board list few (W .winner) (W .runner-up) (W .selected) in
+        let m = selected-most B E ts limit board list few (W .winner) (W .runner-up) (W .selected) in (
+          o,
+          sym (hits-key B board ts E limit (W .winner .placing) o) ∙ m .0,
+          λ Q u h.
+              let e = hits-key B board ts E limit Q u in
+              le-trans (le-of-eq (sym e)) (m .1 (Q .listed) (keyOf B board Q) (u .in-list) (key-below B board ts Q u) (ap (overLimit (size E) limit) e ∙ h)),
+        )

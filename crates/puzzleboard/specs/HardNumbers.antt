@@ -33,10 +33,10 @@ use Rattle.puzzleboard.specs.Winners.{winner-leads}
 use Rattle.puzzleboard.specs.Hard.{afterPhysical, afterLogical, hardCore}
 
 -- two numbers that differ are two refusals
-apart : (m n : ℕ) → (m ≡ n → ⊥) → {A : Type 0} → refusedBy m ≡ refusedBy n → A
+pub apart : (m n : ℕ) → (m ≡ n → ⊥) → {A : Type 0} → refusedBy m ≡ refusedBy n → A
 apart m n d e = let z : numbered m ≡ numbered n = cc in absurd (d (ap (λ (x : Refusal). x .number) z))
 
-found-not : (d : Decoded) (n : ℕ) → {A : Type 0} → Found d ≡ refusedBy n → A
+pub found-not : (d : Decoded) (n : ℕ) → {A : Type 0} → Found d ≡ refusedBy n → A
 found-not d n e = let z : _≡_ {A = ℕ} 0 1 = cc in absurd (omega arith)
 
 module _ (call : HardCall) (m n : ℕ) (A : HardAccepted call m n) where

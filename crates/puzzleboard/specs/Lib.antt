@@ -8,5 +8,6 @@ pub mod OneSelection
 pub mod Soft
 pub mod SoftDemand
 pub mod SoftLaws
+pub mod SoftNumbers
 pub mod SoftTheorems
 pub mod Winners

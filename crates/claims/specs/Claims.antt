@@ -1,15 +1,16 @@
 -- What Samburext promises, in one place. Each claim speaks of what a call gave: `HardDone ..`, `SoftDone ..` and `r ≡ statsAnswer ..` are the contracts of
 -- `decode_hard`, `decode_soft` and `match_stats`, which have no `requires`, so the claims hold for all inputs and every pair of pattern tables.
 -- Quotes are of the demands (docs/CONTRACTS.md).
-use mathlib.Core.Path.{_≡_, refl, sym, ap, subst, _∙_}
-use mathlib.Core.Bool.{Bool, false}
+use mathlib.Core.Path.{_≡_, refl, sym, ap, ap₂, subst, _∙_}
+use mathlib.Core.Bool.{Bool, true, false, not, cond, _||_}
 use mathlib.Core.List.{List}
 use Prim.Native.Nat.{ℕ, _≤_, _<_}
 use native.Mathlib.Omega.{arith}
+use lib.Dec.{ltb}
 use lib.ListN.{getD, length}
 use lib.IntN.{ℤ, pos}
 use lib.Ieee.{Float, nan}
-use Rattle.laws.specs.Weights.{zeroF}
+use Rattle.laws.specs.Weights.{zeroF, oneF}
 use Rattle.laws.specs.Cleared.{cleared-written}
 use Rattle.board.specs.declared.edge.Placing.{Placing}
 use Rattle.board.specs.Hits.{EdgeList, Board, size, hits}
@@ -17,9 +18,14 @@ use Rattle.sums.specs.Sums.{Likelihoods}
 use Rattle.refusals.specs.declared.Refusal.{Refusal}
 use Rattle.refusals.specs.declared.Admission.{Admission}
 use Rattle.refusals.specs.declared.Admission.the-variants as admission
+use Rattle.refusals.specs.Numbers.{numbered}
+use Rattle.refusals.specs.Numbers as why
 use Rattle.room.specs.Room.{tablesRoom, sumsRoom, flatTables, flatSums, flat-room}
 use Rattle.admission.specs.Calls.{HardCall, SoftCall}
-use Rattle.admission.specs.Refusals.{hardAdmission, softAdmission, statsAdmission}
+use Rattle.checks.specs.Checks.{inRange, lengthsDiffer, sizeBad, confidenceBad, transformsBad, originBad}
+use Rattle.admission.specs.Refusals.{fieldsBad, tablesBad, roomShort, softRoomShort, softLengthsDiffer, softLikelihoodBad, softSettingsBad, hardAdmission, softAdmission, statsAdmission}
+use Rattle.admission.specs.Domain.{HardDomain, SoftDomain, StatsDomain}
+use Rattle.admission.specs.DomainLaws.{hard-domain, soft-domain, stats-domain}
 use Rattle.admission.specs.Accepted.{HardAccepted, hard-accepted, SoftAccepted, soft-accepted}
 use Rattle.figures.specs.Figures.{noConfidence}
 use Rattle.margin.specs.Margin.{belowMargin}
@@ -35,6 +41,9 @@ use Rattle.puzzleboard.specs.Soft.{softCore, softAnswer, SoftDone}
 use Rattle.stats.specs.Stats.{statsAnswer, statsOf, orCounted}
 use Rattle.puzzleboard.specs.Demand.{Leads, Names, AgreesPhysical}
 use Rattle.puzzleboard.specs.DemandLaws.{leader-named}
+use Rattle.puzzleboard.specs.FoundRange.{AnswerInRange, hard-in-range, soft-in-range}
+use Rattle.puzzleboard.specs.HardNumbers.{hard-late}
+use Rattle.puzzleboard.specs.SoftNumbers.{soft-late}
 use Rattle.puzzleboard.specs.SoftDemand.{marginOf, BestByLikelihood, SoftAnswered}
 use Rattle.puzzleboard.specs.HardTheorems.{Answered, hard-sound, hard-complete}
 use Rattle.puzzleboard.specs.SoftTheorems.{soft-sound, soft-complete}
@@ -46,6 +55,7 @@ refusal-is-number a b e = λ i. record { number = e i }
 
 -- a room slice of which n places are used: zero there, and beyond as it was
 pub record Emptied {A : Type 0} (d zero : A) (n : ℕ) (old new : List A) : Type 0 where
+  pub room : n ≤ length old
   pub len : length new ≡ length old
   pub used : (k : ℕ) → k < n → getD new k d ≡ zero
   pub surplus : (k : ℕ) → n ≤ k → getD new k d ≡ getD old k d
@@ -59,11 +69,58 @@ module _ {A : Type 0} (d zero : A) (n : ℕ) (a : Admission) (old : List A) wher
   -- "after every other call the used room is zero"
   left-emptied : a ≡ admission.Accepted → n ≤ length old → Emptied d zero n old (left zero n a old)
   unfolding left
-  left-emptied h room = rw h (let w = cleared-written d zero n old room in record { len = w .len; used = w .front; surplus = w .back })
+  left-emptied h room = rw h (let w = cleared-written d zero n old room in record { room = room; len = w .len; used = w .front; surplus = w .back })
 
 -- the same of what a call left, where n is m
 pub left-zero : {A : Type 0} (d zero : A) (n m : ℕ) (a : Admission) (old new : List A) → n ≡ m → a ≡ admission.Accepted → n ≤ length old → new ≡ left zero n a old → Emptied d zero m old new
 left-zero d zero n m a old new u h room e = rw (e, ← u) (left-emptied d zero n a old h room)
+
+-- a refusal before any work is done has one of the numbers 1 to 9
+abbrev pub Early : Admission → Type 0
+Early a = (r : Refusal) → a ≡ admission.Refused r → (1 ≤ r .number) × (r .number ≤ 9)
+
+early-none : Early admission.Accepted
+early-none r e = let z : _≡_ {A = ℕ} 0 1 = cc in absurd (omega arith)
+
+early-if : (b : Bool) (k : ℕ) (x : Admission) → 1 ≤ k → k ≤ 9 → Early x → Early (cond b (admission.Refused (numbered k)) x)
+early-if true k x h l e r q = let z : numbered k ≡ r = cc in let y : k ≡ r .number = ap (λ (w : Refusal). w .number) z in (omega arith, omega arith)
+early-if false k x h l e r q = e r q
+
+pub hard-early : (call : HardCall) (m n : ℕ) → Early (hardAdmission call m n)
+unfolding hardAdmission
+hard-early call m n =
+    early-if (roomShort m n) why.roomTooShort _ (omega arith) (omega arith)
+    (early-if (lengthsDiffer (call .logical) || lengthsDiffer (call .physical)) why.lengthsDiffer _ (omega arith) (omega arith)
+    (early-if (sizeBad 1 (size (call .logical)) || sizeBad 1 (size (call .physical))) why.listSize _ (omega arith) (omega arith)
+    (early-if (fieldsBad (call .logical) || fieldsBad (call .physical)) why.edgeOutOfRange _ (omega arith) (omega arith)
+    (early-if (confidenceBad (call .logical .confidences) || confidenceBad (call .physical .confidences)) why.badConfidence _ (omega arith) (omega arith)
+    (early-if (transformsBad (call .transforms)) why.badTransform _ (omega arith) (omega arith)
+    (early-if (tablesBad (call .board)) why.badTable _ (omega arith) (omega arith)
+    (early-if (not (inRange oneF (call .error-limit))) why.badSetting _ (omega arith) (omega arith) early-none)))))))
+
+pub soft-early : (call : SoftCall) (m n k : ℕ) → Early (softAdmission call m n k)
+unfolding softAdmission
+soft-early call m n k =
+    early-if (softRoomShort m n k) why.roomTooShort _ (omega arith) (omega arith)
+    (early-if ((lengthsDiffer (call .hard .logical) || lengthsDiffer (call .hard .physical)) || softLengthsDiffer call) why.lengthsDiffer _ (omega arith) (omega arith)
+    (early-if (sizeBad 1 (size (call .hard .logical)) || sizeBad 1 (size (call .hard .physical))) why.listSize _ (omega arith) (omega arith)
+    (early-if (fieldsBad (call .hard .logical) || fieldsBad (call .hard .physical)) why.edgeOutOfRange _ (omega arith) (omega arith)
+    (early-if (confidenceBad (call .hard .logical .confidences) || confidenceBad (call .hard .physical .confidences)) why.badConfidence _ (omega arith) (omega arith)
+    (early-if (softLikelihoodBad call) why.badLikelihood _ (omega arith) (omega arith)
+    (early-if (transformsBad (call .hard .transforms)) why.badTransform _ (omega arith) (omega arith)
+    (early-if (tablesBad (call .hard .board)) why.badTable _ (omega arith) (omega arith)
+    (early-if (softSettingsBad call) why.badSetting _ (omega arith) (omega arith) early-none))))))))
+
+pub stats-early : (E : EdgeList) (t row col : ℕ) (B : Board) → Early (statsAdmission E t row col B)
+unfolding statsAdmission
+stats-early E t row col B =
+    early-if (lengthsDiffer E) why.lengthsDiffer _ (omega arith) (omega arith)
+    (early-if (sizeBad 0 (size E)) why.listSize _ (omega arith) (omega arith)
+    (early-if (fieldsBad E) why.edgeOutOfRange _ (omega arith) (omega arith)
+    (early-if (confidenceBad (E .confidences)) why.badConfidence _ (omega arith) (omega arith)
+    (early-if (ltb 7 t) why.badTransform _ (omega arith) (omega arith)
+    (early-if (tablesBad B) why.badTable _ (omega arith) (omega arith)
+    (early-if (originBad row col) why.badSetting _ (omega arith) (omega arith) early-none))))))
 
 found-only : (a : Admission) (x : Answer) (d : Decoded) → Found d ≡ whenAccepted a x → (a ≡ admission.Accepted) × (x ≡ Found d)
 found-only admission.Accepted x d e = (refl, sym e)
@@ -96,6 +153,26 @@ module _ (call : HardCall) (c c' : List ℕ) (w w' : List Float) (r : Answer) (d
   -- DEMAND 2: the answer is document 01's
   pub hard-by-the-rules : r ≡ hardAnswer call (length c) (length w)
   hard-by-the-rules = done .answer
+
+  -- which calls are accepted, from both sides: those in the domain (HardDomain, crates/admission/specs/Domain.antt)
+  pub hard-accepts : (hardChecked ≡ admission.Accepted → HardDomain call (length c) (length w)) × (HardDomain call (length c) (length w) → hardChecked ≡ admission.Accepted)
+  hard-accepts = hard-domain call (length c) (length w)
+
+  -- refused late means 10 to 13 (`hard-10` to `hard-13` of HardNumbers.antt say exactly when), and the used room is zero (`hard-room-zero`)
+  pub hard-refused-late : hardChecked ≡ admission.Accepted → (x : Refusal) → r ≡ Refused x → (10 ≤ x .number) × (x .number ≤ 13)
+  unfolding hardAnswer
+  hard-refused-late h x e = hard-late call (length c) (length w) (accepted h) x (sym (ap (λ (y : Admission). whenAccepted y (hardCore call)) h) ∙ sym (done .answer) ∙ e)
+
+  -- "What the room held before has no influence."
+  pub hard-no-influence : (d d' : List ℕ) (x x' : List Float) (s : Answer) → HardDone call d d' x x' s → length d ≡ length c → length x ≡ length w → s ≡ r
+  hard-no-influence d d' x x' s other p q = other .answer ∙ ap₂ (hardAnswer call) p q ∙ sym (done .answer)
+
+  -- the whole numbers of a found answer are in range
+  pub hard-answer-in-range : (d : Decoded) → r ≡ Found d → AnswerInRange d
+  unfolding hardAnswer
+  hard-answer-in-range d e =
+      let f = found-only hardChecked (hardCore call) d (sym e ∙ done .answer) in
+      hard-in-range call (length c) (length w) (accepted (f .0)) d (f .1)
 
   -- DEMAND 3, found means true: some placing of the logical list leads and agrees, and the answer tells it
   pub hard-found : (d : Decoded) → r ≡ Found d → (h : hardChecked ≡ admission.Accepted) × Answered call (length c) (length w) (hard-accepted call (length c) (length w) h) d
@@ -145,6 +222,22 @@ module _ (call : SoftCall) (c c' : List ℕ) (w w' : List Float) (a a' : List �
   pub soft-by-the-rules : r ≡ softAnswer call (length c) (length w) (length a)
   soft-by-the-rules = done .answer
 
+  -- which calls are accepted, from both sides: those in the domain (SoftDomain, crates/admission/specs/Domain.antt)
+  pub soft-accepts : (softChecked ≡ admission.Accepted → SoftDomain call (length c) (length w) (length a)) × (SoftDomain call (length c) (length w) (length a) → softChecked ≡ admission.Accepted)
+  soft-accepts = soft-domain call (length c) (length w) (length a)
+
+  -- refused late means 10, 11, 13, 14 or 15 (`soft-10` to `soft-15` of SoftNumbers.antt say exactly when), and the used room is zero (`soft-room-zero`)
+  pub soft-refused-late : softChecked ≡ admission.Accepted → (x : Refusal) → r ≡ Refused x → (10 ≤ x .number) × (x .number ≤ 15) × (x .number ≡ why.listsDisagree → ⊥)
+  unfolding softAnswer
+  soft-refused-late h x e = soft-late call (length c) (length w) (length a) (taken h) x (sym (ap (λ (y : Admission). whenAccepted y (softCore call)) h) ∙ sym (done .answer) ∙ e)
+
+  -- the whole numbers of a found answer are in range
+  pub soft-answer-in-range : (d : Decoded) → r ≡ Found d → AnswerInRange d
+  unfolding softAnswer
+  soft-answer-in-range d e =
+      let f = found-only softChecked (softCore call) d (sym e ∙ done .answer) in
+      soft-in-range call (length c) (length w) (length a) (taken (f .0)) d (f .1)
+
   -- DEMAND 3, found means true: its own best placing clears the margin and leads on the logical list
   pub soft-found : (d : Decoded) → r ≡ Found d → SoftAnswered call d
   unfolding softAnswer
@@ -167,6 +260,10 @@ module _ (E : EdgeList) (t row col : ℕ) (B : Board) (r : StatsAnswer) (done : 
   abbrev statsChecked : Admission
   statsChecked = statsAdmission E t row col B
 
+  -- which calls are accepted, from both sides: those in the domain
+  pub stats-accepts : (statsChecked ≡ admission.Accepted → StatsDomain E t row col B) × (StatsDomain E t row col B → statsChecked ≡ admission.Accepted)
+  stats-accepts = stats-domain E t row col B
+
   -- DEMAND 1, refusals: the number of document 01
   pub stats-refused : (x : Refusal) → statsChecked ≡ admission.Refused x → r ≡ stats.Refused x
   unfolding statsAnswer
@@ -177,7 +274,7 @@ module _ (E : EdgeList) (t row col : ℕ) (B : Board) (r : StatsAnswer) (done : 
   unfolding statsAnswer
   stats-by-the-rules h = done ∙ ap (λ (y : Admission). orCounted y (statsOf E t row col B)) h
 
-  -- DEMAND 3, counted means: the hits are board's, edge by edge, of all the edges
+  -- DEMAND 2, counted means: the hits are board's, edge by edge, of all the edges
   pub stats-hits : (s : MatchStats) → r ≡ stats.Counted s → (s .hits ≡ hits B E t row col) × (s .edges ≡ size E)
   unfolding statsAnswer statsOf
   stats-hits s k = go statsChecked (sym k ∙ done)

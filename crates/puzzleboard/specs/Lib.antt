@@ -1,5 +1,6 @@
 pub mod Demand
 pub mod DemandLaws
+pub mod FoundRange
 pub mod Hard
 pub mod HardLaws
 pub mod HardNumbers

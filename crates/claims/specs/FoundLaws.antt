@@ -15,9 +15,8 @@ use Rattle.refusals.specs.declared.Admission.{Admission}
 use Rattle.refusals.specs.declared.Admission.the-variants as admission
 use Rattle.refusals.specs.Numbers.{numbered}
 use Rattle.refusals.specs.Numbers as why
-use Rattle.checks.specs.Checks.{inRange, lengthsDiffer, sizeBad, confidenceBad, transformsBad, originBad}
 use Rattle.admission.specs.Calls.{HardCall, SoftCall}
-use Rattle.admission.specs.Refusals.{fieldsBad, tablesBad, roomShort, softRoomShort, softLengthsDiffer, softLikelihoodBad, softSettingsBad, hardAdmission, softAdmission, statsAdmission}
+use Rattle.admission.specs.Refusals.{hardAdmission, softAdmission, statsAdmission}
 use Rattle.scan.specs.declared.scan.Choice.{Choice}
 use Rattle.scan.specs.declared.scan.Choice.the-variants as choice
 use Rattle.scan.specs.declared.scan.Candidate.{Candidate}
@@ -44,6 +43,7 @@ use Rattle.verdict.specs.Verdict.{softDecodedOf, softVerdict, bestOf}
 use Rattle.puzzleboard.specs.Soft.{fitOf, softJudged, afterHard, afterSoft, softCore, softAnswer}
 use Rattle.flat.specs.declared.flat.FlatAnswer.{FlatAnswer}
 use Rattle.flat.specs.Flat.{notRefused, flat, flatStats}
+use Rattle.claims.specs.Claims.{hard-early, soft-early, stats-early}
 use Rattle.export_hard.specs.Exports.{HardFlat}
 use Rattle.export_soft.specs.Exports.{SoftFlat}
 
@@ -75,43 +75,13 @@ not-accepted r h = let z : _≡_ {A = ℕ} 0 1 = cc in omega arith
 
 -- the checks refuse by such numbers alone
 hard-numbered : (call : HardCall) (m n : ℕ) → Numbered (hardAdmission call m n)
-unfolding hardAdmission
-hard-numbered call m n r h z =
-    let n1 = later (roomShort m n) why.roomTooShort _ r (λ q. omega arith) z h in
-    let n2 = later (lengthsDiffer (call .logical) || lengthsDiffer (call .physical)) why.lengthsDiffer _ r (λ q. omega arith) z n1 in
-    let n3 = later (sizeBad 1 (size (call .logical)) || sizeBad 1 (size (call .physical))) why.listSize _ r (λ q. omega arith) z n2 in
-    let n4 = later (fieldsBad (call .logical) || fieldsBad (call .physical)) why.edgeOutOfRange _ r (λ q. omega arith) z n3 in
-    let n5 = later (confidenceBad (call .logical .confidences) || confidenceBad (call .physical .confidences)) why.badConfidence _ r (λ q. omega arith) z n4 in
-    let n6 = later (transformsBad (call .transforms)) why.badTransform _ r (λ q. omega arith) z n5 in
-    let n7 = later (tablesBad (call .board)) why.badTable _ r (λ q. omega arith) z n6 in
-    let n8 = later (not (inRange oneF (call .error-limit))) why.badSetting _ r (λ q. omega arith) z n7 in
-    not-accepted r n8
+hard-numbered call m n r h z = omega (arith, hard-early call m n r h .0)
 
 soft-numbered : (call : SoftCall) (m n k : ℕ) → Numbered (softAdmission call m n k)
-unfolding softAdmission
-soft-numbered call m n k r h z =
-    let n1 = later (softRoomShort m n k) why.roomTooShort _ r (λ q. omega arith) z h in
-    let n2 = later ((lengthsDiffer (call .hard .logical) || lengthsDiffer (call .hard .physical)) || softLengthsDiffer call) why.lengthsDiffer _ r (λ q. omega arith) z n1 in
-    let n3 = later (sizeBad 1 (size (call .hard .logical)) || sizeBad 1 (size (call .hard .physical))) why.listSize _ r (λ q. omega arith) z n2 in
-    let n4 = later (fieldsBad (call .hard .logical) || fieldsBad (call .hard .physical)) why.edgeOutOfRange _ r (λ q. omega arith) z n3 in
-    let n5 = later (confidenceBad (call .hard .logical .confidences) || confidenceBad (call .hard .physical .confidences)) why.badConfidence _ r (λ q. omega arith) z n4 in
-    let n6 = later (softLikelihoodBad call) why.badLikelihood _ r (λ q. omega arith) z n5 in
-    let n7 = later (transformsBad (call .hard .transforms)) why.badTransform _ r (λ q. omega arith) z n6 in
-    let n8 = later (tablesBad (call .hard .board)) why.badTable _ r (λ q. omega arith) z n7 in
-    let n9 = later (softSettingsBad call) why.badSetting _ r (λ q. omega arith) z n8 in
-    not-accepted r n9
+soft-numbered call m n k r h z = omega (arith, soft-early call m n k r h .0)
 
 stats-numbered : (E : EdgeList) (t row col : ℕ) (B : Board) → Numbered (statsAdmission E t row col B)
-unfolding statsAdmission
-stats-numbered E t row col B r h z =
-    let n1 = later (lengthsDiffer E) why.lengthsDiffer _ r (λ q. omega arith) z h in
-    let n2 = later (sizeBad 0 (size E)) why.listSize _ r (λ q. omega arith) z n1 in
-    let n3 = later (fieldsBad E) why.edgeOutOfRange _ r (λ q. omega arith) z n2 in
-    let n4 = later (confidenceBad (E .confidences)) why.badConfidence _ r (λ q. omega arith) z n3 in
-    let n5 = later (ltb 7 t) why.badTransform _ r (λ q. omega arith) z n4 in
-    let n6 = later (tablesBad B) why.badTable _ r (λ q. omega arith) z n5 in
-    let n7 = later (originBad row col) why.badSetting _ r (λ q. omega arith) z n6 in
-    not-accepted r n7
+stats-numbered E t row col B r h z = omega (arith, stats-early E t row col B r h .0)
 
 -- found where it is accepted, else refused by such a number
 tells-or : (a : Admission) (x : Answer) → Numbered a → Tells x → Tells (whenAccepted a x)

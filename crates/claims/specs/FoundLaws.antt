@@ -48,18 +48,18 @@ use Rattle.export_hard.specs.Exports.{HardFlat}
 use Rattle.export_soft.specs.Exports.{SoftFlat}
 
 -- an answer whose number is 0 is found
-abbrev Tells : Answer → Type 0
-Tells a = flat a .refusal ≡ notRefused → (d : Decoded) × (a ≡ Found d)
+abbrev ZeroFound : Answer → Type 0
+ZeroFound a = flat a .refusal ≡ notRefused → (d : Decoded) × (a ≡ Found d)
 
-tells-found : (d : Decoded) → Tells (Found d)
-tells-found d e = (d, refl)
+zero-found : (d : Decoded) → ZeroFound (Found d)
+zero-found d e = (d, refl)
 
-tells-refused : (r : Refusal) → (r .number ≡ notRefused → ⊥) → Tells (Refused r)
-tells-refused r h e = absurd (h e)
+zero-refused : (r : Refusal) → (r .number ≡ notRefused → ⊥) → ZeroFound (Refused r)
+zero-refused r h e = absurd (h e)
 
-tells-pick : (b : Bool) (x y : Answer) → Tells x → Tells y → Tells (pick b x y)
-tells-pick true x y p q = p
-tells-pick false x y p q = q
+zero-pick : (b : Bool) (x y : Answer) → ZeroFound x → ZeroFound y → ZeroFound (pick b x y)
+zero-pick true x y p q = p
+zero-pick false x y p q = q
 
 -- where it is refused, the number is not 0
 abbrev Numbered : Admission → Type 0
@@ -84,38 +84,38 @@ stats-numbered : (E : EdgeList) (t row col : ℕ) (B : Board) → Numbered (stat
 stats-numbered E t row col B r h z = omega (arith, stats-early E t row col B r h .0)
 
 -- found where it is accepted, else refused by such a number
-tells-or : (a : Admission) (x : Answer) → Numbered a → Tells x → Tells (whenAccepted a x)
-tells-or admission.Accepted x h p = p
-tells-or (admission.Refused r) x h p = tells-refused r (h r refl)
+zero-or : (a : Admission) (x : Answer) → Numbered a → ZeroFound x → ZeroFound (whenAccepted a x)
+zero-or admission.Accepted x h p = p
+zero-or (admission.Refused r) x h p = zero-refused r (h r refl)
 
 -- ---- hard decode
-tells-judged : (t : ℕ) (w : Candidate) (runner : RunnerUp) (s : ℕ) (p : Candidate) (edges : ℕ) → Tells (judged t w runner s p edges)
+zero-judged : (t : ℕ) (w : Candidate) (runner : RunnerUp) (s : ℕ) (p : Candidate) (edges : ℕ) → ZeroFound (judged t w runner s p edges)
 unfolding judged
-tells-judged t w runner s p edges =
-    tells-pick (agreed t w s p) _ _ (tells-pick (passed edges (w .hits) (runner .hits)) _ _ (tells-found _) (tells-refused _ (λ z. omega arith))) (tells-refused _ (λ z. omega arith))
+zero-judged t w runner s p edges =
+    zero-pick (agreed t w s p) _ _ (zero-pick (passed edges (w .hits) (runner .hits)) _ _ (zero-found _) (zero-refused _ (λ z. omega arith))) (zero-refused _ (λ z. omega arith))
 
 -- the selection on the physical list, after that on the logical one
-tells-physical : (L : EdgeList) (ts : List ℕ) (w : Candidate) (runner : RunnerUp) (b : Bool) (c : Choice) → Tells (afterPhysical L ts w runner (orRefused b c))
-tells-physical L ts w runner true c = tells-refused _ (λ z. omega arith)
-tells-physical L ts w runner false choice.Nothing = tells-refused _ (λ z. omega arith)
-tells-physical L ts w runner false (choice.Chosen p other) = tells-judged _ w runner _ p _
+zero-physical : (L : EdgeList) (ts : List ℕ) (w : Candidate) (runner : RunnerUp) (b : Bool) (c : Choice) → ZeroFound (afterPhysical L ts w runner (orRefused b c))
+zero-physical L ts w runner true c = zero-refused _ (λ z. omega arith)
+zero-physical L ts w runner false choice.Nothing = zero-refused _ (λ z. omega arith)
+zero-physical L ts w runner false (choice.Chosen p other) = zero-judged _ w runner _ p _
 
-tells-logical : (call : HardCall) (b : Bool) (c : Choice) → Tells (afterLogical call (orRefused b c))
+zero-logical : (call : HardCall) (b : Bool) (c : Choice) → ZeroFound (afterLogical call (orRefused b c))
 unfolding selection
-tells-logical call true c = tells-refused _ (λ z. omega arith)
-tells-logical call false choice.Nothing = tells-refused _ (λ z. omega arith)
-tells-logical call false (choice.Chosen w runner) = tells-physical (call .logical) (call .transforms) w runner (noConfidence (call .physical)) (chosen (scanOf (call .board) (call .physical) (call .transforms) oneF (length (call .transforms))))
+zero-logical call true c = zero-refused _ (λ z. omega arith)
+zero-logical call false choice.Nothing = zero-refused _ (λ z. omega arith)
+zero-logical call false (choice.Chosen w runner) = zero-physical (call .logical) (call .transforms) w runner (noConfidence (call .physical)) (chosen (scanOf (call .board) (call .physical) (call .transforms) oneF (length (call .transforms))))
 
-tells-hard : (call : HardCall) (m n : ℕ) → Tells (hardAnswer call m n)
+zero-hard : (call : HardCall) (m n : ℕ) → ZeroFound (hardAnswer call m n)
 unfolding hardAnswer hardCore selection
-tells-hard call m n =
-    tells-or (hardAdmission call m n) _ (hard-numbered call m n) (tells-logical call (noConfidence (call .logical)) (chosen (scanOf (call .board) (call .logical) (call .transforms) (call .error-limit) (length (call .transforms)))))
+zero-hard call m n =
+    zero-or (hardAdmission call m n) _ (hard-numbered call m n) (zero-logical call (noConfidence (call .logical)) (chosen (scanOf (call .board) (call .logical) (call .transforms) (call .error-limit) (length (call .transforms)))))
 
 -- HARD: the number is 0 only where the library found
 pub hard-zero-found : (call : HardCall) (c c' : List ℕ) (w w' : List Float) (r : FlatAnswer) → (h : HardFlat call c c' w w' r) → r .refusal ≡ notRefused
     → (d : Decoded) × (h .told ≡ Found d)
 hard-zero-found call c c' w w' r h e =
-    subst Tells (sym (h .done .answer)) (tells-hard call (length c) (length w)) (ap (λ (x : FlatAnswer). x .refusal) (sym (h .shown)) ∙ e)
+    subst ZeroFound (sym (h .done .answer)) (zero-hard call (length c) (length w)) (ap (λ (x : FlatAnswer). x .refusal) (sym (h .shown)) ∙ e)
 
 -- ---- soft decode
 verdict-numbered : (t : ℕ) (first : SoftCandidate) (s : ℕ) (w : Candidate) (runner : RunnerUp) (edges : ℕ) → Numbered (softVerdict t first s w runner edges)
@@ -127,32 +127,32 @@ verdict-numbered t first s w runner edges r h z = go (eqb t s && (eqb (first .pl
     go true false e = not-accepted r (later true why.notFarAhead _ r (λ q. omega arith) z e)
     go false b e = not-accepted r (later true why.softHardDisagree _ r (λ q. omega arith) z e)
 
-tells-hard-too : (call : HardCall) (best : SoftBest) (b : Bool) (c : Choice) → Tells (afterHard call best (orRefused b c))
+zero-hard-too : (call : HardCall) (best : SoftBest) (b : Bool) (c : Choice) → ZeroFound (afterHard call best (orRefused b c))
 unfolding softJudged
-tells-hard-too call best true c = tells-refused _ (λ z. omega arith)
-tells-hard-too call best false choice.Nothing = tells-refused _ (λ z. omega arith)
-tells-hard-too call best false (choice.Chosen w runner) =
+zero-hard-too call best true c = zero-refused _ (λ z. omega arith)
+zero-hard-too call best false choice.Nothing = zero-refused _ (λ z. omega arith)
+zero-hard-too call best false (choice.Chosen w runner) =
     let t = getD (call .transforms) (best .first .placing .listed) 0 in
-    tells-or (softVerdict t (best .first) (getD (call .transforms) (w .placing .listed) 0) w runner (size (call .logical))) (Found (softDecodedOf t best (fitOf (call .board) (call .physical) t (best .first .placing .row) (best .first .placing .col)) (size (call .physical)) runner)) (verdict-numbered t (best .first) (getD (call .transforms) (w .placing .listed) 0) w runner (size (call .logical))) (tells-found _)
+    zero-or (softVerdict t (best .first) (getD (call .transforms) (w .placing .listed) 0) w runner (size (call .logical))) (Found (softDecodedOf t best (fitOf (call .board) (call .physical) t (best .first .placing .row) (best .first .placing .col)) (size (call .physical)) runner)) (verdict-numbered t (best .first) (getD (call .transforms) (w .placing .listed) 0) w runner (size (call .logical))) (zero-found _)
 
-tells-after-soft : (call : HardCall) (least : Float) (c : SoftChoice) → Tells (afterSoft call least c)
+zero-after-soft : (call : HardCall) (least : Float) (c : SoftChoice) → ZeroFound (afterSoft call least c)
 unfolding selection
-tells-after-soft call least soft.Nothing = tells-refused _ (λ z. omega arith)
-tells-after-soft call least (soft.Chosen first second) =
-    tells-pick (belowMargin (softMargin first second (size (call .physical))) least) _ _ (tells-refused _ (λ z. omega arith))
-    (tells-hard-too call (bestOf first second (size (call .physical))) (noConfidence (call .logical)) (chosen (scanOf (call .board) (call .logical) (call .transforms) (call .error-limit) (length (call .transforms)))))
+zero-after-soft call least soft.Nothing = zero-refused _ (λ z. omega arith)
+zero-after-soft call least (soft.Chosen first second) =
+    zero-pick (belowMargin (softMargin first second (size (call .physical))) least) _ _ (zero-refused _ (λ z. omega arith))
+    (zero-hard-too call (bestOf first second (size (call .physical))) (noConfidence (call .logical)) (chosen (scanOf (call .board) (call .logical) (call .transforms) (call .error-limit) (length (call .transforms)))))
 
-tells-soft : (call : SoftCall) (m n k : ℕ) → Tells (softAnswer call m n k)
+zero-soft : (call : SoftCall) (m n k : ℕ) → ZeroFound (softAnswer call m n k)
 unfolding softAnswer softCore
-tells-soft call m n k =
-    tells-or (softAdmission call m n k) _ (soft-numbered call m n k)
-    (tells-pick (noConfidence (call .hard .physical)) _ _ (tells-refused _ (λ z. omega arith)) (tells-after-soft (call .hard) (call .soft-margin) (softSelection (call .hard .board) (call .hard .physical) (call .likelihoods) (call .hard .transforms))))
+zero-soft call m n k =
+    zero-or (softAdmission call m n k) _ (soft-numbered call m n k)
+    (zero-pick (noConfidence (call .hard .physical)) _ _ (zero-refused _ (λ z. omega arith)) (zero-after-soft (call .hard) (call .soft-margin) (softSelection (call .hard .board) (call .hard .physical) (call .likelihoods) (call .hard .transforms))))
 
 -- SOFT: the same
 pub soft-zero-found : (call : SoftCall) (c c' : List ℕ) (w w' : List Float) (a a' : List ℤ) (r : FlatAnswer)
     → (h : SoftFlat call c c' w w' a a' r) → r .refusal ≡ notRefused → (d : Decoded) × (h .told ≡ Found d)
 soft-zero-found call c c' w w' a a' r h e =
-    subst Tells (sym (h .done .answer)) (tells-soft call (length c) (length w) (length a)) (ap (λ (x : FlatAnswer). x .refusal) (sym (h .shown)) ∙ e)
+    subst ZeroFound (sym (h .done .answer)) (zero-soft call (length c) (length w) (length a)) (ap (λ (x : FlatAnswer). x .refusal) (sym (h .shown)) ∙ e)
 
 -- ---- MATCH STATISTICS: the same
 pub stats-zero-counted : (E : EdgeList) (t row col : ℕ) (B : Board) → flatStats (statsAnswer E t row col B) .refusal ≡ notRefused → (s : MatchStats) × (statsAnswer E t row col B ≡ stats.Counted s)

@@ -5,6 +5,6 @@ use Rattle.answer.specs.declared.Answer.the-variants.{Found, Refused}
 use Rattle.flat.specs.Flat.{notRefused, flat, flatRefused}
 
 -- A REFUSAL CARRIES NO SQUARE: where the number is not 0, every other field is 0xFFFFFFFF or NaN
-pub no-square : (a : Answer) → (flat a .refusal ≡ notRefused → ⊥) → flat a ≡ flatRefused (flat a .refusal)
-no-square (Found d) h = absurd (h refl)
-no-square (Refused r) h = refl
+pub only-its-number : (a : Answer) → (flat a .refusal ≡ notRefused → ⊥) → flat a ≡ flatRefused (flat a .refusal)
+only-its-number (Found d) h = absurd (h refl)
+only-its-number (Refused r) h = refl

@@ -35,11 +35,11 @@ use Rattle.verdict.specs.Verdict.{refusedBy, agreed, decodedOf, pick, judged}
 use Rattle.puzzleboard.specs.Hard.{afterPhysical, afterLogical, hardCore}
 use Rattle.puzzleboard.specs.Demand.{OnBoard, Same, Leads, RunsUp, Names, AgreesPhysical, Tells}
 use Rattle.puzzleboard.specs.DemandLaws.{keyOf, key-same, leads-sole}
-use Rattle.puzzleboard.specs.Winners.{placed, runnerAt, winner-on, winner-leads, winner-hits, named, runner-hits, runs-up}
+use Rattle.puzzleboard.specs.Winners.{runnerAt, winner-on, winner-leads, winner-hits, named, runner-hits, runs-up}
 
 -- ---- found or refused: no answer is both
-pub no-square : (d : Decoded) (r : Refusal) → Refused r ≡ Found d → ⊥
-no-square d r e = let z : _≡_ {A = ℕ} 0 1 = cc in omega arith
+pub never-both : (d : Decoded) (r : Refusal) → Refused r ≡ Found d → ⊥
+never-both d r e = let z : _≡_ {A = ℕ} 0 1 = cc in omega arith
 
 module _ (call : HardCall) (m n : ℕ) (A : HardAccepted call m n) where
   -- what a found hard answer says
@@ -68,12 +68,12 @@ module _ (call : HardCall) (m n : ℕ) (A : HardAccepted call m n) where
           let v = and-true (eqb (x .placing .row) (y .placing .row)) (eqb (x .placing .col) (y .placing .col)) (u .1) in
           let l = A .logical in
           record {
-            square = placed x;
+            square = x .placing;
             runner-up = runnerAt (named (call .board) (call .logical) (call .transforms) (call .error-limit) (A .board) l (A .transforms .few) x r e g .0) r;
             leads = winner-leads (call .board) (call .logical) (call .transforms) (call .error-limit) (A .board) l (A .transforms .few) x r e g;
             agrees = record { winner = y; runner = o; chosen = f; transform = sym (eqb-true t s (u .0)); row = sym (eqb-true (x .placing .row) (y .placing .row) (v .0)); col = sym (eqb-true (x .placing .col) (y .placing .col) (v .1)) };
             runs-up = runs-up (call .board) (call .logical) (call .transforms) (call .error-limit) (A .board) l (A .transforms .few) x r e g;
-            tells = subst (λ (z : Decoded). Tells (call .board) (call .logical) (call .transforms) z (placed x) (runnerAt (named (call .board) (call .logical) (call .transforms) (call .error-limit) (A .board) l (A .transforms .few) x r e g .0) r)) q (record {
+            tells = subst (λ (z : Decoded). Tells (call .board) (call .logical) (call .transforms) z (x .placing) (runnerAt (named (call .board) (call .logical) (call .transforms) (call .error-limit) (A .board) l (A .transforms .few) x r e g .0) r)) q (record {
               square = (refl, refl, refl);
               hits = winner-hits (call .board) (call .logical) (call .transforms) (call .error-limit) (A .board) l (A .transforms .few) x r e g;
               edges = refl;
@@ -84,22 +84,22 @@ module _ (call : HardCall) (m n : ℕ) (A : HardAccepted call m n) where
 
       by-gate : (b : Bool) → passed (size (call .logical)) (x .hits) (r .hits) ≡ b → agreed t x s y ≡ true → pick b (Found (decodedOf t x r (size (call .logical)))) (refusedBy why.notFarAhead) ≡ Found d → Answered d
       by-gate true g a k = answered a g k
-      by-gate false g a k = absurd (no-square d (numbered why.notFarAhead) k)
+      by-gate false g a k = absurd (never-both d (numbered why.notFarAhead) k)
 
       by-agreed : (b : Bool) → agreed t x s y ≡ b → pick b (pick (passed (size (call .logical)) (x .hits) (r .hits)) (Found (decodedOf t x r (size (call .logical)))) (refusedBy why.notFarAhead)) (refusedBy why.listsDisagree) ≡ Found d → Answered d
       by-agreed true a k = by-gate (passed (size (call .logical)) (x .hits) (r .hits)) refl a k
-      by-agreed false a k = absurd (no-square d (numbered why.listsDisagree) k)
+      by-agreed false a k = absurd (never-both d (numbered why.listsDisagree) k)
 
       from-judged : judged t x r s y (size (call .logical)) ≡ Found d → Answered d
       unfolding judged
       from-judged h = by-agreed (agreed t x s y) refl h
 
     from-physical : (x : Candidate) (r : RunnerUp) (q : Selection) → selection (call .board) (call .logical) (call .transforms) (call .error-limit) ≡ sel.Selected x r → selection (call .board) (call .physical) (call .transforms) oneF ≡ q → afterPhysical (call .logical) (call .transforms) x r q ≡ Found d → Answered d
-    from-physical x r (sel.Refused k) e f h = absurd (no-square d k h)
+    from-physical x r (sel.Refused k) e f h = absurd (never-both d k h)
     from-physical x r (sel.Selected y o) e f h = from-judged x r y o e f h
 
     from-logical : (q : Selection) → selection (call .board) (call .logical) (call .transforms) (call .error-limit) ≡ q → afterLogical call q ≡ Found d → Answered d
-    from-logical (sel.Refused k) e h = absurd (no-square d k h)
+    from-logical (sel.Refused k) e h = absurd (never-both d k h)
     from-logical (sel.Selected x r) e h = from-physical x r (selection (call .board) (call .physical) (call .transforms) oneF) e refl h
 
     -- FOUND MEANS TRUE
@@ -115,7 +115,7 @@ module _ (call : HardCall) (m n : ℕ) (A : HardAccepted call m n) where
       let s = sole-selected (call .board) (call .logical) (call .transforms) (call .error-limit) (A .board) (A .logical) (A .transforms .few) h (Q .listed) (keyOf (call .board) (A .board) Q) (leads-sole (call .board) (A .board) (call .transforms) (call .logical) (call .error-limit) Q l) in
       let x = s .0 in
       let r = s .1 in
-      let k = key-same (call .board) (A .board) (call .transforms) Q (placed x) (l .on-board) (winner-on (call .board) (call .logical) (call .transforms) (call .error-limit) (A .board) (A .logical) (A .transforms .few) x r (s .2)) (s .4, s .5) in
+      let k = key-same (call .board) (A .board) (call .transforms) Q (x .placing) (l .on-board) (winner-on (call .board) (call .logical) (call .transforms) (call .error-limit) (A .board) (A .logical) (A .transforms .few) x r (s .2)) (s .4, s .5) in
       let y = a .winner in
       let t = getD (call .transforms) (x .placing .listed) 0 in
       let v = getD (call .transforms) (y .placing .listed) 0 in

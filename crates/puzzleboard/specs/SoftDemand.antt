@@ -27,12 +27,12 @@ abbrev pub total : Board → EdgeList → Likelihoods → List ℕ → Placing �
 total B E X ts P = dequantised (score B E X (getD ts (P .listed) 0) (P .row) (P .col))
 
 -- the placing with its total
-abbrev pub candidate : Board → EdgeList → Likelihoods → List ℕ → Placing → SoftCandidate
-candidate B E X ts P = record { placing = P; total = total B E X ts P }
+abbrev pub withTotal : Board → EdgeList → Likelihoods → List ℕ → Placing → SoftCandidate
+withTotal B E X ts P = record { placing = P; total = total B E X ts P }
 
 -- "Margin = (first - second) / edges"
 abbrev pub marginOf : Board → EdgeList → Likelihoods → List ℕ → Placing → Placing → Float
-marginOf B E X ts P Q = softMargin (candidate B E X ts P) (candidate B E X ts Q) (size E)
+marginOf B E X ts P Q = softMargin (withTotal B E X ts P) (withTotal B E X ts Q) (size E)
 
 -- "its own best placing": P has first place by likelihood, and Q has second place after it (BestPlacing.antt of soft says what these are)
 pub record BestByLikelihood (B : Board) (E : EdgeList) (X : Likelihoods) (ts : List ℕ) (P Q : Placing) : Type 0 where

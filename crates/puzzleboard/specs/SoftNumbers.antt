@@ -31,7 +31,7 @@ use Rattle.answer.specs.declared.Answer.the-variants.{Found, Refused}
 use Rattle.verdict.specs.Verdict.{refusedBy, pick, whenAccepted, softVerdict, softDecodedOf, bestOf}
 use Rattle.puzzleboard.specs.OneSelection.{NoneWithinLimit, SomeWithinLimit, NoneLeads, Winner, Ended, ended, none-refused, within-refused, some-winner, winner-some}
 use Rattle.puzzleboard.specs.Winners.{winner-leads}
-use Rattle.puzzleboard.specs.SoftDemand.{candidate, marginOf, BestByLikelihood}
+use Rattle.puzzleboard.specs.SoftDemand.{withTotal, marginOf, BestByLikelihood}
 use Rattle.puzzleboard.specs.Soft.{fitOf, softJudged, afterHard, afterSoft, softCore}
 use Rattle.puzzleboard.specs.SoftTheorems.{own-best, own-exists, first-placing, second-placing}
 use Rattle.puzzleboard.specs.HardNumbers.{apart, found-not}
@@ -49,7 +49,7 @@ module _ (call : SoftCall) (m n o : ℕ) (A : SoftAccepted call m n o) where
 
   -- soft never lacks a second: it always holds two placings
   pub soft-two : softSelection (call .hard .board) (call .hard .physical) (call .likelihoods) (call .hard .transforms)
-      ≡ Chosen (candidate (call .hard .board) (call .hard .physical) (call .likelihoods) (call .hard .transforms) Q) (candidate (call .hard .board) (call .hard .physical) (call .likelihoods) (call .hard .transforms) R)
+      ≡ Chosen (withTotal (call .hard .board) (call .hard .physical) (call .likelihoods) (call .hard .transforms) Q) (withTotal (call .hard .board) (call .hard .physical) (call .likelihoods) (call .hard .transforms) R)
   soft-two = own-best call m n o A Q R (own-exists call m n o A)
 
   -- the margin of the two is below the soft margin
@@ -88,7 +88,7 @@ module _ (call : SoftCall) (m n o : ℕ) (A : SoftAccepted call m n o) where
   abbrev best : SoftBest
   best =
       let B = call .hard .board in
-      bestOf (candidate B (call .hard .physical) (call .likelihoods) (call .hard .transforms) Q) (candidate B (call .hard .physical) (call .likelihoods) (call .hard .transforms) R) (size (call .hard .physical))
+      bestOf (withTotal B (call .hard .physical) (call .likelihoods) (call .hard .transforms) Q) (withTotal B (call .hard .physical) (call .likelihoods) (call .hard .transforms) R) (size (call .hard .physical))
 
   module _ (c : noConfidence (call .hard .physical) ≡ false) (b : Below ≡ false) where
     module _ (w : LogicalWinner) where

@@ -53,9 +53,9 @@ use Rattle.puzzleboard.specs.Soft.{cellFit, fitOf, softJudged, afterHard
 use Rattle.puzzleboard.specs.SoftLaws.{likelihoods-ok}
 use Rattle.puzzleboard.specs.Demand.{OnBoard, Same, Leads, RunsUp, Names}
 use Rattle.puzzleboard.specs.DemandLaws.{keyOf, placing, placing-on, key-same, key-back, row-back, col-back, leads-sole}
-use Rattle.puzzleboard.specs.HardTheorems.{no-square}
-use Rattle.puzzleboard.specs.SoftDemand.{total, candidate, marginOf, BestByLikelihood, SoftAnswered}
-use Rattle.puzzleboard.specs.Winners.{placed, runnerAt, winner-on, winner-leads, winner-hits, named, runner-hits, runs-up}
+use Rattle.puzzleboard.specs.HardTheorems.{never-both}
+use Rattle.puzzleboard.specs.SoftDemand.{total, withTotal, marginOf, BestByLikelihood, SoftAnswered}
+use Rattle.puzzleboard.specs.Winners.{runnerAt, winner-on, winner-leads, winner-hits, named, runner-hits, runs-up}
 
 -- ---- the verdict
 -- 0: both winners agree, and the gate is passed
@@ -88,14 +88,14 @@ module _ (call : SoftCall) (m n o : ℕ) (A : SoftAccepted call m n o) where
   best = soft-best-edges (call .hard .board) (call .hard .physical) (call .likelihoods) (call .hard .transforms) (A .hard .board) (A .hard .physical) (likelihoods-ok call m n o A) (A .hard .transforms .some)
 
   -- a placing by its key has the total that its row and column have
-  by-key : (Q : Placing) → OnBoard (call .hard .board) (call .hard .transforms) Q → record { placing = record { listed = Q .listed; row = keyOf (call .hard .board) (A .hard .board) Q / (3 * periodOf (call .hard .board) false); col = keyOf (call .hard .board) (A .hard .board) Q % (3 * periodOf (call .hard .board) false) }; total = dequantised (scoreAtKey (call .hard .board) (call .hard .physical) (call .likelihoods) (call .hard .transforms) (Q .listed) (keyOf (call .hard .board) (A .hard .board) Q)) } ≡ candidate (call .hard .board) (call .hard .physical) (call .likelihoods) (call .hard .transforms) Q
+  by-key : (Q : Placing) → OnBoard (call .hard .board) (call .hard .transforms) Q → record { placing = record { listed = Q .listed; row = keyOf (call .hard .board) (A .hard .board) Q / (3 * periodOf (call .hard .board) false); col = keyOf (call .hard .board) (A .hard .board) Q % (3 * periodOf (call .hard .board) false) }; total = dequantised (scoreAtKey (call .hard .board) (call .hard .physical) (call .likelihoods) (call .hard .transforms) (Q .listed) (keyOf (call .hard .board) (A .hard .board) Q)) } ≡ withTotal (call .hard .board) (call .hard .physical) (call .likelihoods) (call .hard .transforms) Q
   by-key Q u =
       let r = row-back (call .hard .board) (A .hard .board) (call .hard .transforms) Q u in
       let c = col-back (call .hard .board) (A .hard .board) (call .hard .transforms) Q u in
       λ i. record { placing = record { listed = Q .listed; row = r i; col = c i }; total = dequantised (score (call .hard .board) (call .hard .physical) (call .likelihoods) (getD (call .hard .transforms) (Q .listed) 0) (r i) (c i)) }
 
   -- the two best by likelihood are what soft selection holds
-  pub own-best : (Q R : Placing) → BestByLikelihood (call .hard .board) (call .hard .physical) (call .likelihoods) (call .hard .transforms) Q R → softSelection (call .hard .board) (call .hard .physical) (call .likelihoods) (call .hard .transforms) ≡ Chosen (candidate (call .hard .board) (call .hard .physical) (call .likelihoods) (call .hard .transforms) Q) (candidate (call .hard .board) (call .hard .physical) (call .likelihoods) (call .hard .transforms) R)
+  pub own-best : (Q R : Placing) → BestByLikelihood (call .hard .board) (call .hard .physical) (call .likelihoods) (call .hard .transforms) Q R → softSelection (call .hard .board) (call .hard .physical) (call .likelihoods) (call .hard .transforms) ≡ Chosen (withTotal (call .hard .board) (call .hard .physical) (call .likelihoods) (call .hard .transforms) Q) (withTotal (call .hard .board) (call .hard .physical) (call .likelihoods) (call .hard .transforms) R)
   own-best Q R b =
       best-two-only (periodOf (call .hard .board) true) (periodOf (call .hard .board) false) (length (call .hard .transforms)) (period-h (call .hard .board) (A .hard .board)) (period-v (call .hard .board) (A .hard .board)) (scoreAtKey (call .hard .board) (call .hard .physical) (call .likelihoods) (call .hard .transforms)) (softSelection (call .hard .board) (call .hard .physical) (call .likelihoods) (call .hard .transforms)) _ best
       (record { p = Q .listed; k = keyOf (call .hard .board) (A .hard .board) Q; q = R .listed; j = keyOf (call .hard .board) (A .hard .board) R; chosen = refl; first = b .first; second = b .second })
@@ -128,21 +128,21 @@ module _ (call : SoftCall) (m n o : ℕ) (A : SoftAccepted call m n o) where
     t = getD (call .hard .transforms) (Q .listed) 0
 
     abbrev answer : RunnerUp → Decoded
-    answer r = softDecodedOf t (bestOf (candidate (call .hard .board) (call .hard .physical) (call .likelihoods) (call .hard .transforms) Q) (candidate (call .hard .board) (call .hard .physical) (call .likelihoods) (call .hard .transforms) R) (size (call .hard .physical))) (fitOf (call .hard .board) (call .hard .physical) t (Q .row) (Q .col)) (size (call .hard .physical)) r
+    answer r = softDecodedOf t (bestOf (withTotal (call .hard .board) (call .hard .physical) (call .likelihoods) (call .hard .transforms) Q) (withTotal (call .hard .board) (call .hard .physical) (call .likelihoods) (call .hard .transforms) R) (size (call .hard .physical))) (fitOf (call .hard .board) (call .hard .physical) t (Q .row) (Q .col)) (size (call .hard .physical)) r
 
     module _ (x : Candidate) (r : RunnerUp) (e : selection (call .hard .board) (call .hard .logical) (call .hard .transforms) (call .hard .error-limit) ≡ sel.Selected x r) (p : (t ≡ getD (call .hard .transforms) (x .placing .listed) 0) × (Q .row ≡ x .placing .row) × (Q .col ≡ x .placing .col) × (passed (size (call .hard .logical)) (x .hits) (r .hits) ≡ true)) where
-      lead : Leads (call .hard .board) (call .hard .logical) (call .hard .transforms) (call .hard .error-limit) (placed x)
+      lead : Leads (call .hard .board) (call .hard .logical) (call .hard .transforms) (call .hard .error-limit) (x .placing)
       lead = winner-leads (call .hard .board) (call .hard .logical) (call .hard .transforms) (call .hard .error-limit) (A .hard .board) (A .hard .logical) (A .hard .transforms .few) x r e (p .3)
 
       -- the same transform and origin, so as many hits: were it at another place of the list, neither would lead
-      same-hits : hitsAt (call .hard .board) (call .hard .logical) (call .hard .transforms) Q ≡ hitsAt (call .hard .board) (call .hard .logical) (call .hard .transforms) (placed x)
+      same-hits : hitsAt (call .hard .board) (call .hard .logical) (call .hard .transforms) Q ≡ hitsAt (call .hard .board) (call .hard .logical) (call .hard .transforms) (x .placing)
       same-hits = λ i. hits (call .hard .board) (call .hard .logical) (p .0 i) (p .1 i) (p .2 i)
 
       same-place : (e : Bool) → eqb (Q .listed) (x .placing .listed) ≡ e → Q .listed ≡ x .placing .listed
       same-place true h = eqb-true (Q .listed) (x .placing .listed) h
       same-place false h = absurd (omega (arith, same-hits, lead .ahead Q (b .on-board) (λ s. eqb-false (Q .listed) (x .placing .listed) h (s .0))))
 
-      same-one : placed x ≡ Q
+      same-one : x .placing ≡ Q
       same-one = let q = same-place (eqb (Q .listed) (x .placing .listed)) refl in λ i. record { listed = sym q i; row = sym (p .1) i; col = sym (p .2) i }
 
       soft-answered : Found (answer r) ≡ Found d → SoftAnswered call d
@@ -168,24 +168,24 @@ module _ (call : SoftCall) (m n o : ℕ) (A : SoftAccepted call m n o) where
           })
 
     abbrev verdict : Candidate → RunnerUp → Admission
-    verdict x r = softVerdict t (candidate (call .hard .board) (call .hard .physical) (call .likelihoods) (call .hard .transforms) Q) (getD (call .hard .transforms) (x .placing .listed) 0) x r (size (call .hard .logical))
+    verdict x r = softVerdict t (withTotal (call .hard .board) (call .hard .physical) (call .likelihoods) (call .hard .transforms) Q) (getD (call .hard .transforms) (x .placing .listed) 0) x r (size (call .hard .logical))
 
     by-verdict : (x : Candidate) (r : RunnerUp) (v : Admission) → selection (call .hard .board) (call .hard .logical) (call .hard .transforms) (call .hard .error-limit) ≡ sel.Selected x r → verdict x r ≡ v → whenAccepted v (Found (answer r)) ≡ Found d → SoftAnswered call d
-    by-verdict x r admission.Accepted e h k = soft-answered x r e (verdict-passed t (candidate (call .hard .board) (call .hard .physical) (call .likelihoods) (call .hard .transforms) Q) (getD (call .hard .transforms) (x .placing .listed) 0) x r (size (call .hard .logical)) h) k
-    by-verdict x r (admission.Refused j) e h k = absurd (no-square d j k)
+    by-verdict x r admission.Accepted e h k = soft-answered x r e (verdict-passed t (withTotal (call .hard .board) (call .hard .physical) (call .likelihoods) (call .hard .transforms) Q) (getD (call .hard .transforms) (x .placing .listed) 0) x r (size (call .hard .logical)) h) k
+    by-verdict x r (admission.Refused j) e h k = absurd (never-both d j k)
 
-    by-logical : (q : Selection) → selection (call .hard .board) (call .hard .logical) (call .hard .transforms) (call .hard .error-limit) ≡ q → afterHard (call .hard) (bestOf (candidate (call .hard .board) (call .hard .physical) (call .likelihoods) (call .hard .transforms) Q) (candidate (call .hard .board) (call .hard .physical) (call .likelihoods) (call .hard .transforms) R) (size (call .hard .physical))) q ≡ Found d → SoftAnswered call d
+    by-logical : (q : Selection) → selection (call .hard .board) (call .hard .logical) (call .hard .transforms) (call .hard .error-limit) ≡ q → afterHard (call .hard) (bestOf (withTotal (call .hard .board) (call .hard .physical) (call .likelihoods) (call .hard .transforms) Q) (withTotal (call .hard .board) (call .hard .physical) (call .likelihoods) (call .hard .transforms) R) (size (call .hard .physical))) q ≡ Found d → SoftAnswered call d
     unfolding softJudged
-    by-logical (sel.Refused j) e h = absurd (no-square d j h)
+    by-logical (sel.Refused j) e h = absurd (never-both d j h)
     by-logical (sel.Selected x r) e h = by-verdict x r (verdict x r) e refl h
 
   by-margin : (d : Decoded) (Q R : Placing) → BestByLikelihood (call .hard .board) (call .hard .physical) (call .likelihoods) (call .hard .transforms) Q R → (v : Bool) → belowMargin (marginOf (call .hard .board) (call .hard .physical) (call .likelihoods) (call .hard .transforms) Q R) (call .soft-margin) ≡ v
-      → pick v (refusedBy why.softMargin) (afterHard (call .hard) (bestOf (candidate (call .hard .board) (call .hard .physical) (call .likelihoods) (call .hard .transforms) Q) (candidate (call .hard .board) (call .hard .physical) (call .likelihoods) (call .hard .transforms) R) (size (call .hard .physical))) (selection (call .hard .board) (call .hard .logical) (call .hard .transforms) (call .hard .error-limit))) ≡ Found d → SoftAnswered call d
-  by-margin d Q R b true e h = absurd (no-square d (numbered why.softMargin) h)
+      → pick v (refusedBy why.softMargin) (afterHard (call .hard) (bestOf (withTotal (call .hard .board) (call .hard .physical) (call .likelihoods) (call .hard .transforms) Q) (withTotal (call .hard .board) (call .hard .physical) (call .likelihoods) (call .hard .transforms) R) (size (call .hard .physical))) (selection (call .hard .board) (call .hard .logical) (call .hard .transforms) (call .hard .error-limit))) ≡ Found d → SoftAnswered call d
+  by-margin d Q R b true e h = absurd (never-both d (numbered why.softMargin) h)
   by-margin d Q R b false e h = by-logical d Q R b e (selection (call .hard .board) (call .hard .logical) (call .hard .transforms) (call .hard .error-limit)) refl h
 
   by-confidence : (d : Decoded) (v : Bool) → pick v (refusedBy why.noConfidence) (afterSoft (call .hard) (call .soft-margin) (softSelection (call .hard .board) (call .hard .physical) (call .likelihoods) (call .hard .transforms))) ≡ Found d → SoftAnswered call d
-  by-confidence d true h = absurd (no-square d (numbered why.noConfidence) h)
+  by-confidence d true h = absurd (never-both d (numbered why.noConfidence) h)
   by-confidence d false h =
       let Q = first-placing in
       let R = second-placing in
@@ -205,9 +205,9 @@ module _ (call : SoftCall) (m n o : ℕ) (A : SoftAccepted call m n o) where
       let s = sole-selected (call .hard .board) (call .hard .logical) (call .hard .transforms) (call .hard .error-limit) (A .hard .board) (A .hard .logical) (A .hard .transforms .few) g (Q .listed) (keyOf (call .hard .board) (A .hard .board) Q) (leads-sole (call .hard .board) (A .hard .board) (call .hard .transforms) (call .hard .logical) (call .hard .error-limit) Q l) in
       let x = s .0 in
       let r = s .1 in
-      let k = key-same (call .hard .board) (A .hard .board) (call .hard .transforms) Q (placed x) (l .on-board) (winner-on (call .hard .board) (call .hard .logical) (call .hard .transforms) (call .hard .error-limit) (A .hard .board) (A .hard .logical) (A .hard .transforms .few) x r (s .2)) (s .4, s .5) in
+      let k = key-same (call .hard .board) (A .hard .board) (call .hard .transforms) Q (x .placing) (l .on-board) (winner-on (call .hard .board) (call .hard .logical) (call .hard .transforms) (call .hard .error-limit) (A .hard .board) (A .hard .logical) (A .hard .transforms .few) x r (s .2)) (s .4, s .5) in
       let t = getD (call .hard .transforms) (Q .listed) 0 in
       let p1 : eqb t (getD (call .hard .transforms) (x .placing .listed) 0) ≡ true = eq-eqb t (getD (call .hard .transforms) (x .placing .listed) 0) (ap (λ (i : ℕ). getD (call .hard .transforms) i 0) (k .0)) in
       let p2 : eqb (Q .row) (x .placing .row) ≡ true = eq-eqb (Q .row) (x .placing .row) (k .1) in
       let p3 : eqb (Q .col) (x .placing .col) ≡ true = eq-eqb (Q .col) (x .placing .col) (k .2) in
-      (softDecodedOf t (bestOf (candidate (call .hard .board) (call .hard .physical) (call .likelihoods) (call .hard .transforms) Q) (candidate (call .hard .board) (call .hard .physical) (call .likelihoods) (call .hard .transforms) R) (size (call .hard .physical))) (fitOf (call .hard .board) (call .hard .physical) t (Q .row) (Q .col)) (size (call .hard .physical)) r, rw (h, own-best Q R b, clear, s .2, p1, p2, p3, s .3))
+      (softDecodedOf t (bestOf (withTotal (call .hard .board) (call .hard .physical) (call .likelihoods) (call .hard .transforms) Q) (withTotal (call .hard .board) (call .hard .physical) (call .likelihoods) (call .hard .transforms) R) (size (call .hard .physical))) (fitOf (call .hard .board) (call .hard .physical) t (Q .row) (Q .col)) (size (call .hard .physical)) r, rw (h, own-best Q R b, clear, s .2, p1, p2, p3, s .3))

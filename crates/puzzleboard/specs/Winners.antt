@@ -21,10 +21,7 @@ use Rattle.hard.specs.declared.select.Selection.the-variants.{Selected}
 use Rattle.puzzleboard.specs.Demand.{OnBoard, Same, Leads, RunsUp}
 use Rattle.puzzleboard.specs.DemandLaws.{same-key, hits-key, sole-leads, most-runs-up}
 
--- the placing of a winner, and of its runner-up at list position p
-abbrev pub placed : Candidate → Placing
-placed x = x .placing
-
+-- the placing of a runner-up at list position p
 abbrev pub runnerAt : ℕ → RunnerUp → Placing
 runnerAt p r = record { listed = p; row = r .row; col = r .col }
 
@@ -32,7 +29,7 @@ module _ (B : Board) (E : EdgeList) (ts : List ℕ) (limit : Float) (board : Boa
   in-range : InRange (periodOf B true) (periodOf B false) (size E) (totalConfidence E) limit (λ p. getD ts p 0) (λ p. tablesOf B E (getD ts p 0)) (length ts) x r
   in-range = selected-in-range B E ts limit board list few x r e
 
-  pub winner-on : OnBoard B ts (placed x)
+  pub winner-on : OnBoard B ts (x .placing)
   winner-on = record { in-list = in-range .listed; row = in-range .row; col = in-range .col }
 
   module _ (g : passed (size E) (x .hits) (r .hits) ≡ true) where
@@ -41,11 +38,11 @@ module _ (B : Board) (E : EdgeList) (ts : List ℕ) (limit : Float) (board : Boa
         × MostOther (length ts) (originNumber (periodOf B true) (periodOf B false)) (size E) limit (hitsAtKey B E ts) (x .placing .listed) (keyAt (periodOf B false) (x .placing .row) (x .placing .col)) (r .hits)
     right = selected-right B E ts limit board list few x r e g
 
-    pub winner-leads : Leads B E ts limit (placed x)
-    winner-leads = sole-leads B board ts E limit (placed x) winner-on (right .0)
+    pub winner-leads : Leads B E ts limit (x .placing)
+    winner-leads = sole-leads B board ts E limit (x .placing) winner-on (right .0)
 
-    pub winner-hits : x .hits ≡ hitsAt B E ts (placed x)
-    winner-hits = right .1 ∙ hits-key B board ts E limit (placed x) winner-on
+    pub winner-hits : x .hits ≡ hitsAt B E ts (x .placing)
+    winner-hits = right .1 ∙ hits-key B board ts E limit (x .placing) winner-on
 
     -- the list position of the runner-up, and what is known of it
     pub named : (p : ℕ) × (p < length ts) × (getD ts p 0 ≡ r .transform) × ((p ≡ x .placing .listed) × (keyAt (periodOf B false) (r .row) (r .col) ≡ keyAt (periodOf B false) (x .placing .row) (x .placing .col)) → ⊥) × (hitsAtKey B E ts p (keyAt (periodOf B false) (r .row) (r .col)) ≡ r .hits)
@@ -57,7 +54,7 @@ module _ (B : Board) (E : EdgeList) (ts : List ℕ) (limit : Float) (board : Boa
     pub runner-hits : hitsAt B E ts (runnerAt (named .0) r) ≡ r .hits
     runner-hits = sym (hits-key B board ts E limit (runnerAt (named .0) r) runner-on) ∙ named .4
 
-    pub runs-up : RunsUp B E ts (placed x) (runnerAt (named .0) r)
+    pub runs-up : RunsUp B E ts (x .placing) (runnerAt (named .0) r)
     runs-up =
-        most-runs-up B board ts E limit (placed x) (runnerAt (named .0) r) (r .hits) winner-on runner-on
-        (λ s. named .3 (same-key B board ts (runnerAt (named .0) r) (placed x) s)) runner-hits (right .2)
+        most-runs-up B board ts E limit (x .placing) (runnerAt (named .0) r) (r .hits) winner-on runner-on
+        (λ s. named .3 (same-key B board ts (runnerAt (named .0) r) (x .placing) s)) runner-hits (right .2)

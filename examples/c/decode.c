@@ -1,5 +1,6 @@
-/* A window of a small made-up board, decoded: once as it is, and once with an error limit that no call takes. It prints both
- * answers whole, so that what a refusal holds can be seen. Compiled and run by .ci/tests/boundary, which compares what it prints. */
+/* A window of a small made-up board, decoded by hits (hard) and by likelihoods (soft): each once as it is, and once so that it is refused, by an
+ * error limit that no call takes and by a soft margin that no window has. It prints all four answers whole, so that what a refusal holds can be
+ * seen, and how the window fits its square. Compiled and run by .ci/tests/boundary, which compares what it prints. */
 #include "samburext.h"
 
 #include <stdio.h>
@@ -9,9 +10,11 @@ enum { CORNERS = 12, EDGES = 2 * CORNERS * (CORNERS - 1), ROW = 123, COLUMN = 45
 static uint8_t horizontal[SAMBUREXT_TABLE_LENGTH], vertical[SAMBUREXT_TABLE_LENGTH];
 static int32_t rows[EDGES], columns[EDGES];
 static uint8_t orientations[EDGES], bits[EDGES];
-static float confidences[EDGES];
+static float confidences[EDGES], matches[EDGES], mismatches[EDGES];
 static uint32_t counts[SAMBUREXT_ROOM_COUNTS];
 static float weights[SAMBUREXT_ROOM_WEIGHTS];
+static int64_t sums[SAMBUREXT_ROOM_SUMS];
+static const uint8_t transforms[] = {0, 1, 2, 3};
 
 /* A pattern table of three-bit patterns from a small generator. */
 static uint32_t fill_table(uint8_t *table, uint32_t state)
@@ -43,6 +46,8 @@ static void fill_window(void)
                 orientations[n] = orientation;
                 bits[n] = seen(row, column, orientation);
                 confidences[n] = 0.75f;
+                matches[n] = -0.125f; /* the logarithm of how likely this reading is if the board has this bit here, */
+                mismatches[n] = -2.0f - (float)(n % 2); /* and if it has the other; each edge may have its own */
             }
 }
 
@@ -60,9 +65,9 @@ static void print_float(const char *name, float x)
     printf("  %s %s\n", name, float_or_nan(x, text));
 }
 
-static void print_answer(const samburext_answer *a)
+static void print_answer(const char *how, const samburext_answer *a)
 {
-    printf(a->refusal == SAMBUREXT_FOUND ? "found\n" : "refused\n");
+    printf("%s: %s\n", how, a->refusal == SAMBUREXT_FOUND ? "found" : "refused");
     print_whole("refusal", a->refusal);
     print_whole("transform", a->transform);
     print_whole("row", a->row);
@@ -80,23 +85,35 @@ static void print_answer(const samburext_answer *a)
     print_whole("runner_up_col", a->runner_up_col);
 }
 
-static void decode_and_print(float error_limit)
+static void hard_and_print(float error_limit)
 {
-    static const uint8_t transforms[] = {0, 1, 2, 3};
     samburext_answer answer = samburext_decode_hard(
         rows, EDGES, columns, EDGES, orientations, EDGES, bits, EDGES, confidences, EDGES, /* the logical list */
         rows, EDGES, columns, EDGES, orientations, EDGES, bits, EDGES, confidences, EDGES, /* the physical list: the same */
         transforms, sizeof transforms, horizontal, sizeof horizontal, vertical, sizeof vertical, error_limit,
         counts, SAMBUREXT_ROOM_COUNTS, weights, SAMBUREXT_ROOM_WEIGHTS);
-    print_answer(&answer);
+    print_answer("hard", &answer);
+}
+
+static void soft_and_print(float soft_margin)
+{
+    samburext_answer answer = samburext_decode_soft(
+        rows, EDGES, columns, EDGES, orientations, EDGES, bits, EDGES, confidences, EDGES, /* the logical list */
+        rows, EDGES, columns, EDGES, orientations, EDGES, bits, EDGES, confidences, EDGES, /* the physical list: the same, */
+        matches, EDGES, mismatches, EDGES,                                                 /* with its likelihoods */
+        transforms, sizeof transforms, horizontal, sizeof horizontal, vertical, sizeof vertical, 0.1f, soft_margin,
+        counts, SAMBUREXT_ROOM_COUNTS, weights, SAMBUREXT_ROOM_WEIGHTS, sums, SAMBUREXT_ROOM_SUMS);
+    print_answer("soft", &answer);
 }
 
 int main(void)
 {
     fill_table(vertical, fill_table(horizontal, 12345u));
     fill_window();
-    decode_and_print(0.1f);
-    decode_and_print(1.5f);
+    hard_and_print(0.1f);
+    hard_and_print(1.5f);
+    soft_and_print(0.02f);
+    soft_and_print(100.0f);
     samburext_stats stats = samburext_match_stats(
         rows, EDGES, columns, EDGES, orientations, EDGES, bits, EDGES, confidences, EDGES, 0, ROW, COLUMN,
         horizontal, sizeof horizontal, vertical, sizeof vertical);

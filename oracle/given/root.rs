@@ -213,6 +213,7 @@ impl Ready {
                 Err(_) => false,
             };
             if told {
+                calib_targets_core::set_likelihood(self.soft.likelihood);
                 let cfg = SoftLlConfig { alignment_min_margin: f32::NEG_INFINITY, ..config(&self.soft) };
                 let same = detector::decode::decode_soft(&self.physical, &window, &once, &cfg, 1.0).is_some();
                 return if same { 13 } else { 15 };
@@ -289,8 +290,8 @@ pub fn true_bit(e: &Edge, at: &Square) -> u8 {
     bit_at(e, &transform(at.transform as u8).with_translation([at.col, at.row]))
 }
 
-/// The likelihoods that `Likelihood::Listed` gives from now on, by confidence.
-pub fn list_likelihoods(pairs: &[(f32, (f32, f32))]) {
+/// The likelihoods that `Likelihood::Listed` gives from now on, edge by edge of the physical list.
+pub fn list_likelihoods(pairs: &[(f32, f32)]) {
     calib_targets_core::list_likelihoods(pairs);
 }
 

@@ -131,6 +131,11 @@ pub fn squares(r: &mut Random) -> i32 {
 
 /// A window of so many squares, with the logical list by the Rust's own consensus, the physical list itself, or another window.
 pub fn view(r: &mut Random, size: i32, light: bool) -> Case {
+    placed_view(r, size, light).0
+}
+
+/// The same, and where the window was cut.
+pub fn placed_view(r: &mut Random, size: i32, light: bool) -> (Case, Square) {
     let map = map(r);
     let at = placing(r);
     let physical = window(r, map, &at, size);
@@ -150,7 +155,40 @@ pub fn view(r: &mut Random, size: i32, light: bool) -> Case {
         case.limit = 0.3;
         case.soft = Soft { likelihood: Likelihood::Sigmoid, kappa: 12.0, floor: -6.0, margin: pick(r, &[0.02, 0.0]) };
     }
-    case
+    (case, at)
+}
+
+/// Five, six or seven transforms: those that are listed, in their order, and others between them, seldom one again.
+pub fn five_to_seven(r: &mut Random, list: &mut Vec<u8>) {
+    let length = 5 + r.below(3) as usize;
+    list.truncate(length);
+    while list.len() < length {
+        let t = r.below(8) as u8;
+        if !list.contains(&t) || r.once_in(8) {
+            list.insert(r.below(list.len() as u64 + 1) as usize, t);
+        }
+    }
+}
+
+/// Each physical edge has likelihoods of its own, which its confidence does not tell, and half of the time all have one confidence: near what a
+/// reading of that confidence would have, scattered over every size, or at the ends of the range and at halves of a unit.
+pub fn own_likelihoods(r: &mut Random, case: &mut Case) {
+    if r.once_in(2) {
+        let one = pick(r, &[1.0, 0.5, 0.75, 0.3]);
+        case.physical.iter_mut().for_each(|e| e.confidence = one);
+    }
+    let style = r.below(4);
+    let scale = pick(r, &[1.0, 6.0, 65536.0, 1e-6, 1e-7]);
+    let unit = 1.0 / (1 << 24) as f32;
+    let ends = [65536.0, -65536.0, 0.0, -0.0, unit / 2.0, -unit / 2.0, unit / 4.0, -unit / 4.0, 1.5 * unit, -1.5 * unit];
+    let likelihood = |r: &mut Random, near: f32| match style {
+        0 | 1 => near * (0.5 + r.unit()),
+        2 => (r.unit() * 2.0 - 1.0) * scale,
+        _ => pick(r, &ends),
+    };
+    let pairs: Vec<(f32, f32)> = case.physical.iter().map(|_| (likelihood(r, -0.1), likelihood(r, -4.0))).collect();
+    crate::list_likelihoods(&pairs);
+    case.soft = Soft { likelihood: Likelihood::Listed, kappa: 1.0, floor: f32::NEG_INFINITY, ..case.soft };
 }
 
 /// One edge with nothing true about it.

@@ -103,4 +103,25 @@ mod tests {
             assert_eq!(super::patterns(map), (h.to_vec(), v.to_vec()));
         }
     }
+
+    /// Likelihoods that are listed come to each edge in its turn, for every transform from the first edge on: edges of one confidence may differ in them, and the
+    /// score of a clean window is the sum of its match likelihoods.
+    #[test]
+    fn listed_likelihoods_are_each_edge_s_own() {
+        use super::*;
+        let at = Square { transform: 2, row: 17, col: 400 };
+        let mut physical = Vec::new();
+        for place in 0..128u8 {
+            let e =
+                Edge { row: (place / 16).into(), col: (place / 2 % 8).into(), orientation: place % 2, bit: 0, confidence: 0.75 };
+            physical.push(Edge { bit: true_bit(0, &e, &at), ..e });
+        }
+        let pairs: Vec<(f32, f32)> = (0..128).map(|i| (-(i as f32) / 1024.0, -4.0 - i as f32 / 64.0)).collect();
+        list_likelihoods(&pairs);
+        let soft = Soft { likelihood: Likelihood::Listed, kappa: 1.0, floor: f32::NEG_INFINITY, margin: 0.0 };
+        let case = Case { map: 0, logical: physical.clone(), physical, transforms: vec![0, 1, 2, 3, 4], limit: 0.3, soft };
+        assert_eq!(likelihoods(&case), pairs);
+        let found = super::soft(&case).expect("a clean window is found");
+        assert_eq!((found.square, found.best), (at, -(127.0 * 128.0 / 2.0) / 1024.0));
+    }
 }

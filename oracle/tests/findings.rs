@@ -1,7 +1,8 @@
 //! What the given Rust does with the smallest inputs on which it and Samburext differ, or on which its comments say something else than
 //! its code. docs/DIFFERENCES.md lists each of them under the test's name. Release builds only: debug builds stop at some of them.
 
-#![cfg(not(debug_assertions))]
+#[cfg(debug_assertions)]
+compile_error!("the findings are those of a release build: cargo test --release");
 
 use oracle::{Case, Edge, Likelihood, Soft, Square};
 use std::panic::catch_unwind;

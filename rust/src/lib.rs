@@ -148,6 +148,18 @@ fn decoded(answer: raw::Answer) -> Result<Decoded, Refusal> {
     }
 }
 
+fn counted(stats: raw::Stats) -> Result<MatchStats, Refusal> {
+    match Refusal::from_number(stats.refusal) {
+        Some(refusal) => Err(refusal),
+        None => Ok(MatchStats {
+            edges: stats.edges,
+            hits: stats.hits,
+            error_rate: stats.error_rate,
+            mean_confidence: stats.mean_confidence,
+        }),
+    }
+}
+
 /// Hard decode: the square by the hits of the logical list, within the error limit; the physical list must agree.
 pub fn decode_hard(
     logical: &EdgeList,
@@ -281,16 +293,7 @@ fn decode_soft_raw(
 
 /// Match statistics: how one list fits a known square.
 pub fn match_stats(list: &EdgeList, square: Square, patterns: Patterns) -> Result<MatchStats, Refusal> {
-    let stats = match_stats_raw(list, square, patterns);
-    match Refusal::from_number(stats.refusal) {
-        Some(refusal) => Err(refusal),
-        None => Ok(MatchStats {
-            edges: stats.edges,
-            hits: stats.hits,
-            error_rate: stats.error_rate,
-            mean_confidence: stats.mean_confidence,
-        }),
-    }
+    counted(match_stats_raw(list, square, patterns))
 }
 
 // The same, with the answer as the library gives it.

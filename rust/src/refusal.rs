@@ -3,29 +3,31 @@
 use std::error::Error;
 use std::fmt;
 
-/// The fifteen refusals, by the numbers of the rules document.
+/// The fifteen refusals, in the order of the rules document's numbers; and a number that this wrapper does not know, as an archive that is not
+/// the wrapper's own may give it.
 #[derive(Clone, Copy, Debug, PartialEq, Eq, Hash, PartialOrd, Ord)]
-#[repr(u32)]
 pub enum Refusal {
-    RoomTooShort = 1,
-    LengthsDiffer = 2,
-    ListSize = 3,
-    EdgeOutOfRange = 4,
-    BadConfidence = 5,
-    BadLikelihood = 6,
-    BadTransform = 7,
-    BadTable = 8,
-    BadSetting = 9,
-    NoConfidence = 10,
-    NoneWithinLimit = 11,
-    ListsDisagree = 12,
-    NotFarAhead = 13,
-    SoftMargin = 14,
-    SoftHardDisagree = 15,
+    RoomTooShort,
+    LengthsDiffer,
+    ListSize,
+    EdgeOutOfRange,
+    BadConfidence,
+    BadLikelihood,
+    BadTransform,
+    BadTable,
+    BadSetting,
+    NoConfidence,
+    NoneWithinLimit,
+    ListsDisagree,
+    NotFarAhead,
+    SoftMargin,
+    SoftHardDisagree,
+    /// A number above 15: refused, and nothing else is known of it.
+    Unknown(u32),
 }
 
 impl Refusal {
-    /// All of them, in the order of their numbers from 1.
+    /// The fifteen that have a name, in the order of their numbers from 1.
     pub const ALL: [Refusal; 15] = [
         Refusal::RoomTooShort,
         Refusal::LengthsDiffer,
@@ -44,15 +46,32 @@ impl Refusal {
         Refusal::SoftHardDisagree,
     ];
 
-    /// The refusal's number, 1 to 15.
+    /// The refusal's number: 1 to 15, or the unknown one as the library gave it.
     pub fn number(self) -> u32 {
-        self as u32
+        match self {
+            Refusal::RoomTooShort => 1,
+            Refusal::LengthsDiffer => 2,
+            Refusal::ListSize => 3,
+            Refusal::EdgeOutOfRange => 4,
+            Refusal::BadConfidence => 5,
+            Refusal::BadLikelihood => 6,
+            Refusal::BadTransform => 7,
+            Refusal::BadTable => 8,
+            Refusal::BadSetting => 9,
+            Refusal::NoConfidence => 10,
+            Refusal::NoneWithinLimit => 11,
+            Refusal::ListsDisagree => 12,
+            Refusal::NotFarAhead => 13,
+            Refusal::SoftMargin => 14,
+            Refusal::SoftHardDisagree => 15,
+            Refusal::Unknown(number) => number,
+        }
     }
 
     // The refusal with a number, and none for 0, which means found.
     pub(crate) fn from_number(number: u32) -> Option<Refusal> {
         let place = (number as usize).checked_sub(1)?;
-        Some(*Refusal::ALL.get(place).expect("the library's refusals go from 1 to 15"))
+        Some(Refusal::ALL.get(place).copied().unwrap_or(Refusal::Unknown(number)))
     }
 }
 
@@ -74,6 +93,7 @@ impl fmt::Display for Refusal {
             Refusal::NotFarAhead => "the best square is not far enough ahead of the next",
             Refusal::SoftMargin => "the soft scores of the two best are too close",
             Refusal::SoftHardDisagree => "the soft and the hard winner differ",
+            Refusal::Unknown(_) => "a number that this wrapper does not know",
         };
         write!(out, "refused ({}): {}", self.number(), words)
     }

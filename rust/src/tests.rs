@@ -3,8 +3,8 @@
 mod board;
 
 use crate::{
-    decode_hard, decode_hard_raw, decode_soft, decode_soft_raw, match_stats, match_stats_raw, raw, Decoded, Edge, EdgeList,
-    Likelihoods, Patterns, Refusal, Room, Square, ROOM_COUNTS, ROOM_SUMS, ROOM_WEIGHTS,
+    counted, decode_hard, decode_hard_raw, decode_soft, decode_soft_raw, decoded, match_stats, match_stats_raw, raw, Decoded,
+    Edge, EdgeList, Likelihoods, Patterns, Refusal, Room, Square, ROOM_COUNTS, ROOM_SUMS, ROOM_WEIGHTS,
 };
 use board::{Board, ALL_TRANSFORMS};
 
@@ -249,6 +249,46 @@ fn what_the_room_held_has_no_influence() {
     let mut stale = used_room();
     stale.weights.fill(f32::NAN);
     assert_eq!(call.hard(&mut clean), call.hard(&mut stale));
+}
+
+/// NaNs of both signs, quiet and signalling, each with bits of its own.
+fn nans(n: usize) -> Vec<f32> {
+    let heads = [0x7fc0_0000, 0xffc0_0000, 0x7f80_0000, 0xff80_0000];
+    (0..n).map(|i| f32::from_bits(heads[i % 4] + 1 + i as u32)).collect()
+}
+
+fn bits(floats: &[f32]) -> Vec<u32> {
+    floats.iter().map(|x| x.to_bits()).collect()
+}
+
+/// Room whose floats are all NaN, surplus too: after every call the surplus is what it was, bit for bit, and so is the whole room after
+/// refusals 1 to 9; what was used is 0 elsewhere, and no NaN in the room reaches an answer.
+#[test]
+fn nan_in_the_room_comes_back_bit_for_bit() {
+    let call = call();
+    let stale = Room { weights: nans(ROOM_WEIGHTS + SURPLUS), ..used_room() };
+    assert!(stale.weights.iter().all(|x| x.is_nan()));
+    let spoils: [fn(&mut Call); 4] =
+        [|_| (), |c| c.logical.confidences.fill(0.0), |c| c.transforms = vec![5, 5], |c| c.limit = 2.0];
+    for (place, spoil) in spoils.iter().enumerate() {
+        let mut call = call.clone();
+        spoil(&mut call);
+        for decode in [Call::hard, Call::soft] {
+            let mut room = stale.clone();
+            let answer = decode(&call, &mut room);
+            assert_eq!(answer, decode(&call, &mut Room::new()));
+            assert_eq!(answer.is_ok(), place == 0);
+            let untouched = if answer == Err(Refusal::BadSetting) { 0 } else { ROOM_WEIGHTS };
+            assert!(bits(&room.weights[..untouched]).iter().all(|x| *x == 0));
+            assert_eq!(bits(&room.weights[untouched..]), bits(&stale.weights[untouched..]));
+        }
+    }
+    // too short by one: nothing is written
+    for decode in [Call::hard, Call::soft] {
+        let mut room = Room { weights: nans(ROOM_WEIGHTS - 1), ..used_room() };
+        assert_eq!(decode(&call, &mut room), Err(Refusal::RoomTooShort));
+        assert_eq!(bits(&room.weights), bits(&nans(ROOM_WEIGHTS - 1)));
+    }
 }
 
 #[test]
@@ -584,6 +624,21 @@ fn refusals_have_numbers_and_words() {
         assert!(refusal.to_string().starts_with(&format!("refused ({})", place + 1)));
     }
     assert_eq!(Refusal::from_number(0), None);
+}
+
+/// A number above 15, which no archive of this wrapper's own gives: an `Err` of its own, whatever the other fields hold, and no panic.
+#[test]
+fn an_unknown_number_is_refused() {
+    let call = call();
+    let found = call.hard_raw(&mut used_room());
+    let fit = match_stats_raw(&call.physical, AT, call.patterns());
+    assert!(decoded(found).is_ok() && counted(fit).is_ok());
+    for number in [16, 17, 255, 256, 1315, 0x8000_0000, u32::MAX] {
+        assert_eq!(decoded(raw::Answer { refusal: number, ..found }), Err(Refusal::Unknown(number)));
+        assert_eq!(counted(raw::Stats { refusal: number, ..fit }), Err(Refusal::Unknown(number)));
+        assert_eq!(Refusal::Unknown(number).number(), number);
+        assert_eq!(Refusal::Unknown(number).to_string(), format!("refused ({number}): a number that this wrapper does not know"));
+    }
 }
 
 #[test]

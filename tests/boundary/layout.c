@@ -1,5 +1,11 @@
-/* The header's structs, numbers and room sizes, field by field, as the static library has them. It is compiled and not run. */
+/* The header held against the static library. At compile time: its structs, numbers, room sizes and prototypes are the ones that are written
+ * here. At run time: the library's answers, read word by word, stand where the header's fields are and hold what they must hold; it gives each
+ * of the header's refusal numbers for the fault that the number names; and the header's lengths and ranges are where it changes its answer.
+ * Says what differs and ends with status 1, or says how much was held. */
 #include "samburext.h"
+
+#include <stdio.h>
+#include <string.h>
 
 #define AT(type, field, place) _Static_assert(offsetof(type, field) == 4 * (place), #type "." #field)
 
@@ -59,3 +65,226 @@ samburext_answer (*const soft)(const int32_t *, size_t, const int32_t *, size_t,
                                float, float, uint32_t *, size_t, float *, size_t, int64_t *, size_t) = samburext_decode_soft;
 samburext_stats (*const stats)(const int32_t *, size_t, const int32_t *, size_t, const uint8_t *, size_t, const uint8_t *, size_t, const float *, size_t,
                                uint32_t, uint32_t, uint32_t, const uint8_t *, size_t, const uint8_t *, size_t) = samburext_match_stats;
+
+/* ---- the library's own answers */
+
+enum { CORNERS = 12, EDGES = 2 * CORNERS * (CORNERS - 1), FEWER = EDGES - 4, MISSES = 2, ROW = 123, COLUMN = 456 };
+
+typedef struct list {
+    int32_t rows[SAMBUREXT_MAX_EDGES + 1], columns[SAMBUREXT_MAX_EDGES + 1];
+    uint8_t orientations[SAMBUREXT_MAX_EDGES + 1], bits[SAMBUREXT_MAX_EDGES + 1];
+    float confidences[SAMBUREXT_MAX_EDGES + 1];
+    size_t edges;
+} list;
+
+/* One call: each of the three functions takes from it what it needs. */
+static struct call {
+    list logical, physical;
+    float matches[SAMBUREXT_MAX_EDGES + 1], mismatches[SAMBUREXT_MAX_EDGES + 1];
+    size_t likelihoods;
+    uint8_t transforms[SAMBUREXT_MAX_TRANSFORMS + 1], horizontal[SAMBUREXT_TABLE_LENGTH + 1], vertical[SAMBUREXT_TABLE_LENGTH + 1];
+    size_t transforms_length, horizontal_length, vertical_length, counts_length, weights_length, sums_length;
+    float error_limit, soft_margin;
+    uint32_t transform, row, column;
+} call;
+
+static uint32_t counts[SAMBUREXT_ROOM_COUNTS];
+static float weights[SAMBUREXT_ROOM_WEIGHTS];
+static int64_t sums[SAMBUREXT_ROOM_SUMS];
+static int held, failed;
+
+static void hold(int good, const char *what)
+{
+    held++;
+    if (!good) {
+        failed++;
+        printf("the header and the library differ: %s\n", what);
+    }
+}
+
+/* The bit that the board predicts under transform 0, whose lookup is one row up for a horizontal edge and one column back for a vertical one. */
+static uint8_t seen(int32_t row, int32_t column, uint8_t orientation, int32_t at_row)
+{
+    if (orientation == 0)
+        return (uint8_t)(call.horizontal[(row - 1 + at_row) % 167] >> (column + COLUMN) % 3 & 1);
+    return (uint8_t)(call.vertical[(column - 1 + COLUMN) % 167] >> (row + at_row) % 3 & 1);
+}
+
+static void fill_list(list *to, int32_t at_row)
+{
+    size_t n = 0;
+    for (uint8_t orientation = 0; orientation < 2; orientation++)
+        for (int32_t row = 0; row < CORNERS - orientation; row++)
+            for (int32_t column = 0; column < CORNERS - 1 + orientation; column++, n++) {
+                to->rows[n] = row;
+                to->columns[n] = column;
+                to->orientations[n] = orientation;
+                to->bits[n] = seen(row, column, orientation, at_row);
+                to->confidences[n] = 0.75f;
+            }
+    to->edges = n;
+}
+
+/* A call that all three functions take: a clean logical list but for two wrong bits, and a physical list that is four edges shorter. */
+static void fill_call(void)
+{
+    uint32_t state = 12345u;
+    memset(&call, 0, sizeof call);
+    for (int i = 0; i < 2 * SAMBUREXT_TABLE_LENGTH; i++) {
+        state = state * 1664525u + 1013904223u;
+        (i < SAMBUREXT_TABLE_LENGTH ? call.horizontal : call.vertical)[i % SAMBUREXT_TABLE_LENGTH] = (uint8_t)((state >> 24) % 8);
+    }
+    fill_list(&call.logical, ROW);
+    fill_list(&call.physical, ROW);
+    call.physical.edges = FEWER;
+    for (int i = 0; i < MISSES; i++)
+        call.logical.bits[7 + i] ^= 1;
+    for (int i = 0; i <= SAMBUREXT_MAX_EDGES; i++) {
+        call.matches[i] = -0.125f;
+        call.mismatches[i] = -2.5f;
+    }
+    call.likelihoods = FEWER;
+    for (uint8_t i = 0; i <= SAMBUREXT_MAX_TRANSFORMS; i++)
+        call.transforms[i] = i % SAMBUREXT_MAX_TRANSFORMS;
+    call.transforms_length = SAMBUREXT_MAX_TRANSFORMS;
+    call.horizontal_length = call.vertical_length = SAMBUREXT_TABLE_LENGTH;
+    call.counts_length = SAMBUREXT_ROOM_COUNTS;
+    call.weights_length = SAMBUREXT_ROOM_WEIGHTS;
+    call.sums_length = SAMBUREXT_ROOM_SUMS;
+    call.error_limit = 0.25f;
+    call.soft_margin = 0.125f;
+    call.row = ROW;
+    call.column = COLUMN;
+}
+
+#define LIST(l) (l).rows, (l).edges, (l).columns, (l).edges, (l).orientations, (l).edges, (l).bits, (l).edges, (l).confidences, (l).edges
+#define TABLES call.horizontal, call.horizontal_length, call.vertical, call.vertical_length
+
+static samburext_answer run_hard(void)
+{
+    return hard(LIST(call.logical), LIST(call.physical), call.transforms, call.transforms_length, TABLES, call.error_limit, counts,
+                call.counts_length, weights, call.weights_length);
+}
+
+static samburext_answer run_soft(void)
+{
+    return soft(LIST(call.logical), LIST(call.physical), call.matches, call.likelihoods, call.mismatches, call.likelihoods, call.transforms,
+                call.transforms_length, TABLES, call.error_limit, call.soft_margin, counts, call.counts_length, weights, call.weights_length,
+                sums, call.sums_length);
+}
+
+static samburext_stats run_stats(const list *of, uint32_t transform, uint32_t row, uint32_t column)
+{
+    return stats(LIST(*of), transform, row, column, TABLES);
+}
+
+static float number(uint32_t word)
+{
+    float x;
+    memcpy(&x, &word, sizeof x);
+    return x;
+}
+
+/* A found answer, word by word. What a field must hold is worked out here, and of the runner-up by match statistics. */
+static void found(const samburext_answer *a, const list *of, float score, float best, float margin, const char *what)
+{
+    uint32_t w[sizeof *a / 4];
+    memcpy(w, a, sizeof *a);
+    uint32_t misses = of == &call.logical ? MISSES : 0, edges = (uint32_t)of->edges;
+    hold(w[0] == SAMBUREXT_FOUND && w[1] == 0 && w[2] == ROW && w[3] == COLUMN && w[4] == edges - misses && w[5] == edges, what);
+    hold(number(w[6]) == score && number(w[7]) == (float)misses / (float)edges && number(w[8]) == 0.75f && number(w[9]) == best, what);
+    samburext_stats next = run_stats(&call.logical, w[12], w[13], w[14]);
+    hold(next.refusal == SAMBUREXT_FOUND && (float)next.hits == number(w[10]) && next.hits < EDGES - MISSES, what);
+    hold(margin == 0 ? number(w[11]) >= 0.125f && number(w[11]) < 2.5f : number(w[11]) == margin - number(w[10]), what);
+}
+
+/* A refused answer of so many words: the number, and nothing else in any of them. */
+static int only(const void *answer, size_t size, uint32_t refusal)
+{
+    uint32_t w[sizeof(samburext_answer) / 4];
+    memcpy(w, answer, size);
+    int good = w[0] == refusal;
+    for (size_t i = 1; i < size / 4; i++) {
+        int whole = size == sizeof(samburext_stats) ? i < 3 : i < 6 || i > 11;
+        good = good && (whole ? w[i] == SAMBUREXT_NOTHING : number(w[i]) != number(w[i]));
+    }
+    return good;
+}
+
+/* What the call as it stands must be: 0 or a refusal's number, by hard decode, by soft decode and by match statistics of the physical list;
+ * OTHER where this does not matter. The call is made good again. */
+enum { OTHER = 99 };
+
+static void expect(uint32_t by_hard, uint32_t by_soft, uint32_t by_stats, const char *what)
+{
+    samburext_answer h = run_hard(), s = run_soft();
+    samburext_stats m = run_stats(&call.physical, call.transform, call.row, call.column);
+    hold(by_hard == OTHER || (by_hard == SAMBUREXT_FOUND ? h.refusal == 0 : only(&h, sizeof h, by_hard)), what);
+    hold(by_soft == OTHER || (by_soft == SAMBUREXT_FOUND ? s.refusal == 0 : only(&s, sizeof s, by_soft)), what);
+    hold(by_stats == OTHER || (by_stats == SAMBUREXT_FOUND ? m.refusal == 0 : only(&m, sizeof m, by_stats)), what);
+    fill_call();
+}
+
+static void both(uint32_t refusal, const char *what) { expect(refusal, refusal, OTHER, what); }
+static void all(uint32_t refusal, const char *what) { expect(refusal, refusal, refusal, what); }
+
+static void long_lists(size_t edges)
+{
+    for (size_t i = FEWER; i < edges; i++) {
+        call.physical.rows[i] = call.physical.rows[0];
+        call.physical.columns[i] = call.physical.columns[0];
+        call.physical.orientations[i] = call.physical.orientations[0];
+        call.physical.bits[i] = call.physical.bits[0];
+        call.physical.confidences[i] = 0.75f;
+    }
+    call.physical.edges = call.likelihoods = edges;
+    call.soft_margin = 0; /* one edge again and again leaves little of it */
+}
+
+int main(void)
+{
+    fill_call();
+    samburext_answer h = run_hard();
+    found(&h, &call.logical, 0.75f * (EDGES - MISSES) / (0.75f * EDGES), 0.75f * (EDGES - MISSES) / (0.75f * EDGES), EDGES - MISSES, "hard, found");
+    samburext_answer s = run_soft();
+    found(&s, &call.physical, -0.125f, -0.125f * FEWER, 0, "soft, found");
+    samburext_stats m = run_stats(&call.logical, 0, ROW, COLUMN);
+    uint32_t w[sizeof m / 4];
+    memcpy(w, &m, sizeof m);
+    hold(w[0] == 0 && w[1] == EDGES && w[2] == EDGES - MISSES && number(w[3]) == (float)MISSES / EDGES && number(w[4]) == 0.75f, "statistics");
+    all(SAMBUREXT_FOUND, "a call that is taken");
+
+    call.counts_length--, both(SAMBUREXT_ROOM_TOO_SHORT, "SAMBUREXT_ROOM_COUNTS");
+    call.weights_length--, both(SAMBUREXT_ROOM_TOO_SHORT, "SAMBUREXT_ROOM_WEIGHTS");
+    call.sums_length--, expect(SAMBUREXT_FOUND, SAMBUREXT_ROOM_TOO_SHORT, SAMBUREXT_FOUND, "SAMBUREXT_ROOM_SUMS");
+    call.likelihoods--, expect(SAMBUREXT_FOUND, SAMBUREXT_LENGTHS_DIFFER, SAMBUREXT_FOUND, "SAMBUREXT_LENGTHS_DIFFER");
+    call.logical.edges = 0, both(SAMBUREXT_LIST_SIZE, "an empty list");
+    long_lists(SAMBUREXT_MAX_EDGES), all(SAMBUREXT_FOUND, "SAMBUREXT_MAX_EDGES");
+    long_lists(SAMBUREXT_MAX_EDGES + 1), all(SAMBUREXT_LIST_SIZE, "SAMBUREXT_MAX_EDGES and one");
+    call.physical.rows[0] = 1000001, all(SAMBUREXT_EDGE_OUT_OF_RANGE, "a row");
+    call.physical.columns[0] = -1000001, all(SAMBUREXT_EDGE_OUT_OF_RANGE, "a column");
+    call.physical.orientations[0] = 2, all(SAMBUREXT_EDGE_OUT_OF_RANGE, "an orientation");
+    call.physical.bits[0] = 2, all(SAMBUREXT_EDGE_OUT_OF_RANGE, "a bit");
+    call.physical.confidences[0] = 1.5f, all(SAMBUREXT_BAD_CONFIDENCE, "a confidence");
+    call.matches[0] = 65537, expect(SAMBUREXT_FOUND, SAMBUREXT_BAD_LIKELIHOOD, SAMBUREXT_FOUND, "a likelihood");
+    call.mismatches[0] = -65537, expect(SAMBUREXT_FOUND, SAMBUREXT_BAD_LIKELIHOOD, SAMBUREXT_FOUND, "a mismatch likelihood");
+    call.transforms_length++, both(SAMBUREXT_BAD_TRANSFORM, "SAMBUREXT_MAX_TRANSFORMS");
+    call.transform = 8, expect(SAMBUREXT_FOUND, SAMBUREXT_FOUND, SAMBUREXT_BAD_TRANSFORM, "a transform");
+    call.horizontal_length++, all(SAMBUREXT_BAD_TABLE, "SAMBUREXT_TABLE_LENGTH, horizontal");
+    call.vertical_length--, all(SAMBUREXT_BAD_TABLE, "SAMBUREXT_TABLE_LENGTH, vertical");
+    call.error_limit = 1.5f, both(SAMBUREXT_BAD_SETTING, "an error limit");
+    call.soft_margin = -1, expect(SAMBUREXT_FOUND, SAMBUREXT_BAD_SETTING, SAMBUREXT_FOUND, "a soft margin");
+    call.row = call.column = SAMBUREXT_BOARD_SQUARES - 1, all(SAMBUREXT_FOUND, "the last square");
+    call.row = SAMBUREXT_BOARD_SQUARES, expect(SAMBUREXT_FOUND, SAMBUREXT_FOUND, SAMBUREXT_BAD_SETTING, "SAMBUREXT_BOARD_SQUARES, row");
+    call.column = SAMBUREXT_BOARD_SQUARES, expect(SAMBUREXT_FOUND, SAMBUREXT_FOUND, SAMBUREXT_BAD_SETTING, "SAMBUREXT_BOARD_SQUARES, column");
+
+    memset(call.logical.confidences, 0, sizeof call.logical.confidences), both(SAMBUREXT_NO_CONFIDENCE, "no confidence");
+    call.error_limit = 0, both(SAMBUREXT_NONE_WITHIN_LIMIT, "a limit of no misses");
+    fill_list(&call.physical, ROW + 7), call.likelihoods = EDGES;
+    expect(SAMBUREXT_LISTS_DISAGREE, SAMBUREXT_SOFT_HARD_DISAGREE, SAMBUREXT_FOUND, "a physical list of another square");
+    call.transforms[1] = 0, call.soft_margin = 0, both(SAMBUREXT_NOT_FAR_AHEAD, "a transform listed twice");
+    call.soft_margin = 65536, expect(SAMBUREXT_FOUND, SAMBUREXT_SOFT_MARGIN, SAMBUREXT_FOUND, "a soft margin that no call has");
+
+    printf("%d of %d hold\n", held - failed, held);
+    return failed != 0;
+}

@@ -19,7 +19,7 @@ pub enum Likelihood {
     Sigmoid,
     /// A number from -scale to scale that looks random, from the bits of x and a seed.
     Scattered { seed: u32, scale: f32 },
-    /// What `list_likelihoods` was told of that confidence.
+    /// What `list_likelihoods` was told of that edge.
     Listed,
 }
 

@@ -9,8 +9,7 @@ use oracle::{Case, Likelihood, Soft, Square};
 fn answer(map: usize, call: &Call) -> Words {
     let physical = call.physical.edges();
     let pairs = call.matches.iter().zip(&call.mismatches).map(|(&m, &n)| (f32::from_bits(m), f32::from_bits(n)));
-    let listed: Vec<(f32, (f32, f32))> = physical.iter().map(|e| e.confidence).zip(pairs).collect();
-    oracle::list_likelihoods(&listed);
+    oracle::list_likelihoods(&pairs.collect::<Vec<(f32, f32)>>());
     let margin = f32::from_bits(call.margin);
     let case = Case {
         map,

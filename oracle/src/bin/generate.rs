@@ -1,10 +1,11 @@
 //! generate KIND COUNT SEED FILE: COUNT fresh cases with the Rust's answers, in the form that `replay` reads.
 //!
-//! KIND is `fresh` (for a long comparison), `sample` (for the stored sample) or `pairs` (class pairs around 1,024 and ties by rounding).
+//! KIND is `fresh` (for a long comparison), `sample` (for the stored sample), `pairs` (class pairs around 1,024 and ties by rounding) or `rare`
+//! (what the stored sample has none of; one fresh case in twenty is such a one).
 
 use oracle::cases::{self, Pairs};
 use oracle::file::{self, Call, File, Words};
-use oracle::{Case, Random};
+use oracle::{Case, Random, Square};
 
 fn around_1024(r: &mut Random, pairs: &[Pairs]) -> Option<Case> {
     let pool = &pairs[r.below(pairs.len() as u64) as usize];
@@ -36,6 +37,29 @@ fn case(i: usize, r: &mut Random, pairs: &[Pairs], sample: bool) -> Option<Case>
     }
 }
 
+/// What the stored sample has none of, in turn: lists of five to seven transforms, likelihoods of each edge's own, match statistics where the window was cut
+/// and of an empty list. With the kind of call, and the placing for match statistics.
+fn rare(turn: usize, r: &mut Random) -> (u32, Case, Square) {
+    let size = cases::squares(r);
+    let (mut case, at) = cases::placed_view(r, size, true);
+    let kind = match turn % 6 {
+        0 | 1 => {
+            cases::five_to_seven(r, &mut case.transforms);
+            [file::HARD, file::SOFT, file::SELECTION][r.below(3) as usize]
+        }
+        2 | 3 => {
+            cases::own_likelihoods(r, &mut case);
+            file::SOFT
+        }
+        4 => file::STATS,
+        _ => {
+            case.physical.clear();
+            file::STATS
+        }
+    };
+    (kind, case, at)
+}
+
 /// A soft margin that is exactly the found one, or the next float above it, which is refused.
 fn at_the_margin(case: &mut Case, r: &mut Random) {
     if let (true, Ok(f)) = (r.once_in(3), oracle::soft(case)) {
@@ -43,9 +67,16 @@ fn at_the_margin(case: &mut Case, r: &mut Random) {
     }
 }
 
+/// The case's maps, its call, and the Rust's answer.
+fn answered(kind: u32, case: &Case, at: &Square) -> (usize, Call, Words) {
+    let call = Call::of(kind, case, &oracle::likelihoods(case), at);
+    (case.map, call, oracle::answer(kind, case, at))
+}
+
 fn main() {
     let words: Vec<String> = std::env::args().collect();
     assert_eq!(words.len(), 5, "generate KIND COUNT SEED FILE");
+    assert!(["fresh", "sample", "pairs", "rare"].contains(&words[1].as_str()), "KIND is fresh, sample, pairs or rare");
     let sample = words[1] == "sample";
     let count: usize = words[2].parse().expect("a count");
     let seed: u64 = words[3].parse().expect("a seed");
@@ -55,6 +86,18 @@ fn main() {
     for i in 0.. {
         if made.len() == count {
             break;
+        }
+        if words[1] == "rare" || words[1] == "fresh" && i % 20 == 19 {
+            let turn = if words[1] == "rare" { i } else { i / 20 };
+            let (kind, mut case, at) = rare(turn, &mut r);
+            if case.logical.is_empty() || case.physical.is_empty() && kind != file::STATS {
+                continue;
+            }
+            if kind == file::SOFT {
+                at_the_margin(&mut case, &mut r);
+            }
+            made.push(answered(kind, &case, &at));
+            continue;
         }
         let made_now = match words[1].as_str() {
             "pairs" if i % 4 == 0 => Some(cases::near_tie(&mut r)),
@@ -75,8 +118,7 @@ fn main() {
             at_the_margin(&mut case, &mut r);
         }
         let at = cases::placing(&mut r);
-        let call = Call::of(kind, &case, &oracle::likelihoods(&case), &at);
-        made.push((case.map, call, oracle::answer(kind, &case, &at)));
+        made.push(answered(kind, &case, &at));
     }
     made.sort_by_key(|m| m.0);
     let mut file = File::default();

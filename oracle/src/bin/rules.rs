@@ -1,5 +1,7 @@
 //! rules FILE WRONG: cases of our own for refusals 1 to 9, whose answers are document 01's and not the Rust's; and a file whose
 //! answers are wrong on purpose, by which `replay` shows that it reports every word that differs.
+//!
+//! rules FILE: further cases of that kind, which are not stored; `oracle/compare` makes and replays them each time.
 
 use oracle::file::{self, Call, Columns, File, Words};
 use oracle::{Case, Edge, Likelihood, Soft, Square};
@@ -119,6 +121,39 @@ fn faults(kind: u32) -> Vec<Fault> {
     out
 }
 
+/// Faults that the stored calls have none of.
+fn further_faults(kind: u32) -> Vec<Fault> {
+    let mut out: Vec<Fault> = Vec::new();
+    if kind == file::STATS {
+        out.extend([
+            (7, "number 255", (|c: &mut Call| c.at[0] = 255) as fn(&mut Call)),
+            (9, "row 65,536", |c| c.at[1] = 65536),
+            (9, "row -1", |c| c.at[1] = u32::MAX),
+            (9, "column -1", |c| c.at[2] = u32::MAX),
+        ]);
+    } else {
+        out.extend([
+            (7, "number 255", (|c: &mut Call| c.transforms[0] = 255) as fn(&mut Call)),
+            (9, "limit infinite", |c| c.limit = INFINITY),
+            (9, "limit minus infinite", |c| c.limit = SIGN + INFINITY),
+            (9, "limit -NaN", |c| c.limit = SIGN + NAN),
+        ]);
+    }
+    if kind == file::SOFT {
+        out.extend([
+            (6, "match next below -65,536", (|c: &mut Call| c.matches[0] = SIGN + TOP + 1) as fn(&mut Call)),
+            (6, "mismatch next above 65,536", |c| c.mismatches[0] = TOP + 1),
+            (6, "match minus infinite", |c| c.matches[1] = SIGN + INFINITY),
+            (6, "mismatch infinite", |c| c.mismatches[1] = INFINITY),
+            (6, "match -NaN", |c| c.matches[2] = SIGN + NAN),
+            (6, "mismatch signalling", |c| c.mismatches[2] = INFINITY + 1),
+            (9, "margin infinite", |c| c.margin = INFINITY),
+            (9, "margin minus infinite", |c| c.margin = SIGN + INFINITY),
+        ]);
+    }
+    out
+}
+
 const KINDS: [u32; 4] = [file::HARD, file::SOFT, file::STATS, file::SELECTION];
 
 /// Each fault alone, then each with the next of a higher number: the lower one is given.
@@ -189,6 +224,97 @@ fn too_long(file: &mut File, case: &Case) {
     file.call(&call(file::HARD, &long), &file::refused(3));
 }
 
+/// Each further fault alone, and beside every other fault: the lower number is given.
+fn further_faulty(file: &mut File, case: &Case) {
+    for kind in KINDS {
+        for (number, _, bend) in further_faults(kind) {
+            let mut one = call(kind, case);
+            bend(&mut one);
+            file.call(&one, &file::refused(number));
+            for (other, _, also) in faults(kind) {
+                if other != number {
+                    let mut two = call(kind, case);
+                    bend(&mut two);
+                    also(&mut two);
+                    file.call(&two, &file::refused(number.min(other)));
+                }
+            }
+        }
+    }
+}
+
+/// Wrong tables that the stored calls have none of, each for every kind of call.
+fn further_tables(file: &mut File, case: &Case) {
+    let (h, v) = oracle::patterns(0);
+    let with = |t: &[u8], at: usize, pattern: u8| {
+        let mut t = t.to_vec();
+        t[at] = pattern;
+        t
+    };
+    let longer = [&v[..], &[0]].concat();
+    let tables = [
+        (with(&h, 0, 8), v.clone()),
+        (with(&h, 166, 8), v.clone()),
+        (with(&h, 83, 255), v.clone()),
+        (h.clone(), with(&v, 0, 8)),
+        (h.clone(), with(&v, 83, 255)),
+        (h.clone(), longer),
+        (h.clone(), Vec::new()),
+    ];
+    for (h, v) in tables {
+        file.tables(&h, &v);
+        for kind in KINDS {
+            file.call(&call(kind, case), &file::refused(8));
+        }
+    }
+}
+
+/// Soft decode of the case with one pair of likelihoods for edges of even place and one for the others, by the Rust.
+fn with_likelihoods(case: &Case, even: (f32, f32), odd: (f32, f32)) -> Case {
+    let pairs: Vec<(f32, f32)> = (0..case.physical.len()).map(|i| if i % 2 == 0 { even } else { odd }).collect();
+    oracle::list_likelihoods(&pairs);
+    Case { soft: Soft { likelihood: Likelihood::Listed, kappa: 1.0, floor: f32::NEG_INFINITY, margin: 0.0 }, ..case.clone() }
+}
+
+/// Ends of ranges that the stored calls have none of, which are taken: the answer is the Rust's. The corners of the board under every transform; likelihoods
+/// of 65,536 in size, of few edges and of 8,192 (a sum of 2^53), and edges of one confidence that differ in them.
+fn further_ends(file: &mut File, case: &Case) {
+    for transform in 0..8 {
+        for (row, col) in [(0, 0), (0, 500), (500, 0), (500, 500)] {
+            let at = Square { transform, row, col };
+            let call = Call::of(file::STATS, case, &[], &at);
+            file.call(&call, &oracle::answer(file::STATS, case, &at));
+        }
+    }
+    let mut long = case.clone();
+    long.physical = (0..8192).map(|i| case.physical[i % case.physical.len()]).collect();
+    const T: f32 = 65536.0;
+    for case in [case, &long] {
+        for (even, odd) in [
+            ((T, -T), (T, -T)),
+            ((-T, T), (-T, T)),
+            ((T, T), (T, T)),
+            ((-T, -T), (-T, -T)),
+            ((T, -T), (-0.125, -2.5)),
+            ((-0.125, -2.5), (-0.25, -5.0)),
+        ] {
+            let case = with_likelihoods(case, even, odd);
+            file.call(&call(file::SOFT, &case), &answer(file::SOFT, &case));
+        }
+    }
+}
+
+/// The further calls.
+fn further(path: &str) {
+    let (h, v) = oracle::patterns(0);
+    let mut file = File::default();
+    file.tables(&h, &v);
+    further_faulty(&mut file, &view(2));
+    further_ends(&mut file, &view(6));
+    further_tables(&mut file, &view(2));
+    file.write(path).expect("the file");
+}
+
 /// One call of each kind that is found: every word of its answer changed in turn, then one bit of its list.
 fn wrong(file: &mut File) {
     let case = view(6);
@@ -209,7 +335,10 @@ fn wrong(file: &mut File) {
 
 fn main() {
     let words: Vec<String> = std::env::args().collect();
-    assert_eq!(words.len(), 3, "rules RULES WRONG");
+    if words.len() == 2 {
+        return further(&words[1]);
+    }
+    assert_eq!(words.len(), 3, "rules RULES WRONG, or rules FURTHER");
     let case = view(2);
     let (h, v) = oracle::patterns(0);
     let mut rules = File::default();

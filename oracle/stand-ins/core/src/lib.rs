@@ -8,25 +8,26 @@ include!(concat!(env!("OUT_DIR"), "/lattice.rs"));
 pub use lattice::{Coord, GridTransform, LatticeKind};
 use plain::{Likelihood, Random};
 use std::cell::{Cell, RefCell};
-use std::collections::HashMap;
 
 /// An alignment is a transform with a translation: the decode module passes one as the other.
 pub type GridAlignment = GridTransform;
 
 thread_local! {
     static LIKELIHOOD: Cell<Likelihood> = const { Cell::new(Likelihood::Sigmoid) };
-    static LISTED: RefCell<HashMap<u32, f32>> = RefCell::default();
+    static LISTED: RefCell<Vec<f32>> = RefCell::default();
+    static TURN: Cell<usize> = const { Cell::new(0) };
 }
 
-/// The likelihoods of confidences, for `Likelihood::Listed`: the first is given at the confidence, the second at its negative.
-pub fn list_likelihoods(pairs: &[(f32, (f32, f32))]) {
-    let signs = pairs.iter().flat_map(|&(c, (a, b))| [((-c).to_bits(), b), (c.to_bits(), a)]);
-    LISTED.with(|listed| *listed.borrow_mut() = signs.collect());
+/// The likelihoods of a physical list's edges, match then mismatch, for `Likelihood::Listed`. The given soft decode asks for the two of each edge in the
+/// list's order, and again from the first edge on for each transform; so they are given in turn, and edges of one confidence may differ in them.
+pub fn list_likelihoods(pairs: &[(f32, f32)]) {
+    LISTED.with(|listed| *listed.borrow_mut() = pairs.iter().flat_map(|&(a, b)| [a, b]).collect());
 }
 
-/// What `log_sigmoid` gives on this thread from now on.
+/// What `log_sigmoid` gives on this thread from now on; the turn is the first edge's.
 pub fn set_likelihood(l: Likelihood) {
     LIKELIHOOD.with(|cell| cell.set(l));
+    TURN.with(|turn| turn.set(0));
 }
 
 /// The logarithm of 1 / (1 + exp(-x)), or what `set_likelihood` put in its place.
@@ -38,6 +39,10 @@ pub fn log_sigmoid(x: f32) -> f32 {
             let mut r = Random((seed as u64) << 32 | x.to_bits() as u64);
             (r.unit() * 2.0 - 1.0) * scale
         }
-        Likelihood::Listed => LISTED.with(|listed| listed.borrow()[&x.to_bits()]),
+        Likelihood::Listed => LISTED.with(|listed| {
+            let turn = TURN.with(|turn| turn.replace(turn.get() + 1));
+            let listed = listed.borrow();
+            listed[turn % listed.len()]
+        }),
     }
 }

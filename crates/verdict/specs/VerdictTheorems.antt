@@ -8,7 +8,7 @@ use lib.Dec.{eqb}
 use lib.IntN.{pos}
 use lib.Ieee.{binary32, ofInt}
 use borrow.Author.Tests.{eq-eqb, eqb-true}
-use Rattle.laws.specs.Tests.{not-so, and-true}
+use Rattle.laws.specs.Tests.{clash, not-so, and-true}
 use Rattle.refusals.specs.declared.Refusal.{Refusal}
 use Rattle.refusals.specs.declared.Admission.{Admission}
 use Rattle.refusals.specs.declared.Admission.the-variants as admission
@@ -61,11 +61,54 @@ of-agree t P s Q a = rw (eq-eqb t s (a .transform), eq-eqb (P .row) (Q .row) (a 
 of-differ : (t : ℕ) (P : Placing) (s : ℕ) (Q : Placing) → (Agree t P s Q → ⊥) → test t P s Q ≡ false
 of-differ t P s Q n = not-so (test t P s Q) (λ e. n (agree-of t P s Q e))
 
+-- ---- two tests, one inside the other
+pick-first : (a b : Bool) (x y z : Answer) → a ≡ true → b ≡ true → pick a (pick b x y) z ≡ x
+pick-first true true x y z p q = refl
+pick-first true false x y z p q = clash q refl
+pick-first false b x y z p q = clash p refl
+
+pick-second : (a b : Bool) (x y z : Answer) → a ≡ true → b ≡ false → pick a (pick b x y) z ≡ y
+pick-second true true x y z p q = clash refl q
+pick-second true false x y z p q = refl
+pick-second false b x y z p q = clash p refl
+
+pick-last : (a : Bool) (x z : Answer) → a ≡ false → pick a x z ≡ z
+pick-last true x z p = clash refl p
+pick-last false x z p = refl
+
+cond-first : (a b : Bool) (x y z : Admission) → a ≡ true → b ≡ true → cond a (cond b x y) z ≡ x
+cond-first true true x y z p q = refl
+cond-first true false x y z p q = clash q refl
+cond-first false b x y z p q = clash p refl
+
+cond-second : (a b : Bool) (x y z : Admission) → a ≡ true → b ≡ false → cond a (cond b x y) z ≡ y
+cond-second true true x y z p q = clash refl q
+cond-second true false x y z p q = refl
+cond-second false b x y z p q = clash p refl
+
+cond-last : (a : Bool) (x z : Admission) → a ≡ false → cond a x z ≡ z
+cond-last true x z p = clash refl p
+cond-last false x z p = refl
+
 no-square : (d : Decoded) (r : Refusal) → Refused r ≡ Found d → ⊥
 no-square d r e = let z : _≡_ {A = ℕ} 0 1 = cc in omega arith
 
 -- ---- hard: the logical winner w under the transform t, with its runner-up, and the physical winner p under the transform s
 module _ (t : ℕ) (w : Candidate) (runner : RunnerUp) (s : ℕ) (p : Candidate) (edges : ℕ) where
+  -- WINNERS THAT AGREE AND PASS ARE FOUND
+  pub judged-complete : Agree t (w .placing) s (p .placing) → passed edges (w .hits) (runner .hits) ≡ true → (d : Decoded) × (judged t w runner s p edges ≡ Found d)
+  unfolding judged agreed
+  judged-complete a g = (decodedOf t w runner edges, pick-first (test t (w .placing) s (p .placing)) (passed edges (w .hits) (runner .hits)) _ _ _ (of-agree t (w .placing) s (p .placing) a) g)
+
+  -- 12 where they differ, 13 where they agree and do not pass
+  pub judged-12 : (Agree t (w .placing) s (p .placing) → ⊥) → judged t w runner s p edges ≡ refusedBy why.listsDisagree
+  unfolding judged agreed
+  judged-12 n = pick-last (test t (w .placing) s (p .placing)) _ _ (of-differ t (w .placing) s (p .placing) n)
+
+  pub judged-13 : Agree t (w .placing) s (p .placing) → passed edges (w .hits) (runner .hits) ≡ false → judged t w runner s p edges ≡ refusedBy why.notFarAhead
+  unfolding judged agreed
+  judged-13 a g = pick-second (test t (w .placing) s (p .placing)) (passed edges (w .hits) (runner .hits)) _ _ _ (of-agree t (w .placing) s (p .placing) a) g
+
   -- what a found answer says
   pub record Judged (d : Decoded) : Type 0 where
     pub agree : Agree t (w .placing) s (p .placing)
@@ -94,22 +137,22 @@ module _ (t : ℕ) (w : Candidate) (runner : RunnerUp) (s : ℕ) (p : Candidate)
   unfolding judged agreed
   judged-sound d h = by-agreed d (test t (w .placing) s (p .placing)) refl h
 
-  -- WINNERS THAT AGREE AND PASS ARE FOUND
-  pub judged-complete : Agree t (w .placing) s (p .placing) → passed edges (w .hits) (runner .hits) ≡ true → (d : Decoded) × (judged t w runner s p edges ≡ Found d)
-  unfolding judged agreed
-  judged-complete a g = (decodedOf t w runner edges, rw (of-agree t (w .placing) s (p .placing) a, g))
-
-  -- 12 where they differ, 13 where they agree and do not pass
-  pub judged-12 : (Agree t (w .placing) s (p .placing) → ⊥) → judged t w runner s p edges ≡ refusedBy why.listsDisagree
-  unfolding judged agreed
-  judged-12 n = rw (of-differ t (w .placing) s (p .placing) n)
-
-  pub judged-13 : Agree t (w .placing) s (p .placing) → passed edges (w .hits) (runner .hits) ≡ false → judged t w runner s p edges ≡ refusedBy why.notFarAhead
-  unfolding judged agreed
-  judged-13 a g = rw (of-agree t (w .placing) s (p .placing) a, g)
-
 -- ---- soft: the winner by likelihood under the transform t, and the hard winner w of the logical list under the transform s
 module _ (t : ℕ) (first : SoftCandidate) (s : ℕ) (w : Candidate) (runner : RunnerUp) (edges : ℕ) where
+  -- WINNERS THAT AGREE AND PASS ARE ACCEPTED
+  pub soft-verdict-complete : Agree t (first .placing) s (w .placing) → passed edges (w .hits) (runner .hits) ≡ true → softVerdict t first s w runner edges ≡ admission.Accepted
+  unfolding softVerdict
+  soft-verdict-complete a g = cond-first (test t (first .placing) s (w .placing)) (passed edges (w .hits) (runner .hits)) _ _ _ (of-agree t (first .placing) s (w .placing) a) g
+
+  -- 15 where they differ, 13 where they agree and do not pass
+  pub soft-verdict-15 : (Agree t (first .placing) s (w .placing) → ⊥) → softVerdict t first s w runner edges ≡ admission.Refused (numbered why.softHardDisagree)
+  unfolding softVerdict
+  soft-verdict-15 n = cond-last (test t (first .placing) s (w .placing)) _ _ (of-differ t (first .placing) s (w .placing) n)
+
+  pub soft-verdict-13 : Agree t (first .placing) s (w .placing) → passed edges (w .hits) (runner .hits) ≡ false → softVerdict t first s w runner edges ≡ admission.Refused (numbered why.notFarAhead)
+  unfolding softVerdict
+  soft-verdict-13 a g = cond-second (test t (first .placing) s (w .placing)) (passed edges (w .hits) (runner .hits)) _ _ _ (of-agree t (first .placing) s (w .placing) a) g
+
   -- ACCEPTED MEANS TRUE
   pub soft-verdict-sound : softVerdict t first s w runner edges ≡ admission.Accepted → Agree t (first .placing) s (w .placing) × (passed edges (w .hits) (runner .hits) ≡ true)
   unfolding softVerdict
@@ -120,20 +163,6 @@ module _ (t : ℕ) (first : SoftCandidate) (s : ℕ) (w : Candidate) (runner : R
       go true true e g k = (agree-of t (first .placing) s (w .placing) e, g)
       go true false e g k = let z : _≡_ {A = ℕ} 0 1 = cc in absurd (omega arith)
       go false b e g k = let z : _≡_ {A = ℕ} 0 1 = cc in absurd (omega arith)
-
-  -- WINNERS THAT AGREE AND PASS ARE ACCEPTED
-  pub soft-verdict-complete : Agree t (first .placing) s (w .placing) → passed edges (w .hits) (runner .hits) ≡ true → softVerdict t first s w runner edges ≡ admission.Accepted
-  unfolding softVerdict
-  soft-verdict-complete a g = rw (of-agree t (first .placing) s (w .placing) a, g)
-
-  -- 15 where they differ, 13 where they agree and do not pass
-  pub soft-verdict-15 : (Agree t (first .placing) s (w .placing) → ⊥) → softVerdict t first s w runner edges ≡ admission.Refused (numbered why.softHardDisagree)
-  unfolding softVerdict
-  soft-verdict-15 n = rw (of-differ t (first .placing) s (w .placing) n)
-
-  pub soft-verdict-13 : Agree t (first .placing) s (w .placing) → passed edges (w .hits) (runner .hits) ≡ false → softVerdict t first s w runner edges ≡ admission.Refused (numbered why.notFarAhead)
-  unfolding softVerdict
-  soft-verdict-13 a g = rw (of-agree t (first .placing) s (w .placing) a, g)
 
 -- A FOUND SOFT ANSWER SAYS the soft winner's square with its total and margin, the physical list's hits, and the hard runner-up
 pub soft-says : (t : ℕ) (best : SoftBest) (fit : Fit) (edges : ℕ) (runner : RunnerUp)

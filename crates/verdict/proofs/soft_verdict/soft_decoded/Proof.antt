@@ -25,20 +25,7 @@ int-to-float-runner-up-score c = le→leb (c .before .before .before .before .be
 
 returns : tie.Need-returns
 unfolding softDecodedOf
-returns c =
-    let a = c .before .before .before .before .before .args in
-    λ i. record {
-      square = record { transform = a .t; row = a .best .first .placing .row; col = a .best .first .placing .col };
-      hits = a .fit .hits;
-      edges = a .edges;
-      «weighted_score» = div binary32 (a .best .first .total) (ofInt binary32 (pos (a .edges)));
-      «error_rate» = c .before .before .rate .ensures i;
-      «mean_confidence» = c .before .mean .ensures i;
-      «best_score» = a .best .first .total;
-      «runner_up_score» = ofInt binary32 (pos (a .runner .hits));
-      margin = a .best .margin;
-      «runner_up» = record { transform = a .runner .transform; row = a .runner .row; col = a .runner .col };
-    }
+returns c = rw (c .before .before .rate .ensures, c .before .mean .ensures)
 
 pub soft-decoded-spec : {M : Type 1} → statement M
 soft-decoded-spec = tie.close (tie.spec int-to-float-weighted-score rate-requires mean-requires int-to-float-runner-up-score returns)

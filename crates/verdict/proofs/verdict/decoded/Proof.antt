@@ -28,20 +28,7 @@ int-to-float-margin c = le→leb (c .before .margin .result) (2 ^ 24) (omega (ar
 
 returns : tie.Need-returns
 unfolding decodedOf
-returns c =
-    let a = c .before .before .before .before .before .args in
-    λ i. record {
-      square = record { transform = a .t; row = a .w .placing .row; col = a .w .placing .col };
-      hits = a .w .hits;
-      edges = a .edges;
-      «weighted_score» = a .w .score;
-      «error_rate» = c .before .before .before .before .rate .ensures i;
-      «mean_confidence» = c .before .before .before .mean .ensures i;
-      «best_score» = a .w .score;
-      «runner_up_score» = ofInt binary32 (pos (a .runner .hits));
-      margin = ofInt binary32 (pos (c .before .margin .ensures i));
-      «runner_up» = record { transform = a .runner .transform; row = a .runner .row; col = a .runner .col };
-    }
+returns c = rw (c .before .before .before .before .rate .ensures, c .before .before .before .mean .ensures, c .before .margin .ensures)
 
 pub decoded-spec : {M : Type 1} → statement M
 decoded-spec = tie.close (tie.spec rate-requires mean-requires int-to-float-runner-up-score margin-requires int-to-float-margin returns)

@@ -1,0 +1,175 @@
+-- What a verdict tells, in the winners' own numbers (demands 2 and 3 on this crate's definitions): found exactly when the winners agree and the gate is passed; a
+-- found answer tells the winner's square and hits, and the runner-up's. A refusal has its own number.
+use mathlib.Core.Path.{_≡_, refl, sym, ap, subst, _∙_}
+use mathlib.Core.Bool.{Bool, true, false, cond, _&&_}
+use Prim.Native.Nat.{ℕ, _-_}
+use native.Mathlib.Omega.{arith}
+use lib.Dec.{eqb}
+use lib.IntN.{pos}
+use lib.Ieee.{binary32, ofInt}
+use borrow.Author.Tests.{eq-eqb, eqb-true}
+use Rattle.laws.specs.Tests.{clash, not-so, and-true}
+use Rattle.refusals.specs.declared.Refusal.{Refusal}
+use Rattle.refusals.specs.declared.Admission.{Admission}
+use Rattle.refusals.specs.declared.Admission.the-variants as admission
+use Rattle.refusals.specs.Numbers.{numbered}
+use Rattle.refusals.specs.Numbers as why
+use Rattle.board.specs.declared.edge.Placing.{Placing}
+use Rattle.scan.specs.declared.scan.Candidate.{Candidate}
+use Rattle.scan.specs.declared.scan.RunnerUp.{RunnerUp}
+use Rattle.figures.specs.Gate.{passed}
+use Rattle.figures.specs.declared.Fit.{Fit}
+use Rattle.margin.specs.declared.slots.SoftCandidate.{SoftCandidate}
+use Rattle.verdict.specs.declared.soft_verdict.SoftBest.{SoftBest}
+use Rattle.answer.specs.declared.Square.{Square}
+use Rattle.answer.specs.declared.Decoded.{Decoded}
+use Rattle.answer.specs.declared.Answer.{Answer}
+use Rattle.answer.specs.declared.Answer.the-variants.{Found, Refused}
+use Rattle.verdict.specs.Verdict.{refusedBy, agreed, decodedOf, pick, judged, softVerdict, softDecodedOf}
+
+-- "origin and matrix must agree": the transforms and the origins of two placings are the same
+pub record Agree (t : ℕ) (P : Placing) (s : ℕ) (Q : Placing) : Type 0 where
+  pub transform : t ≡ s
+  pub row : P .row ≡ Q .row
+  pub col : P .col ≡ Q .col
+
+-- what an answer says: the square of the placing P under the transform t, so many hits of so many edges, and the runner-up's square and hits
+pub record Says (t : ℕ) (P : Placing) (hits edges : ℕ) (runner : RunnerUp) (d : Decoded) : Type 0 where
+  pub transform : d .square .transform ≡ t
+  pub row : d .square .row ≡ P .row
+  pub col : d .square .col ≡ P .col
+  pub hits-told : d .hits ≡ hits
+  pub edges-told : d .edges ≡ edges
+  pub runner-up-hits : d .«runner_up_score» ≡ ofInt binary32 (pos (runner .hits))
+  pub runner-up-transform : d .«runner_up» .transform ≡ runner .transform
+  pub runner-up-row : d .«runner_up» .row ≡ runner .row
+  pub runner-up-col : d .«runner_up» .col ≡ runner .col
+
+-- ---- the test of agreement
+abbrev test : ℕ → Placing → ℕ → Placing → Bool
+test t P s Q = eqb t s && (eqb (P .row) (Q .row) && eqb (P .col) (Q .col))
+
+agree-of : (t : ℕ) (P : Placing) (s : ℕ) (Q : Placing) → test t P s Q ≡ true → Agree t P s Q
+agree-of t P s Q e =
+    let u = and-true (eqb t s) (eqb (P .row) (Q .row) && eqb (P .col) (Q .col)) e in
+    let v = and-true (eqb (P .row) (Q .row)) (eqb (P .col) (Q .col)) (u .1) in
+    record { transform = eqb-true t s (u .0); row = eqb-true (P .row) (Q .row) (v .0); col = eqb-true (P .col) (Q .col) (v .1) }
+
+of-agree : (t : ℕ) (P : Placing) (s : ℕ) (Q : Placing) → Agree t P s Q → test t P s Q ≡ true
+of-agree t P s Q a = rw (eq-eqb t s (a .transform), eq-eqb (P .row) (Q .row) (a .row), eq-eqb (P .col) (Q .col) (a .col))
+
+of-differ : (t : ℕ) (P : Placing) (s : ℕ) (Q : Placing) → (Agree t P s Q → ⊥) → test t P s Q ≡ false
+of-differ t P s Q n = not-so (test t P s Q) (λ e. n (agree-of t P s Q e))
+
+-- ---- two tests, one inside the other
+pick-first : (a b : Bool) (x y z : Answer) → a ≡ true → b ≡ true → pick a (pick b x y) z ≡ x
+pick-first true true x y z p q = refl
+pick-first true false x y z p q = clash q refl
+pick-first false b x y z p q = clash p refl
+
+pick-second : (a b : Bool) (x y z : Answer) → a ≡ true → b ≡ false → pick a (pick b x y) z ≡ y
+pick-second true true x y z p q = clash refl q
+pick-second true false x y z p q = refl
+pick-second false b x y z p q = clash p refl
+
+pick-last : (a : Bool) (x z : Answer) → a ≡ false → pick a x z ≡ z
+pick-last true x z p = clash refl p
+pick-last false x z p = refl
+
+cond-first : (a b : Bool) (x y z : Admission) → a ≡ true → b ≡ true → cond a (cond b x y) z ≡ x
+cond-first true true x y z p q = refl
+cond-first true false x y z p q = clash q refl
+cond-first false b x y z p q = clash p refl
+
+cond-second : (a b : Bool) (x y z : Admission) → a ≡ true → b ≡ false → cond a (cond b x y) z ≡ y
+cond-second true true x y z p q = clash refl q
+cond-second true false x y z p q = refl
+cond-second false b x y z p q = clash p refl
+
+cond-last : (a : Bool) (x z : Admission) → a ≡ false → cond a x z ≡ z
+cond-last true x z p = clash refl p
+cond-last false x z p = refl
+
+no-square : (d : Decoded) (r : Refusal) → Refused r ≡ Found d → ⊥
+no-square d r e = let z : _≡_ {A = ℕ} 0 1 = cc in omega arith
+
+-- ---- hard: the logical winner w under the transform t, with its runner-up, and the physical winner p under the transform s
+module _ (t : ℕ) (w : Candidate) (runner : RunnerUp) (s : ℕ) (p : Candidate) (edges : ℕ) where
+  -- WINNERS THAT AGREE AND PASS ARE FOUND
+  pub judged-complete : Agree t (w .placing) s (p .placing) → passed edges (w .hits) (runner .hits) ≡ true → (d : Decoded) × (judged t w runner s p edges ≡ Found d)
+  unfolding judged agreed
+  judged-complete a g = (decodedOf t w runner edges, pick-first (test t (w .placing) s (p .placing)) (passed edges (w .hits) (runner .hits)) _ _ _ (of-agree t (w .placing) s (p .placing) a) g)
+
+  -- 12 where they differ, 13 where they agree and do not pass
+  pub judged-12 : (Agree t (w .placing) s (p .placing) → ⊥) → judged t w runner s p edges ≡ refusedBy why.listsDisagree
+  unfolding judged agreed
+  judged-12 n = pick-last (test t (w .placing) s (p .placing)) _ _ (of-differ t (w .placing) s (p .placing) n)
+
+  pub judged-13 : Agree t (w .placing) s (p .placing) → passed edges (w .hits) (runner .hits) ≡ false → judged t w runner s p edges ≡ refusedBy why.notFarAhead
+  unfolding judged agreed
+  judged-13 a g = pick-second (test t (w .placing) s (p .placing)) (passed edges (w .hits) (runner .hits)) _ _ _ (of-agree t (w .placing) s (p .placing) a) g
+
+  -- what a found answer says
+  pub record Judged (d : Decoded) : Type 0 where
+    pub agree : Agree t (w .placing) s (p .placing)
+    pub ahead : passed edges (w .hits) (runner .hits) ≡ true
+    pub says : Says t (w .placing) (w .hits) edges runner d
+    pub margin : d .margin ≡ ofInt binary32 (pos (w .hits - runner .hits))
+
+  by-gate : (d : Decoded) (b : Bool) → passed edges (w .hits) (runner .hits) ≡ b → Agree t (w .placing) s (p .placing) → pick b (Found (decodedOf t w runner edges)) (refusedBy why.notFarAhead) ≡ Found d → Judged d
+  unfolding decodedOf
+  by-gate d true g a k =
+      let q : decodedOf t w runner edges ≡ d = cc in
+      subst (λ (z : Decoded). Judged z) q (record {
+        agree = a;
+        ahead = g;
+        says = record { transform = refl; row = refl; col = refl; hits-told = refl; edges-told = refl; runner-up-hits = refl; runner-up-transform = refl; runner-up-row = refl; runner-up-col = refl };
+        margin = refl;
+      })
+  by-gate d false g a k = absurd (no-square d (numbered why.notFarAhead) k)
+
+  by-agreed : (d : Decoded) (b : Bool) → test t (w .placing) s (p .placing) ≡ b → pick b (pick (passed edges (w .hits) (runner .hits)) (Found (decodedOf t w runner edges)) (refusedBy why.notFarAhead)) (refusedBy why.listsDisagree) ≡ Found d → Judged d
+  by-agreed d true e k = by-gate d (passed edges (w .hits) (runner .hits)) refl (agree-of t (w .placing) s (p .placing) e) k
+  by-agreed d false e k = absurd (no-square d (numbered why.listsDisagree) k)
+
+  -- FOUND MEANS TRUE
+  pub judged-sound : (d : Decoded) → judged t w runner s p edges ≡ Found d → Judged d
+  unfolding judged agreed
+  judged-sound d h = by-agreed d (test t (w .placing) s (p .placing)) refl h
+
+-- ---- soft: the winner by likelihood under the transform t, and the hard winner w of the logical list under the transform s
+module _ (t : ℕ) (first : SoftCandidate) (s : ℕ) (w : Candidate) (runner : RunnerUp) (edges : ℕ) where
+  -- WINNERS THAT AGREE AND PASS ARE ACCEPTED
+  pub soft-verdict-complete : Agree t (first .placing) s (w .placing) → passed edges (w .hits) (runner .hits) ≡ true → softVerdict t first s w runner edges ≡ admission.Accepted
+  unfolding softVerdict
+  soft-verdict-complete a g = cond-first (test t (first .placing) s (w .placing)) (passed edges (w .hits) (runner .hits)) _ _ _ (of-agree t (first .placing) s (w .placing) a) g
+
+  -- 15 where they differ, 13 where they agree and do not pass
+  pub soft-verdict-15 : (Agree t (first .placing) s (w .placing) → ⊥) → softVerdict t first s w runner edges ≡ admission.Refused (numbered why.softHardDisagree)
+  unfolding softVerdict
+  soft-verdict-15 n = cond-last (test t (first .placing) s (w .placing)) _ _ (of-differ t (first .placing) s (w .placing) n)
+
+  pub soft-verdict-13 : Agree t (first .placing) s (w .placing) → passed edges (w .hits) (runner .hits) ≡ false → softVerdict t first s w runner edges ≡ admission.Refused (numbered why.notFarAhead)
+  unfolding softVerdict
+  soft-verdict-13 a g = cond-second (test t (first .placing) s (w .placing)) (passed edges (w .hits) (runner .hits)) _ _ _ (of-agree t (first .placing) s (w .placing) a) g
+
+  -- ACCEPTED MEANS TRUE
+  pub soft-verdict-sound : softVerdict t first s w runner edges ≡ admission.Accepted → Agree t (first .placing) s (w .placing) × (passed edges (w .hits) (runner .hits) ≡ true)
+  unfolding softVerdict
+  soft-verdict-sound h = go (test t (first .placing) s (w .placing)) (passed edges (w .hits) (runner .hits)) refl refl h
+    where
+      go : (a b : Bool) → test t (first .placing) s (w .placing) ≡ a → passed edges (w .hits) (runner .hits) ≡ b → cond a (cond b admission.Accepted (admission.Refused (numbered why.notFarAhead))) (admission.Refused (numbered why.softHardDisagree)) ≡ admission.Accepted
+          → Agree t (first .placing) s (w .placing) × (passed edges (w .hits) (runner .hits) ≡ true)
+      go true true e g k = (agree-of t (first .placing) s (w .placing) e, g)
+      go true false e g k = let z : _≡_ {A = ℕ} 0 1 = cc in absurd (omega arith)
+      go false b e g k = let z : _≡_ {A = ℕ} 0 1 = cc in absurd (omega arith)
+
+-- A FOUND SOFT ANSWER SAYS the soft winner's square with its total and margin, the physical list's hits, and the hard runner-up
+pub soft-says : (t : ℕ) (best : SoftBest) (fit : Fit) (edges : ℕ) (runner : RunnerUp)
+    → Says t (best .first .placing) (fit .hits) edges runner (softDecodedOf t best fit edges runner) × (softDecodedOf t best fit edges runner .«best_score» ≡ best .first .total) × (softDecodedOf t best fit edges runner .margin ≡ best .margin)
+unfolding softDecodedOf
+soft-says t best fit edges runner = (
+  record { transform = refl; row = refl; col = refl; hits-told = refl; edges-told = refl; runner-up-hits = refl; runner-up-transform = refl; runner-up-row = refl; runner-up-col = refl },
+  refl,
+  refl,
+)

@@ -378,3 +378,25 @@ pub fn refused(r: &mut Random) -> Case {
     }
     case
 }
+
+#[cfg(test)]
+mod tests {
+    use super::*;
+
+    /// Five to seven transforms, each length at times, from a list of any length; a list of at most five keeps what it has, in its order.
+    #[test]
+    fn lists_of_five_to_seven() {
+        let mut r = Random(1);
+        let mut seen = [0; 9];
+        for i in 0..900 {
+            let before: Vec<u8> = (0..1 + i % 8).map(|_| r.below(8) as u8).collect();
+            let mut list = before.clone();
+            five_to_seven(&mut r, &mut list);
+            seen[list.len()] += 1;
+            assert!(list.iter().all(|&t| t < 8));
+            let mut kept = list.iter();
+            assert!(before.len() > 5 || before.iter().all(|t| kept.any(|k| k == t)));
+        }
+        assert!(seen[..5] == [0; 5] && seen[5..8].iter().all(|&n| n > 200) && seen[8] == 0, "{seen:?}");
+    }
+}

@@ -4,7 +4,7 @@ use Prim.Native.Nat.{ℕ, _-_, _≤_}
 use native.Mathlib.Omega.{arith}
 use borrow.Author.Needs.{needs}
 use denote.Ref.{now}
-use lib.ListN.{length, getD}
+use lib.ListN.{length}
 use Rattle.board.specs.Hits.{EdgeList, Board, edges, tables}
 use Rattle.hard.specs.SelectLaws.{ScanDone, scan-none, scan-more, scan-count, rooms-ready, rooms-length, room-ready}
 use Rattle.hard.proofs.select.scan_transforms.Statement.{statement}
@@ -64,7 +64,7 @@ shared-slice-read-number c = omega arith
 fold-room-requires : tie.Need-fold-room-requires Inv-loop μ-loop
 fold-room-requires c κs =
     let l = c .before .before .before .before .before .before .before .before .before .before .before in (
-      room-ready (B l) (E l) (getD (ts l) (at l) 0) (l .before .loop .counts) _ (l .before .loop .weights) _ (rooms-ready (B l) (E l) (ts l) _ _ (st l .pre) (at l) _ _ (done l .rooms) (l .loop-test .taken)) (c .before .before .before .before .before .before .before .build-tables .ensures),
+      room-ready (B l) (E l) _ (l .before .loop .counts) _ (l .before .loop .weights) _ (rooms-ready (B l) (E l) (ts l) _ _ (st l .pre) (at l) _ _ (done l .rooms) (l .loop-test .taken)) (c .before .before .before .before .before .before .before .build-tables .ensures),
       omega (arith, scan-count (B l) (E l) (ts l) (st l .args .confidence) (st l .args .error-limit) _ _ (at l) _ _ _ (done l), l .loop-test .taken, st l .pre .transforms .1),
     )
 

@@ -3,7 +3,7 @@ use mathlib.Core.List.{List}
 use Prim.Native.Nat.{ℕ, _-_, _≤_}
 use native.Mathlib.Omega.{arith}
 use denote.Ref.{now}
-use lib.ListN.{length, getD}
+use lib.ListN.{length}
 use borrow.Author.Needs.{needs}
 use Rattle.board.specs.Hits.{EdgeList, Board, edges, tables}
 use Rattle.sums.specs.Sums.{Likelihoods, likelihoods}
@@ -64,7 +64,7 @@ build-sums-requires c κs =
 fold-room-requires : tie.Need-fold-room-requires Inv-loop μ-loop
 fold-room-requires c κs =
     let l = c .before .before .before .before .before in (
-      room-ready (B l) (E l) (X l) (ts l) _ (st l .pre) (getD (ts l) (at l) 0) (l .before .loop .sums) _ (room-next (B l) (E l) (X l) (ts l) _ (st l .pre) (at l) _ (done l .room) (l .loop-test .taken)) (bare-built (B l) (E l) (X l) _ _ _ (c .before .before .build-sums .ensures)),
+      room-ready (B l) (E l) (X l) (ts l) _ (st l .pre) _ (l .before .loop .sums) _ (room-next (B l) (E l) (X l) (ts l) _ (st l .pre) (at l) _ (done l .room) (l .loop-test .taken)) (bare-built (B l) (E l) (X l) _ _ _ (c .before .before .build-sums .ensures)),
       omega (arith, scan-count (B l) (E l) (X l) (ts l) _ (st l .pre) (at l) _ _ (done l), l .loop-test .taken, st l .pre .transforms .1),
     )
 

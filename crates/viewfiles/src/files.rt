@@ -59,25 +59,6 @@ pub fn load_board(i: usize, h: &mut [u8; 167], v: &mut [u8; 167]) -> bool {
     board_of(i, &bytes[..n], h, v)
 }
 
-// The view of a text; a fault is reported.
-fn view_of(
-    i: usize,
-    s: &[u8],
-    rows: &mut [i32; 16384],
-    cols: &mut [i32; 16384],
-    orientations: &mut [u8; 16384],
-    bits: &mut [u8; 16384],
-    confidences: &mut [f32; 16384],
-    hits: &mut [f32; 16384],
-    misses: &mut [f32; 16384],
-) -> View {
-    let view = read_view(s, rows, cols, orientations, bits, confidences, hits, misses);
-    if view.what != 0 {
-        report(i, s, view.what, view.place);
-    }
-    view
-}
-
 // Room for a view's file.
 fn view_room() -> [u8; 1048576]
     ensures { λ r. ⌜ 1048576 ≡ length r ⌝ }
@@ -105,9 +86,9 @@ pub fn load_view(
     if !is_read(fd, i, 1048576) {
         return unread();
     }
-    view_of(
-        i,
-        &bytes[..n],
+    let text = &bytes[..n];
+    let view = read_view(
+        text,
         rows,
         cols,
         orientations,
@@ -115,5 +96,9 @@ pub fn load_view(
         confidences,
         hits,
         misses,
-    )
+    );
+    if view.what != 0 {
+        report(i, text, view.what, view.place);
+    }
+    view
 }

@@ -210,31 +210,6 @@ fn column_place(view: View) -> usize {
     if view.physical { 8192 + n } else { n }
 }
 
-// An edge put into the columns, where there is a place for it.
-fn put_edge(
-    rows: &mut [i32; 16384],
-    cols: &mut [i32; 16384],
-    orientations: &mut [u8; 16384],
-    bits: &mut [u8; 16384],
-    confidences: &mut [f32; 16384],
-    hits: &mut [f32; 16384],
-    misses: &mut [f32; 16384],
-    at: usize,
-    e: Edge,
-) {
-    if at < 16384 {
-        let row = e.row;
-        let col = e.col;
-        rows[at] = row;
-        cols[at] = col;
-        orientations[at] = e.orientation;
-        bits[at] = e.bit;
-        confidences[at] = e.confidence;
-        hits[at] = e.hit;
-        misses[at] = e.miss;
-    }
-}
-
 // The view after a line that begins a list.
 fn with_list(s: &[u8], w: Word, physical: bool, view: View) -> View {
     let list = list_of(view, physical);
@@ -371,17 +346,18 @@ fn read_line(
         return with_line(s, w, kind, view);
     }
     let e = edge_at(s, w.to, kind);
-    put_edge(
-        rows,
-        cols,
-        orientations,
-        bits,
-        confidences,
-        hits,
-        misses,
-        column_place(view),
-        e,
-    );
+    let place = column_place(view);
+    if place < 16384 {
+        let row = e.row;
+        let col = e.col;
+        rows[place] = row;
+        cols[place] = col;
+        orientations[place] = e.orientation;
+        bits[place] = e.bit;
+        confidences[place] = e.confidence;
+        hits[place] = e.hit;
+        misses[place] = e.miss;
+    }
     with_edge(view, e, w.from)
 }
 

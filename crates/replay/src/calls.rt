@@ -41,52 +41,9 @@ fn counted(n: usize) -> u32 {
     if n < 8194 { n as u32 } else { 8194 }
 }
 
-// Hard decode.
-pub(crate) fn hard_call<'a>(
-    lrows: &[i32; 8193],
-    lcols: &[i32; 8193],
-    lorientations: &[u8; 8193],
-    lbits: &[u8; 8193],
-    lconfidences: &[f32; 8193],
-    l: Sizes,
-    prows: &[i32; 8193],
-    pcols: &[i32; 8193],
-    porientations: &[u8; 8193],
-    pbits: &[u8; 8193],
-    pconfidences: &[f32; 8193],
-    p: Sizes,
-    transforms: &[u8; 8193],
-    h: &'a [u8; 8193],
-    v: &'a [u8; 8193],
-    n: Lengths,
-    s: Settings,
-    room: Room,
-) -> [u32; 15] {
-    let mut counts = [7u32; 3010];
-    let mut weights = [7.0f32; 3010];
-    let answer = puzzleboard::hard_decode::decode_hard(
-        front_i32(lrows, l.rows),
-        front_i32(lcols, l.cols),
-        front_u8(lorientations, l.orientations),
-        front_u8(lbits, l.bits),
-        front_f32(lconfidences, l.confidences),
-        front_i32(prows, p.rows),
-        front_i32(pcols, p.cols),
-        front_u8(porientations, p.orientations),
-        front_u8(pbits, p.bits),
-        front_f32(pconfidences, p.confidences),
-        front_u8(transforms, n.transforms),
-        front_u8(h, n.h),
-        front_u8(v, n.v),
-        s.limit,
-        room_u32(&mut counts, room.counts),
-        room_f32(&mut weights, room.weights),
-    );
-    words_of(answer)
-}
-
-// Soft decode.
-pub(crate) fn soft_call<'a>(
+// The call's answer, by its kind: 1 hard decode, 2 soft decode, 3 match statistics of the physical list, else hard selection on the logical list before the gate.
+pub(crate) fn call<'a>(
+    kind: u32,
     lrows: &[i32; 8193],
     lcols: &[i32; 8193],
     lorientations: &[u8; 8193],
@@ -111,88 +68,83 @@ pub(crate) fn soft_call<'a>(
     let mut counts = [7u32; 3010];
     let mut weights = [7.0f32; 3010];
     let mut sums = [7i64; 5014];
-    let answer = puzzleboard::soft_decode::decode_soft(
-        front_i32(lrows, l.rows),
-        front_i32(lcols, l.cols),
-        front_u8(lorientations, l.orientations),
-        front_u8(lbits, l.bits),
-        front_f32(lconfidences, l.confidences),
-        front_i32(prows, p.rows),
-        front_i32(pcols, p.cols),
-        front_u8(porientations, p.orientations),
-        front_u8(pbits, p.bits),
-        front_f32(pconfidences, p.confidences),
-        front_f32(matches, n.matches),
-        front_f32(mismatches, n.mismatches),
-        front_u8(transforms, n.transforms),
-        front_u8(h, n.h),
-        front_u8(v, n.v),
-        s.limit,
-        s.margin,
-        room_u32(&mut counts, room.counts),
-        room_f32(&mut weights, room.weights),
-        room_i64(&mut sums, room.sums),
-    );
-    words_of(answer)
-}
-
-// Match statistics.
-pub(crate) fn stats_call<'a>(
-    rows: &[i32; 8193],
-    cols: &[i32; 8193],
-    orientations: &[u8; 8193],
-    bits: &[u8; 8193],
-    confidences: &[f32; 8193],
-    p: Sizes,
-    h: &'a [u8; 8193],
-    v: &'a [u8; 8193],
-    n: Lengths,
-    s: Settings,
-) -> [u32; 15] {
-    let answer = stats::stats::match_stats(
-        front_i32(rows, p.rows),
-        front_i32(cols, p.cols),
-        front_u8(orientations, p.orientations),
-        front_u8(bits, p.bits),
-        front_f32(confidences, p.confidences),
-        s.transform,
-        s.row,
-        s.col,
-        front_u8(h, n.h),
-        front_u8(v, n.v),
-    );
-    words_of_stats(answer)
-}
-
-// Selection before the gate.
-pub(crate) fn selection_call<'a>(
-    rows: &[i32; 8193],
-    cols: &[i32; 8193],
-    orientations: &[u8; 8193],
-    bits: &[u8; 8193],
-    confidences: &[f32; 8193],
-    l: Sizes,
-    transforms: &[u8; 8193],
-    h: &'a [u8; 8193],
-    v: &'a [u8; 8193],
-    n: Lengths,
-    s: Settings,
-    room: Room,
-) -> [u32; 15] {
-    let mut counts = [7u32; 3010];
-    let mut weights = [7.0f32; 3010];
-    let answer = select(
-        front_i32(rows, l.rows),
-        front_i32(cols, l.cols),
-        front_u8(orientations, l.orientations),
-        front_u8(bits, l.bits),
-        front_f32(confidences, l.confidences),
-        front_u8(transforms, n.transforms),
-        front_u8(h, n.h),
-        front_u8(v, n.v),
-        s.limit,
-        room_u32(&mut counts, room.counts),
-        room_f32(&mut weights, room.weights),
-    );
-    words_of_selection(answer, transforms, counted(l.rows))
+    match kind {
+        1 => {
+            let answer = puzzleboard::hard_decode::decode_hard(
+                front_i32(lrows, l.rows),
+                front_i32(lcols, l.cols),
+                front_u8(lorientations, l.orientations),
+                front_u8(lbits, l.bits),
+                front_f32(lconfidences, l.confidences),
+                front_i32(prows, p.rows),
+                front_i32(pcols, p.cols),
+                front_u8(porientations, p.orientations),
+                front_u8(pbits, p.bits),
+                front_f32(pconfidences, p.confidences),
+                front_u8(transforms, n.transforms),
+                front_u8(h, n.h),
+                front_u8(v, n.v),
+                s.limit,
+                room_u32(&mut counts, room.counts),
+                room_f32(&mut weights, room.weights),
+            );
+            words_of(answer)
+        }
+        2 => {
+            let answer = puzzleboard::soft_decode::decode_soft(
+                front_i32(lrows, l.rows),
+                front_i32(lcols, l.cols),
+                front_u8(lorientations, l.orientations),
+                front_u8(lbits, l.bits),
+                front_f32(lconfidences, l.confidences),
+                front_i32(prows, p.rows),
+                front_i32(pcols, p.cols),
+                front_u8(porientations, p.orientations),
+                front_u8(pbits, p.bits),
+                front_f32(pconfidences, p.confidences),
+                front_f32(matches, n.matches),
+                front_f32(mismatches, n.mismatches),
+                front_u8(transforms, n.transforms),
+                front_u8(h, n.h),
+                front_u8(v, n.v),
+                s.limit,
+                s.margin,
+                room_u32(&mut counts, room.counts),
+                room_f32(&mut weights, room.weights),
+                room_i64(&mut sums, room.sums),
+            );
+            words_of(answer)
+        }
+        3 => {
+            let answer = stats::stats::match_stats(
+                front_i32(prows, p.rows),
+                front_i32(pcols, p.cols),
+                front_u8(porientations, p.orientations),
+                front_u8(pbits, p.bits),
+                front_f32(pconfidences, p.confidences),
+                s.transform,
+                s.row,
+                s.col,
+                front_u8(h, n.h),
+                front_u8(v, n.v),
+            );
+            words_of_stats(answer)
+        }
+        _ => {
+            let answer = select(
+                front_i32(lrows, l.rows),
+                front_i32(lcols, l.cols),
+                front_u8(lorientations, l.orientations),
+                front_u8(lbits, l.bits),
+                front_f32(lconfidences, l.confidences),
+                front_u8(transforms, n.transforms),
+                front_u8(h, n.h),
+                front_u8(v, n.v),
+                s.limit,
+                room_u32(&mut counts, room.counts),
+                room_f32(&mut weights, room.weights),
+            );
+            words_of_selection(answer, transforms, counted(l.rows))
+        }
+    }
 }

@@ -19,43 +19,50 @@ fn at_most(n: u32) -> usize
     if n < 8193 { n as usize } else { 8193 }
 }
 
-// A column of coordinates.
-pub(crate) fn read_i32(buf: &mut [u8; 65536], c: Cursor, out: &mut [i32; 8193]) -> Column {
+// A column's length, and where its first word stands.
+fn read_length(buf: &mut [u8; 65536], c: Cursor) -> Column
+    ensures { λ r. ⌜ r .n ≤ 8193 ⌝ }
+{
     let head = next_word(buf, c);
     let n = at_most(head.value);
+    let next = head.next;
+    Column { n, next }
+}
+
+// A column of coordinates.
+pub(crate) fn read_i32(buf: &mut [u8; 65536], c: Cursor, out: &mut [i32; 8193]) -> Column {
+    let head = read_length(buf, c);
     let mut next = head.next;
-    for i in 0..n {
+    for i in 0..head.n {
         let w = next_word(buf, next);
         next = w.next;
         out[i] = signed(w.value);
     }
-    Column { n, next }
+    Column { n: head.n, next }
 }
 
 // A column of bytes.
 pub(crate) fn read_u8(buf: &mut [u8; 65536], c: Cursor, out: &mut [u8; 8193]) -> Column {
-    let head = next_word(buf, c);
-    let n = at_most(head.value);
+    let head = read_length(buf, c);
     let mut next = head.next;
-    for i in 0..n {
+    for i in 0..head.n {
         let w = next_word(buf, next);
         next = w.next;
         out[i] = octet(w.value);
     }
-    Column { n, next }
+    Column { n: head.n, next }
 }
 
 // A column of floats.
 pub(crate) fn read_f32(buf: &mut [u8; 65536], c: Cursor, out: &mut [f32; 8193]) -> Column {
-    let head = next_word(buf, c);
-    let n = at_most(head.value);
+    let head = read_length(buf, c);
     let mut next = head.next;
-    for i in 0..n {
+    for i in 0..head.n {
         let w = next_word(buf, next);
         next = w.next;
         out[i] = float(w.value);
     }
-    Column { n, next }
+    Column { n: head.n, next }
 }
 
 // The lengths of a list's columns.

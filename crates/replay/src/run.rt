@@ -3,11 +3,7 @@
 use crate::calls::Lengths;
 use crate::calls::Room;
 use crate::calls::Settings;
-use crate::calls::hard_call;
-use crate::calls::selection_call;
-use crate::calls::soft_call;
-use crate::calls::stats_call;
-use crate::columns::Sizes;
+use crate::calls::call;
 use crate::columns::read_answer;
 use crate::columns::read_f32;
 use crate::columns::read_list;
@@ -25,102 +21,6 @@ pub struct Place {
     pub next: Cursor,
     pub h: usize,
     pub v: usize,
-}
-
-// The call's answer, by its kind.
-fn call<'a>(
-    kind: u32,
-    lrows: &[i32; 8193],
-    lcols: &[i32; 8193],
-    lorientations: &[u8; 8193],
-    lbits: &[u8; 8193],
-    lconfidences: &[f32; 8193],
-    l: Sizes,
-    prows: &[i32; 8193],
-    pcols: &[i32; 8193],
-    porientations: &[u8; 8193],
-    pbits: &[u8; 8193],
-    pconfidences: &[f32; 8193],
-    p: Sizes,
-    matches: &[f32; 8193],
-    mismatches: &[f32; 8193],
-    transforms: &[u8; 8193],
-    h: &'a [u8; 8193],
-    v: &'a [u8; 8193],
-    n: Lengths,
-    s: Settings,
-    room: Room,
-) -> [u32; 15] {
-    match kind {
-        1 => hard_call(
-            lrows,
-            lcols,
-            lorientations,
-            lbits,
-            lconfidences,
-            l,
-            prows,
-            pcols,
-            porientations,
-            pbits,
-            pconfidences,
-            p,
-            transforms,
-            h,
-            v,
-            n,
-            s,
-            room,
-        ),
-        2 => soft_call(
-            lrows,
-            lcols,
-            lorientations,
-            lbits,
-            lconfidences,
-            l,
-            prows,
-            pcols,
-            porientations,
-            pbits,
-            pconfidences,
-            p,
-            matches,
-            mismatches,
-            transforms,
-            h,
-            v,
-            n,
-            s,
-            room,
-        ),
-        3 => stats_call(
-            prows,
-            pcols,
-            porientations,
-            pbits,
-            pconfidences,
-            p,
-            h,
-            v,
-            n,
-            s,
-        ),
-        _ => selection_call(
-            lrows,
-            lcols,
-            lorientations,
-            lbits,
-            lconfidences,
-            l,
-            transforms,
-            h,
-            v,
-            n,
-            s,
-            room,
-        ),
-    }
 }
 
 // How much room the call is lent, and where the next word stands.

@@ -43,44 +43,8 @@ fn listed(transforms: &[u8; 8], n: usize) -> &[u8] {
     part_u8(transforms, 0, n)
 }
 
-// Hard decode of the view.
-fn hard<'a>(
-    view: View,
-    rows: &[i32; 16384],
-    cols: &[i32; 16384],
-    orientations: &[u8; 16384],
-    bits: &[u8; 16384],
-    confidences: &[f32; 16384],
-    h: &'a [u8; 167],
-    v: &'a [u8; 167],
-) -> Answer {
-    let l = part_of(view, false);
-    let p = part_of(view, true);
-    let transforms = view.transforms;
-    let mut counts = [0u32; 3006];
-    let mut weights = [0.0f32; 3006];
-    puzzleboard::hard_decode::decode_hard(
-        part_i32(rows, l.from, l.edges),
-        part_i32(cols, l.from, l.edges),
-        part_u8(orientations, l.from, l.edges),
-        part_u8(bits, l.from, l.edges),
-        part_f32(confidences, l.from, l.edges),
-        part_i32(rows, p.from, p.edges),
-        part_i32(cols, p.from, p.edges),
-        part_u8(orientations, p.from, p.edges),
-        part_u8(bits, p.from, p.edges),
-        part_f32(confidences, p.from, p.edges),
-        listed(&transforms, view.listed),
-        h,
-        v,
-        view.limit,
-        &mut counts,
-        &mut weights,
-    )
-}
-
-// Soft decode of the view.
-fn soft<'a>(
+// What the decoder says of the view.
+pub(crate) fn decode<'a>(
     view: View,
     rows: &[i32; 16384],
     cols: &[i32; 16384],
@@ -97,6 +61,26 @@ fn soft<'a>(
     let transforms = view.transforms;
     let mut counts = [0u32; 3006];
     let mut weights = [0.0f32; 3006];
+    if !is_soft(view) {
+        return puzzleboard::hard_decode::decode_hard(
+            part_i32(rows, l.from, l.edges),
+            part_i32(cols, l.from, l.edges),
+            part_u8(orientations, l.from, l.edges),
+            part_u8(bits, l.from, l.edges),
+            part_f32(confidences, l.from, l.edges),
+            part_i32(rows, p.from, p.edges),
+            part_i32(cols, p.from, p.edges),
+            part_u8(orientations, p.from, p.edges),
+            part_u8(bits, p.from, p.edges),
+            part_f32(confidences, p.from, p.edges),
+            listed(&transforms, view.listed),
+            h,
+            v,
+            view.limit,
+            &mut counts,
+            &mut weights,
+        );
+    }
     let mut sums = [0i64; 5010];
     puzzleboard::soft_decode::decode_soft(
         part_i32(rows, l.from, l.edges),
@@ -120,34 +104,4 @@ fn soft<'a>(
         &mut weights,
         &mut sums,
     )
-}
-
-// What the decoder says of the view.
-pub(crate) fn decode<'a>(
-    view: View,
-    rows: &[i32; 16384],
-    cols: &[i32; 16384],
-    orientations: &[u8; 16384],
-    bits: &[u8; 16384],
-    confidences: &[f32; 16384],
-    hits: &[f32; 16384],
-    misses: &[f32; 16384],
-    h: &'a [u8; 167],
-    v: &'a [u8; 167],
-) -> Answer {
-    if is_soft(view) {
-        return soft(
-            view,
-            rows,
-            cols,
-            orientations,
-            bits,
-            confidences,
-            hits,
-            misses,
-            h,
-            v,
-        );
-    }
-    hard(view, rows, cols, orientations, bits, confidences, h, v)
 }

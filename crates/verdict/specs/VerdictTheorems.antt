@@ -1,6 +1,6 @@
 -- What a verdict tells, in the winners' own numbers (demands 2 and 3 on this crate's definitions): found exactly when the winners agree and the gate is passed; a
 -- found answer tells the winner's square and hits, and the runner-up's. A refusal has its own number.
-use mathlib.Core.Path.{_≡_, refl, sym, ap, subst, _∙_}
+use mathlib.Core.Path.{_≡_, refl, subst}
 use mathlib.Core.Bool.{Bool, true, false, cond, _&&_}
 use Prim.Native.Nat.{ℕ, _-_}
 use native.Mathlib.Omega.{arith}
@@ -21,7 +21,6 @@ use Rattle.figures.specs.Gate.{passed}
 use Rattle.figures.specs.declared.Fit.{Fit}
 use Rattle.margin.specs.declared.slots.SoftCandidate.{SoftCandidate}
 use Rattle.verdict.specs.declared.soft_verdict.SoftBest.{SoftBest}
-use Rattle.answer.specs.declared.Square.{Square}
 use Rattle.answer.specs.declared.Decoded.{Decoded}
 use Rattle.answer.specs.declared.Answer.{Answer}
 use Rattle.answer.specs.declared.Answer.the-variants.{Found, Refused}

@@ -77,12 +77,12 @@ left-zero d zero n m a old new u h room e = rw (e, ← u) (left-emptied d zero n
 
 -- a refusal before any work is done has one of the numbers 1 to 9
 abbrev pub Early : Admission → Type 0
-Early a = (r : Refusal) → a ≡ admission.Refused r → (1 ≤ r .number) × (r .number ≤ 9)
+Early a = (r : Refusal) → a ≡ admission.Refused r → (why.roomTooShort ≤ r .number) × (r .number ≤ why.badSetting)
 
 early-none : Early admission.Accepted
 early-none r e = let z : _≡_ {A = ℕ} 0 1 = cc in absurd (omega arith)
 
-early-if : (b : Bool) (k : ℕ) (x : Admission) → 1 ≤ k → k ≤ 9 → Early x → Early (cond b (admission.Refused (numbered k)) x)
+early-if : (b : Bool) (k : ℕ) (x : Admission) → why.roomTooShort ≤ k → k ≤ why.badSetting → Early x → Early (cond b (admission.Refused (numbered k)) x)
 early-if true k x h l e r q = let z : numbered k ≡ r = cc in let y : k ≡ r .number = ap (λ (w : Refusal). w .number) z in (omega arith, omega arith)
 early-if false k x h l e r q = e r q
 
@@ -159,7 +159,7 @@ module _ (call : HardCall) (c c' : List ℕ) (w w' : List Float) (r : Answer) (d
   hard-accepts = hard-domain call (length c) (length w)
 
   -- refused late means 10 to 13 (`hard-10` to `hard-13` of HardNumbers.antt say exactly when), and the used room is zero (`hard-room-zero`)
-  pub hard-refused-late : hardChecked ≡ admission.Accepted → (x : Refusal) → r ≡ Refused x → (10 ≤ x .number) × (x .number ≤ 13)
+  pub hard-refused-late : hardChecked ≡ admission.Accepted → (x : Refusal) → r ≡ Refused x → (why.noConfidence ≤ x .number) × (x .number ≤ why.notFarAhead)
   unfolding hardAnswer
   hard-refused-late h x e = hard-late call (length c) (length w) (accepted h) x (sym (ap (λ (y : Admission). whenAccepted y (hardCore call)) h) ∙ sym (done .answer) ∙ e)
 
@@ -227,7 +227,7 @@ module _ (call : SoftCall) (c c' : List ℕ) (w w' : List Float) (a a' : List �
   soft-accepts = soft-domain call (length c) (length w) (length a)
 
   -- refused late means 10, 11, 13, 14 or 15 (`soft-10` to `soft-15` of SoftNumbers.antt say exactly when), and the used room is zero (`soft-room-zero`)
-  pub soft-refused-late : softChecked ≡ admission.Accepted → (x : Refusal) → r ≡ Refused x → (10 ≤ x .number) × (x .number ≤ 15) × (x .number ≡ why.listsDisagree → ⊥)
+  pub soft-refused-late : softChecked ≡ admission.Accepted → (x : Refusal) → r ≡ Refused x → (why.noConfidence ≤ x .number) × (x .number ≤ why.softHardDisagree) × (x .number ≡ why.listsDisagree → ⊥)
   unfolding softAnswer
   soft-refused-late h x e = soft-late call (length c) (length w) (length a) (taken h) x (sym (ap (λ (y : Admission). whenAccepted y (softCore call)) h) ∙ sym (done .answer) ∙ e)
 

@@ -123,13 +123,13 @@ module _ (call : HardCall) (m n : ℕ) (A : HardAccepted call m n) where
   hard-ends = by-logical (selection (call .board) (call .logical) (call .transforms) (call .error-limit)) refl (ended (call .board) (call .logical) (call .transforms) (call .error-limit) (A .board) (A .logical) L-few)
 
   -- refused late means 10 to 13
-  pub hard-late : (r : Refusal) → hardCore call ≡ Refused r → (10 ≤ r .number) × (r .number ≤ 13)
+  pub hard-late : (r : Refusal) → hardCore call ≡ Refused r → (why.noConfidence ≤ r .number) × (r .number ≤ why.notFarAhead)
   hard-late r e = go (hardCore call) hard-ends e
     where
-      numbers : (n : ℕ) → 10 ≤ n → n ≤ 13 → refusedBy n ≡ Refused r → (10 ≤ r .number) × (r .number ≤ 13)
+      numbers : (n : ℕ) → why.noConfidence ≤ n → n ≤ why.notFarAhead → refusedBy n ≡ Refused r → (why.noConfidence ≤ r .number) × (r .number ≤ why.notFarAhead)
       numbers n h k q = let z : numbered n ≡ r = cc in let y : n ≡ r .number = ap (λ (x : Refusal). x .number) z in (omega arith, omega arith)
 
-      go : (a : Answer) → HardEnd a → a ≡ Refused r → (10 ≤ r .number) × (r .number ≤ 13)
+      go : (a : Answer) → HardEnd a → a ≡ Refused r → (why.noConfidence ≤ r .number) × (r .number ≤ why.notFarAhead)
       go a (no-logical-confidence h) q = numbers why.noConfidence (omega arith) (omega arith) q
       go a (none-within h k) q = numbers why.noneWithinLimit (omega arith) (omega arith) q
       go a (no-physical-confidence h k l) q = numbers why.noConfidence (omega arith) (omega arith) q

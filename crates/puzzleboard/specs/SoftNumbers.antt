@@ -133,7 +133,7 @@ module _ (call : SoftCall) (m n o : ℕ) (A : SoftAccepted call m n o) where
 
   -- refused late means 10, 11, 13, 14 or 15
   abbrev Late : ℕ → Type 0
-  Late k = (10 ≤ k) × (k ≤ 15) × (k ≡ why.listsDisagree → ⊥)
+  Late k = (why.noConfidence ≤ k) × (k ≤ why.softHardDisagree) × (k ≡ why.listsDisagree → ⊥)
 
   pub soft-late : (r : Refusal) → softCore call ≡ Refused r → Late (r .number)
   soft-late r e = go (softCore call) soft-ends e

@@ -103,7 +103,9 @@ samburext_answer samburext_decode_hard(
     uint32_t *counts, size_t counts_length,              /* room, at least SAMBUREXT_ROOM_COUNTS */
     float *weights, size_t weights_length);              /* room, at least SAMBUREXT_ROOM_WEIGHTS */
 
-/* Soft decode: the square by the likelihoods of the physical list; the hits of the logical list must confirm it. */
+/* Soft decode: the square by the likelihoods of the physical list; the hits of the logical list must confirm it.
+   The logical list comes first, as in hard decode. In earlier versions the physical list and its likelihoods came first: a program
+   written for that order must be changed, and some C compilers only warn about it. */
 samburext_answer samburext_decode_soft(
     const int32_t *logical_rows, size_t logical_rows_length,                 /* the logical list: rows */
     const int32_t *logical_columns, size_t logical_columns_length,           /* its columns */

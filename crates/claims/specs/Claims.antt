@@ -36,17 +36,20 @@ use Rattle.answer.specs.declared.MatchStats.{MatchStats}
 use Rattle.answer.specs.declared.StatsAnswer.{StatsAnswer}
 use Rattle.answer.specs.declared.StatsAnswer.the-variants as stats
 use Rattle.verdict.specs.Verdict.{whenAccepted}
-use Rattle.puzzleboard.specs.Hard.{hardCore, hardAnswer, left, HardDone}
-use Rattle.puzzleboard.specs.Soft.{softCore, softAnswer, SoftDone}
+use Rattle.decode_hard.specs.Hard.{hardCore, hardAnswer, HardDone}
+use Rattle.demand.specs.Left.{left}
+use Rattle.decode_soft.specs.Soft.{softCore, softAnswer, SoftDone}
 use Rattle.stats.specs.Stats.{statsAnswer, statsOf, orCounted}
-use Rattle.puzzleboard.specs.Demand.{Leads, Names, AgreesPhysical}
-use Rattle.puzzleboard.specs.DemandLaws.{leader-named}
-use Rattle.puzzleboard.specs.FoundRange.{AnswerInRange, hard-in-range, soft-in-range}
-use Rattle.puzzleboard.specs.HardNumbers.{hard-late}
-use Rattle.puzzleboard.specs.SoftNumbers.{soft-late}
-use Rattle.puzzleboard.specs.SoftDemand.{marginOf, BestByLikelihood, SoftAnswered}
-use Rattle.puzzleboard.specs.HardTheorems.{Answered, hard-sound, hard-complete}
-use Rattle.puzzleboard.specs.SoftTheorems.{soft-sound, soft-complete}
+use Rattle.demand.specs.Demand.{Leads, Names, AgreesPhysical}
+use Rattle.demand.specs.DemandLaws.{leader-named}
+use Rattle.demand.specs.FoundRange.{AnswerInRange}
+use Rattle.decode_hard.specs.HardRange.{hard-in-range}
+use Rattle.decode_soft.specs.SoftRange.{soft-in-range}
+use Rattle.decode_hard.specs.HardNumbers.{hard-late}
+use Rattle.decode_soft.specs.SoftNumbers.{soft-late}
+use Rattle.decode_soft.specs.SoftDemand.{marginOf, BestByLikelihood, SoftAnswered}
+use Rattle.decode_hard.specs.HardTheorems.{Answered, hard-sound, hard-complete}
+use Rattle.decode_soft.specs.SoftTheorems.{soft-sound, soft-complete}
 
 -- ---- DEMAND 1: refusals and rooms
 -- "A refusal carries no square": it is its number and nothing else

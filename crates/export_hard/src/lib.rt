@@ -31,7 +31,7 @@ pub extern "C" fn samburext_decode_hard<'a>(
         (now (transforms .entry)) (tables (now (h .entry)) (now (v .entry))) «error_limit»)
         (now (counts .entry)) (now (counts .exit)) (now (weights .entry)) (now (weights .exit)) r ⌝ }
 {
-    let answer = puzzleboard::hard_decode::decode_hard(
+    let answer = decode_hard::decode_hard(
         lrows,
         lcols,
         lorientations,

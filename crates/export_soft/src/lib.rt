@@ -37,7 +37,7 @@ pub extern "C" fn samburext_decode_soft<'a>(
         (now (transforms .entry)) (tables (now (h .entry)) (now (v .entry))) «error_limit» «soft_margin»)
         (now (counts .entry)) (now (counts .exit)) (now (weights .entry)) (now (weights .exit)) (now (sums .entry)) (now (sums .exit)) r ⌝ }
 {
-    let answer = puzzleboard::soft_decode::decode_soft(
+    let answer = decode_soft::decode_soft(
         lrows,
         lcols,
         lorientations,

@@ -70,7 +70,7 @@ pub(crate) fn call<'a>(
     let mut sums = [7i64; 5014];
     match kind {
         1 => {
-            let answer = puzzleboard::hard_decode::decode_hard(
+            let answer = decode_hard::decode_hard(
                 front_i32(lrows, l.rows),
                 front_i32(lcols, l.cols),
                 front_u8(lorientations, l.orientations),
@@ -91,7 +91,7 @@ pub(crate) fn call<'a>(
             words_of(answer)
         }
         2 => {
-            let answer = puzzleboard::soft_decode::decode_soft(
+            let answer = decode_soft::decode_soft(
                 front_i32(lrows, l.rows),
                 front_i32(lcols, l.cols),
                 front_u8(lorientations, l.orientations),

@@ -62,7 +62,7 @@ pub(crate) fn decode<'a>(
     let mut counts = [0u32; 3006];
     let mut weights = [0.0f32; 3006];
     if !is_soft(view) {
-        return puzzleboard::hard_decode::decode_hard(
+        return decode_hard::decode_hard(
             part_i32(rows, l.from, l.edges),
             part_i32(cols, l.from, l.edges),
             part_u8(orientations, l.from, l.edges),
@@ -82,7 +82,7 @@ pub(crate) fn decode<'a>(
         );
     }
     let mut sums = [0i64; 5010];
-    puzzleboard::soft_decode::decode_soft(
+    decode_soft::decode_soft(
         part_i32(rows, l.from, l.edges),
         part_i32(cols, l.from, l.edges),
         part_u8(orientations, l.from, l.edges),

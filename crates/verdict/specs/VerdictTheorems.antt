@@ -89,8 +89,8 @@ cond-last : (a : Bool) (x z : Admission) → a ≡ false → cond a x z ≡ z
 cond-last true x z p = clash refl p
 cond-last false x z p = refl
 
-no-square : (d : Decoded) (r : Refusal) → Refused r ≡ Found d → ⊥
-no-square d r e = let z : _≡_ {A = ℕ} 0 1 = cc in omega arith
+pub never-both : (d : Decoded) (r : Refusal) → Refused r ≡ Found d → ⊥
+never-both d r e = let z : _≡_ {A = ℕ} 0 1 = cc in omega arith
 
 -- ---- hard: the logical winner w under the transform t, with its runner-up, and the physical winner p under the transform s
 module _ (t : ℕ) (w : Candidate) (runner : RunnerUp) (s : ℕ) (p : Candidate) (edges : ℕ) where
@@ -125,11 +125,11 @@ module _ (t : ℕ) (w : Candidate) (runner : RunnerUp) (s : ℕ) (p : Candidate)
         says = record { transform = refl; row = refl; col = refl; hits-told = refl; edges-told = refl; runner-up-hits = refl; runner-up-transform = refl; runner-up-row = refl; runner-up-col = refl };
         margin = refl;
       })
-  by-gate d false g a k = absurd (no-square d (numbered why.notFarAhead) k)
+  by-gate d false g a k = absurd (never-both d (numbered why.notFarAhead) k)
 
   by-agreed : (d : Decoded) (b : Bool) → test t (w .placing) s (p .placing) ≡ b → pick b (pick (passed edges (w .hits) (runner .hits)) (Found (decodedOf t w runner edges)) (refusedBy why.notFarAhead)) (refusedBy why.listsDisagree) ≡ Found d → Judged d
   by-agreed d true e k = by-gate d (passed edges (w .hits) (runner .hits)) refl (agree-of t (w .placing) s (p .placing) e) k
-  by-agreed d false e k = absurd (no-square d (numbered why.listsDisagree) k)
+  by-agreed d false e k = absurd (never-both d (numbered why.listsDisagree) k)
 
   -- FOUND MEANS TRUE
   pub judged-sound : (d : Decoded) → judged t w runner s p edges ≡ Found d → Judged d

@@ -32,7 +32,7 @@ fn show<'a>(
     let mut counts = [7u32; 3010];
     let mut weights = [7.0f32; 3010];
     let mut sums = [7i64; 5014];
-    let answer = puzzleboard::soft_decode::decode_soft(
+    let answer = decode_soft::decode_soft(
         front_i32(rows, n),
         front_i32(cols, n),
         front_u8(orientations, n),

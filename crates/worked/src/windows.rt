@@ -31,7 +31,7 @@ fn show<'a>(
 ) {
     let mut counts = [7u32; 3010];
     let mut weights = [7.0f32; 3010];
-    let answer = puzzleboard::hard_decode::decode_hard(
+    let answer = decode_hard::decode_hard(
         front_i32(rows, n),
         front_i32(cols, n),
         front_u8(orientations, n),

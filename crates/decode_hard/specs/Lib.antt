@@ -1,0 +1,5 @@
+pub mod Hard
+pub mod HardLaws
+pub mod HardTheorems
+pub mod HardNumbers
+pub mod HardRange

@@ -1,0 +1,6 @@
+pub mod Soft
+pub mod SoftLaws
+pub mod SoftDemand
+pub mod SoftTheorems
+pub mod SoftNumbers
+pub mod SoftRange

@@ -1,0 +1,106 @@
+-- Document 01, 'Soft selection', and 'Refusal numbers': "Soft: 10 physical, 14, 10 logical, 11, 15, 13."
+use mathlib.Core.Path.{_≡_}
+use mathlib.Core.Bool.{Bool, true, false, cond, _&&_}
+use mathlib.Core.List.{List}
+use Prim.Native.Nat.{ℕ, _+_, _*_, _%_}
+use lib.ListN.{getD, length}
+use lib.IntN.{ℤ, pos}
+use lib.Ieee.{Float, nan, binary32, add, div, ofInt}
+use Rattle.laws.specs.Weights.{zeroF}
+use Rattle.laws.specs.Cleared.{SameBeyond}
+use Rattle.board.specs.Hits.{EdgeList, Board, size}
+use Rattle.board.specs.Sides.{periodOf}
+use Rattle.tables.specs.Built.{TablesBuilt}
+use Rattle.sums.specs.Sums.{Likelihoods}
+use Rattle.refusals.specs.Numbers as why
+use Rattle.room.specs.Room.{tablesRoom, sumsRoom}
+use Rattle.admission.specs.Calls.{HardCall, SoftCall}
+use Rattle.admission.specs.Refusals.{softAdmission}
+use Rattle.scan.specs.declared.scan.Candidate.{Candidate}
+use Rattle.scan.specs.declared.scan.RunnerUp.{RunnerUp}
+use Rattle.hard.specs.declared.select.Selection.{Selection}
+use Rattle.hard.specs.declared.select.Selection.the-variants as sel
+use Rattle.best.specs.CellTables.{CellTables, cAt, wAt}
+use Rattle.figures.specs.Figures.{rateOf, meanOf}
+use Rattle.figures.specs.Gate.{passed}
+use Rattle.figures.specs.Figures.{noConfidence}
+use Rattle.hard.specs.Select.{tablesOf, selection}
+use Rattle.margin.specs.declared.slots.SoftCandidate.{SoftCandidate}
+use Rattle.margin.specs.declared.slots.SoftChoice.{SoftChoice}
+use Rattle.margin.specs.declared.slots.SoftChoice.the-variants.{Nothing, Chosen}
+use Rattle.margin.specs.Margin.{softMargin, belowMargin}
+use Rattle.soft.specs.Select.{softSelection}
+use Rattle.figures.specs.declared.Fit.{Fit}
+use Rattle.verdict.specs.declared.soft_verdict.SoftBest.{SoftBest}
+use Rattle.answer.specs.declared.Decoded.{Decoded}
+use Rattle.answer.specs.declared.Answer.{Answer}
+use Rattle.answer.specs.declared.Answer.the-variants.{Found, Refused}
+use Rattle.verdict.specs.Verdict.{refusedBy, pick, whenAccepted, softVerdict, softDecodedOf, bestOf}
+use Rattle.demand.specs.Left.{left}
+
+-- ---- the physical list's figures
+-- the two cells of an origin, added: counts, and weights rounded once
+unfoldable pub cellFit : ℕ → ℕ → CellTables → ℕ → ℕ → Fit
+cellFit L M X row col = record {
+  hits = cAt (X .hc) (row % L * 3 + col % 3) + cAt (X .vc) (row % 3 * M + col % M);
+  weight = add binary32 (wAt (X .hw) (row % L * 3 + col % 3)) (wAt (X .vw) (row % 3 * M + col % M));
+}
+
+-- of the origin (row, col) under the transform t
+abbrev pub fitOf : Board → EdgeList → ℕ → ℕ → ℕ → Fit
+fitOf B E t row col = cellFit (periodOf B true) (periodOf B false) (tablesOf B E t) row col
+
+-- ---- the answer
+module _ (call : HardCall) where
+  -- the two best by likelihood, where the logical list gave w with its runner-up
+  unfoldable pub softJudged : SoftBest → Candidate → RunnerUp → Answer
+  unfolding softDecodedOf
+  softJudged best w runner =
+      let t = getD (call .transforms) (best .first .placing .listed) 0 in
+      whenAccepted (softVerdict t (best .first) (getD (call .transforms) (w .placing .listed) 0) w runner (size (call .logical))) (Found (softDecodedOf t best (fitOf (call .board) (call .physical) t (best .first .placing .row) (best .first .placing .col)) (size (call .physical)) runner))
+
+  abbrev pub afterHard : SoftBest → Selection → Answer
+  afterHard best (sel.Refused r) = Refused r
+  afterHard best (sel.Selected w runner) = softJudged best w runner
+
+  -- "Margin = (first - second) / edges. Below the soft margin: refused."
+  abbrev pub afterSoft : Float → SoftChoice → Answer
+  afterSoft least Nothing = refusedBy why.softMargin
+  afterSoft least (Chosen first second) =
+      pick (belowMargin (softMargin first second (size (call .physical))) least) (refusedBy why.softMargin) (afterHard (bestOf first second (size (call .physical))) (selection (call .board) (call .logical) (call .transforms) (call .error-limit)))
+
+-- what an accepted soft call answers, with the soft margin `least`
+unfoldable pub softCore : SoftCall → Answer
+unfolding softJudged
+softCore call = pick (noConfidence (call .hard .physical)) (refusedBy why.noConfidence) (afterSoft (call .hard) (call .soft-margin) (softSelection (call .hard .board) (call .hard .physical) (call .likelihoods) (call .hard .transforms)))
+
+-- the answer for all inputs: refusals 1 to 9 come first
+unfoldable pub softAnswer : SoftCall → ℕ → ℕ → ℕ → Answer
+unfolding softCore
+softAnswer call m n k =
+    whenAccepted (softAdmission call m n k) (softCore call)
+
+-- what soft decode promises for all inputs: the answer, and the three room slices at exit
+pub record SoftDone (call : SoftCall) (c c' : List ℕ) (w w' : List Float) (a a' : List ℤ) (r : Answer) : Type 0 where
+  pub answer : r ≡ softAnswer call (length c) (length w) (length a)
+  pub counts : c' ≡ left 0 (tablesRoom (call .hard .board)) (softAdmission call (length c) (length w) (length a)) c
+  pub weights : w' ≡ left zeroF (tablesRoom (call .hard .board)) (softAdmission call (length c) (length w) (length a)) w
+  pub sums : a' ≡ left (pos 0) (sumsRoom (call .hard .board)) (softAdmission call (length c) (length w) (length a)) a
+
+-- ---- what the steps between leave
+pub record FitDone (B : Board) (E : EdgeList) (t row col : ℕ) (c c' : List ℕ) (w w' : List Float) (r : Fit) : Type 0 where
+  pub answer : r ≡ fitOf B E t row col
+  pub rooms : TablesBuilt B E t c c' w w'
+
+-- the logical list and the figures: the u32 and the f32 room are used
+pub record LogicalDone (call : HardCall) (best : SoftBest) (c c' : List ℕ) (w w' : List Float) (r : Answer) : Type 0 where
+  pub answer : r ≡ afterHard call best (selection (call .board) (call .logical) (call .transforms) (call .error-limit))
+  pub counts : SameBeyond 0 (tablesRoom (call .board)) c c'
+  pub weights : SameBeyond nan (tablesRoom (call .board)) w w'
+
+-- the whole: all three are used
+pub record SoftCoreDone (call : SoftCall) (c c' : List ℕ) (w w' : List Float) (a a' : List ℤ) (r : Answer) : Type 0 where
+  pub answer : r ≡ softCore call
+  pub counts : SameBeyond 0 (tablesRoom (call .hard .board)) c c'
+  pub weights : SameBeyond nan (tablesRoom (call .hard .board)) w w'
+  pub sums : SameBeyond (pos 0) (sumsRoom (call .hard .board)) a a'

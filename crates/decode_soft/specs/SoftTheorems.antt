@@ -1,0 +1,213 @@
+-- DEMAND 3, SOFT. For accepted inputs with some confidence in each list, soft decode answers exactly when its own best placing clears the soft margin and meets
+-- limit and lead on the logical list; it gives that placing, and the runner-up of the logical list. Sums and hits are counted edge by edge.
+use mathlib.Core.Path.{_≡_, refl, sym, ap, ap₂, subst, _∙_}
+use mathlib.Core.Bool.{Bool, true, false, _&&_, cond}
+use mathlib.Core.List.{List}
+use Prim.Native.Nat.{ℕ, _+_, _*_, _/_, _%_, _≤_, _<_}
+use native.Mathlib.Omega.{arith}
+use lib.Dec.{eqb}
+use lib.ListN.{getD, length}
+use lib.IntN.{ℤ, pos}
+use lib.Ieee.{Float, binary32, ofInt}
+use borrow.Author.Tests.{eq-eqb, eqb-true, eqb-false}
+use Rattle.laws.specs.Tests.{and-true}
+use Rattle.laws.specs.Grid.{Grid, origins}
+use Rattle.board.specs.declared.edge.Placing.{Placing}
+use Rattle.board.specs.Hits.{EdgeList, Board, size, hits, hitsAt}
+use Rattle.board.specs.Sides.{periodOf}
+use Rattle.board.specs.Domain.{BoardOk}
+use Rattle.admission.specs.Calls.{SoftCall}
+use Rattle.admission.specs.Accepted.{SoftAccepted}
+use Rattle.likelihood.specs.Likelihood.{dequantised}
+use Rattle.sums.specs.Sums.{Likelihoods, score}
+use Rattle.cells.specs.Cells.{countsOf}
+use Rattle.tables.specs.TablesTheorems.{cell-pair-hits}
+use Rattle.figures.specs.Gate.{passed}
+use Rattle.hard.specs.OneList.{keyAt}
+use Rattle.figures.specs.Figures.{noConfidence}
+use Rattle.hard.specs.Select.{tablesOf, selection}
+use Rattle.grid.specs.BoardGrid.{period-h, period-v}
+use Rattle.hard.specs.SelectTheorems.{sole-selected}
+use Rattle.scan.specs.declared.scan.Candidate.{Candidate}
+use Rattle.scan.specs.declared.scan.RunnerUp.{RunnerUp}
+use Rattle.hard.specs.declared.select.Selection.{Selection}
+use Rattle.hard.specs.declared.select.Selection.the-variants as sel
+use Rattle.margin.specs.declared.slots.SoftCandidate.{SoftCandidate}
+use Rattle.margin.specs.declared.slots.SoftChoice.{SoftChoice}
+use Rattle.margin.specs.declared.slots.SoftChoice.the-variants.{Nothing, Chosen}
+use Rattle.soft.specs.BestPlacing.{FirstPlace, SecondPlace, BestTwo}
+use Rattle.soft.specs.BestPlacingUnique.{best-two-only}
+use Rattle.margin.specs.Margin.{softMargin, belowMargin}
+use Rattle.soft.specs.Select.{softSelection}
+use Rattle.soft.specs.SelectLaws.{scoreAtKey, soft-best-edges}
+use Rattle.refusals.specs.declared.Admission.{Admission}
+use Rattle.refusals.specs.declared.Admission.the-variants as admission
+use Rattle.refusals.specs.Numbers.{numbered}
+use Rattle.refusals.specs.Numbers as why
+use Rattle.answer.specs.declared.Decoded.{Decoded}
+use Rattle.answer.specs.declared.Answer.{Answer}
+use Rattle.answer.specs.declared.Answer.the-variants.{Found, Refused}
+use Rattle.verdict.specs.Verdict.{refusedBy, pick, whenAccepted}
+use Rattle.verdict.specs.Verdict.{softVerdict, softDecodedOf, bestOf}
+use Rattle.decode_soft.specs.Soft.{cellFit, fitOf, softJudged, afterHard, afterSoft, softCore}
+use Rattle.decode_soft.specs.SoftLaws.{likelihoods-ok}
+use Rattle.demand.specs.Demand.{OnBoard, Same, Leads, RunsUp, Names}
+use Rattle.demand.specs.DemandLaws.{keyOf, placing, placing-on, key-same, key-back, row-back, col-back, leads-sole}
+use Rattle.verdict.specs.VerdictTheorems.{never-both}
+use Rattle.decode_soft.specs.SoftDemand.{total, withTotal, marginOf, BestByLikelihood, SoftAnswered}
+use Rattle.demand.specs.Winners.{runnerAt, winner-on, winner-leads, winner-hits, named, runner-hits, runs-up}
+
+-- ---- the verdict
+-- 0: both winners agree, and the gate is passed
+pub verdict-passed : (t : ℕ) (first : SoftCandidate) (s : ℕ) (w : Candidate) (runner : RunnerUp) (edges : ℕ) → softVerdict t first s w runner edges ≡ admission.Accepted
+    → (t ≡ s) × (first .placing .row ≡ w .placing .row) × (first .placing .col ≡ w .placing .col) × (passed edges (w .hits) (runner .hits) ≡ true)
+unfolding softVerdict
+verdict-passed t first s w runner edges h =
+    go (eqb t s && (eqb (first .placing .row) (w .placing .row) && eqb (first .placing .col) (w .placing .col))) (passed edges (w .hits) (runner .hits)) refl refl h
+  where
+    go : (a b : Bool) → (eqb t s && (eqb (first .placing .row) (w .placing .row) && eqb (first .placing .col) (w .placing .col))) ≡ a → passed edges (w .hits) (runner .hits) ≡ b → cond a (cond b admission.Accepted (admission.Refused (numbered why.notFarAhead))) (admission.Refused (numbered why.softHardDisagree)) ≡ admission.Accepted
+        → (t ≡ s) × (first .placing .row ≡ w .placing .row) × (first .placing .col ≡ w .placing .col) × (passed edges (w .hits) (runner .hits) ≡ true)
+    go true true e g k =
+        let u = and-true (eqb t s) _ e in
+        let v = and-true (eqb (first .placing .row) (w .placing .row)) (eqb (first .placing .col) (w .placing .col)) (u .1) in
+        (eqb-true t s (u .0), eqb-true (first .placing .row) (w .placing .row) (v .0), eqb-true (first .placing .col) (w .placing .col) (v .1), g)
+    go true false e g k = let z : _≡_ {A = ℕ} 0 1 = cc in absurd (omega arith)
+    go false b e g k = let z : _≡_ {A = ℕ} 0 1 = cc in absurd (omega arith)
+
+-- the figures' hits are board's
+pub fit-hits : (B : Board) (E : EdgeList) (t row col : ℕ) → BoardOk B → fitOf B E t row col .hits ≡ hits B E t row col
+unfolding cellFit tablesOf
+fit-hits B E t row col board = sym (cell-pair-hits B E t board row col)
+
+module _ (call : SoftCall) (m n o : ℕ) (A : SoftAccepted call m n o) where
+  -- ---- its own best placing
+  abbrev Best : SoftChoice → Type 0
+  Best = BestTwo (periodOf (call .hard .board) true) (periodOf (call .hard .board) false) (length (call .hard .transforms)) (scoreAtKey (call .hard .board) (call .hard .physical) (call .likelihoods) (call .hard .transforms))
+
+  best : Best (softSelection (call .hard .board) (call .hard .physical) (call .likelihoods) (call .hard .transforms))
+  best = soft-best-edges (call .hard .board) (call .hard .physical) (call .likelihoods) (call .hard .transforms) (A .hard .board) (A .hard .physical) (likelihoods-ok call m n o A) (A .hard .transforms .some)
+
+  -- a placing by its key has the total that its row and column have
+  by-key : (Q : Placing) → OnBoard (call .hard .board) (call .hard .transforms) Q → record { placing = record { listed = Q .listed; row = keyOf (call .hard .board) (A .hard .board) Q / (3 * periodOf (call .hard .board) false); col = keyOf (call .hard .board) (A .hard .board) Q % (3 * periodOf (call .hard .board) false) }; total = dequantised (scoreAtKey (call .hard .board) (call .hard .physical) (call .likelihoods) (call .hard .transforms) (Q .listed) (keyOf (call .hard .board) (A .hard .board) Q)) } ≡ withTotal (call .hard .board) (call .hard .physical) (call .likelihoods) (call .hard .transforms) Q
+  by-key Q u =
+      let r = row-back (call .hard .board) (A .hard .board) (call .hard .transforms) Q u in
+      let c = col-back (call .hard .board) (A .hard .board) (call .hard .transforms) Q u in
+      λ i. record { placing = record { listed = Q .listed; row = r i; col = c i }; total = dequantised (score (call .hard .board) (call .hard .physical) (call .likelihoods) (getD (call .hard .transforms) (Q .listed) 0) (r i) (c i)) }
+
+  -- the two best by likelihood are what soft selection holds
+  pub own-best : (Q R : Placing) → BestByLikelihood (call .hard .board) (call .hard .physical) (call .likelihoods) (call .hard .transforms) Q R → softSelection (call .hard .board) (call .hard .physical) (call .likelihoods) (call .hard .transforms) ≡ Chosen (withTotal (call .hard .board) (call .hard .physical) (call .likelihoods) (call .hard .transforms) Q) (withTotal (call .hard .board) (call .hard .physical) (call .likelihoods) (call .hard .transforms) R)
+  own-best Q R b =
+      best-two-only (periodOf (call .hard .board) true) (periodOf (call .hard .board) false) (length (call .hard .transforms)) (period-h (call .hard .board) (A .hard .board)) (period-v (call .hard .board) (A .hard .board)) (scoreAtKey (call .hard .board) (call .hard .physical) (call .likelihoods) (call .hard .transforms)) (softSelection (call .hard .board) (call .hard .physical) (call .likelihoods) (call .hard .transforms)) _ best
+      (record { p = Q .listed; k = keyOf (call .hard .board) (A .hard .board) Q; q = R .listed; j = keyOf (call .hard .board) (A .hard .board) R; chosen = refl; first = b .first; second = b .second })
+      ∙ ap₂ (λ (x y : SoftCandidate). Chosen x y) (by-key Q (b .on-board)) (by-key R (b .second-on))
+
+  -- and it always holds two
+  pub first-placing : Placing
+  first-placing = placing (call .hard .board) (A .hard .board) (best .p) (best .k)
+
+  pub second-placing : Placing
+  second-placing = placing (call .hard .board) (A .hard .board) (best .q) (best .j)
+
+  pub own-exists : BestByLikelihood (call .hard .board) (call .hard .physical) (call .likelihoods) (call .hard .transforms) first-placing second-placing
+  unfolding first-placing second-placing
+  own-exists =
+      let e = key-back (call .hard .board) (A .hard .board) (call .hard .transforms) (best .p) (best .k) in
+      let f = key-back (call .hard .board) (A .hard .board) (call .hard .transforms) (best .q) (best .j) in
+      let G = origins (periodOf (call .hard .board) true) (periodOf (call .hard .board) false) in
+      record {
+        on-board = placing-on (call .hard .board) (A .hard .board) (call .hard .transforms) (best .p) (best .k) (best .first .listed) (best .first .own .key);
+        second-on = placing-on (call .hard .board) (A .hard .board) (call .hard .transforms) (best .q) (best .j) (best .second .listed) (best .second .key);
+        first = subst (λ (k : ℕ). FirstPlace (origins (periodOf (call .hard .board) true) (periodOf (call .hard .board) false)) (length (call .hard .transforms)) (scoreAtKey (call .hard .board) (call .hard .physical) (call .likelihoods) (call .hard .transforms)) (best .p) k) (sym e) (best .first);
+        second = subst (λ (k : ℕ). SecondPlace (origins (periodOf (call .hard .board) true) (periodOf (call .hard .board) false)) (length (call .hard .transforms)) (scoreAtKey (call .hard .board) (call .hard .physical) (call .likelihoods) (call .hard .transforms)) (best .p) k (best .q) (keyOf (call .hard .board) (A .hard .board) (placing (call .hard .board) (A .hard .board) (best .q) (best .j)))) (sym e)
+            (subst (λ (j : ℕ). SecondPlace (origins (periodOf (call .hard .board) true) (periodOf (call .hard .board) false)) (length (call .hard .transforms)) (scoreAtKey (call .hard .board) (call .hard .physical) (call .likelihoods) (call .hard .transforms)) (best .p) (best .k) (best .q) j) (sym f) (best .second));
+      }
+
+  -- ---- found: then its own best placing clears the margin and leads
+  module _ (d : Decoded) (Q R : Placing) (b : BestByLikelihood (call .hard .board) (call .hard .physical) (call .likelihoods) (call .hard .transforms) Q R) (clear : belowMargin (marginOf (call .hard .board) (call .hard .physical) (call .likelihoods) (call .hard .transforms) Q R) (call .soft-margin) ≡ false) where
+    abbrev t : ℕ
+    t = getD (call .hard .transforms) (Q .listed) 0
+
+    abbrev answer : RunnerUp → Decoded
+    answer r = softDecodedOf t (bestOf (withTotal (call .hard .board) (call .hard .physical) (call .likelihoods) (call .hard .transforms) Q) (withTotal (call .hard .board) (call .hard .physical) (call .likelihoods) (call .hard .transforms) R) (size (call .hard .physical))) (fitOf (call .hard .board) (call .hard .physical) t (Q .row) (Q .col)) (size (call .hard .physical)) r
+
+    module _ (x : Candidate) (r : RunnerUp) (e : selection (call .hard .board) (call .hard .logical) (call .hard .transforms) (call .hard .error-limit) ≡ sel.Selected x r) (p : (t ≡ getD (call .hard .transforms) (x .placing .listed) 0) × (Q .row ≡ x .placing .row) × (Q .col ≡ x .placing .col) × (passed (size (call .hard .logical)) (x .hits) (r .hits) ≡ true)) where
+      lead : Leads (call .hard .board) (call .hard .logical) (call .hard .transforms) (call .hard .error-limit) (x .placing)
+      lead = winner-leads (call .hard .board) (call .hard .logical) (call .hard .transforms) (call .hard .error-limit) (A .hard .board) (A .hard .logical) (A .hard .transforms .few) x r e (p .3)
+
+      -- the same transform and origin, so as many hits: were it at another place of the list, neither would lead
+      same-hits : hitsAt (call .hard .board) (call .hard .logical) (call .hard .transforms) Q ≡ hitsAt (call .hard .board) (call .hard .logical) (call .hard .transforms) (x .placing)
+      same-hits = λ i. hits (call .hard .board) (call .hard .logical) (p .0 i) (p .1 i) (p .2 i)
+
+      same-place : (e : Bool) → eqb (Q .listed) (x .placing .listed) ≡ e → Q .listed ≡ x .placing .listed
+      same-place true h = eqb-true (Q .listed) (x .placing .listed) h
+      same-place false h = absurd (omega (arith, same-hits, lead .ahead Q (b .on-board) (λ s. eqb-false (Q .listed) (x .placing .listed) h (s .0))))
+
+      same-one : x .placing ≡ Q
+      same-one = let q = same-place (eqb (Q .listed) (x .placing .listed)) refl in λ i. record { listed = sym q i; row = sym (p .1) i; col = sym (p .2) i }
+
+      soft-answered : Found (answer r) ≡ Found d → SoftAnswered call d
+      unfolding softDecodedOf
+      soft-answered k =
+          let q : answer r ≡ d = cc in
+          let l = named (call .hard .board) (call .hard .logical) (call .hard .transforms) (call .hard .error-limit) (A .hard .board) (A .hard .logical) (A .hard .transforms .few) x r e (p .3) in
+          subst (λ (z : Decoded). SoftAnswered call z) q (record {
+            square = Q;
+            second = R;
+            runner-up = runnerAt (l .0) r;
+            best = b;
+            clears = clear;
+            leads = subst (λ (z : Placing). Leads (call .hard .board) (call .hard .logical) (call .hard .transforms) (call .hard .error-limit) z) same-one lead;
+            runs-up = subst (λ (z : Placing). RunsUp (call .hard .board) (call .hard .logical) (call .hard .transforms) z (runnerAt (l .0) r)) same-one (runs-up (call .hard .board) (call .hard .logical) (call .hard .transforms) (call .hard .error-limit) (A .hard .board) (A .hard .logical) (A .hard .transforms .few) x r e (p .3));
+            names = (refl, refl, refl);
+            hits = fit-hits (call .hard .board) (call .hard .physical) t (Q .row) (Q .col) (A .hard .board);
+            edges = refl;
+            best-score = refl;
+            margin = refl;
+            runner-up-named = (l .2, refl, refl);
+            runner-up-score = ap (λ (z : ℕ). ofInt binary32 (pos z)) (sym (runner-hits (call .hard .board) (call .hard .logical) (call .hard .transforms) (call .hard .error-limit) (A .hard .board) (A .hard .logical) (A .hard .transforms .few) x r e (p .3)));
+          })
+
+    abbrev verdict : Candidate → RunnerUp → Admission
+    verdict x r = softVerdict t (withTotal (call .hard .board) (call .hard .physical) (call .likelihoods) (call .hard .transforms) Q) (getD (call .hard .transforms) (x .placing .listed) 0) x r (size (call .hard .logical))
+
+    by-verdict : (x : Candidate) (r : RunnerUp) (v : Admission) → selection (call .hard .board) (call .hard .logical) (call .hard .transforms) (call .hard .error-limit) ≡ sel.Selected x r → verdict x r ≡ v → whenAccepted v (Found (answer r)) ≡ Found d → SoftAnswered call d
+    by-verdict x r admission.Accepted e h k = soft-answered x r e (verdict-passed t (withTotal (call .hard .board) (call .hard .physical) (call .likelihoods) (call .hard .transforms) Q) (getD (call .hard .transforms) (x .placing .listed) 0) x r (size (call .hard .logical)) h) k
+    by-verdict x r (admission.Refused j) e h k = absurd (never-both d j k)
+
+    by-logical : (q : Selection) → selection (call .hard .board) (call .hard .logical) (call .hard .transforms) (call .hard .error-limit) ≡ q → afterHard (call .hard) (bestOf (withTotal (call .hard .board) (call .hard .physical) (call .likelihoods) (call .hard .transforms) Q) (withTotal (call .hard .board) (call .hard .physical) (call .likelihoods) (call .hard .transforms) R) (size (call .hard .physical))) q ≡ Found d → SoftAnswered call d
+    unfolding softJudged
+    by-logical (sel.Refused j) e h = absurd (never-both d j h)
+    by-logical (sel.Selected x r) e h = by-verdict x r (verdict x r) e refl h
+
+  by-margin : (d : Decoded) (Q R : Placing) → BestByLikelihood (call .hard .board) (call .hard .physical) (call .likelihoods) (call .hard .transforms) Q R → (v : Bool) → belowMargin (marginOf (call .hard .board) (call .hard .physical) (call .likelihoods) (call .hard .transforms) Q R) (call .soft-margin) ≡ v
+      → pick v (refusedBy why.softMargin) (afterHard (call .hard) (bestOf (withTotal (call .hard .board) (call .hard .physical) (call .likelihoods) (call .hard .transforms) Q) (withTotal (call .hard .board) (call .hard .physical) (call .likelihoods) (call .hard .transforms) R) (size (call .hard .physical))) (selection (call .hard .board) (call .hard .logical) (call .hard .transforms) (call .hard .error-limit))) ≡ Found d → SoftAnswered call d
+  by-margin d Q R b true e h = absurd (never-both d (numbered why.softMargin) h)
+  by-margin d Q R b false e h = by-logical d Q R b e (selection (call .hard .board) (call .hard .logical) (call .hard .transforms) (call .hard .error-limit)) refl h
+
+  by-confidence : (d : Decoded) (v : Bool) → pick v (refusedBy why.noConfidence) (afterSoft (call .hard) (call .soft-margin) (softSelection (call .hard .board) (call .hard .physical) (call .likelihoods) (call .hard .transforms))) ≡ Found d → SoftAnswered call d
+  by-confidence d true h = absurd (never-both d (numbered why.noConfidence) h)
+  by-confidence d false h =
+      let Q = first-placing in
+      let R = second-placing in
+      by-margin d Q R own-exists (belowMargin (marginOf (call .hard .board) (call .hard .physical) (call .likelihoods) (call .hard .transforms) Q R) (call .soft-margin)) refl (ap (afterSoft (call .hard) (call .soft-margin)) (sym (own-best Q R own-exists)) ∙ h)
+
+  -- FOUND MEANS TRUE
+  pub soft-sound : (d : Decoded) → softCore call ≡ Found d → SoftAnswered call d
+  unfolding softCore
+  soft-sound d h = by-confidence d (noConfidence (call .hard .physical)) h
+
+  -- ---- its own best placing clears the margin and leads: then soft decode finds
+  -- A TRUE SQUARE IS FOUND
+  pub soft-complete : noConfidence (call .hard .physical) ≡ false → noConfidence (call .hard .logical) ≡ false → (Q R : Placing) → BestByLikelihood (call .hard .board) (call .hard .physical) (call .likelihoods) (call .hard .transforms) Q R → belowMargin (marginOf (call .hard .board) (call .hard .physical) (call .likelihoods) (call .hard .transforms) Q R) (call .soft-margin) ≡ false → Leads (call .hard .board) (call .hard .logical) (call .hard .transforms) (call .hard .error-limit) Q
+      → (d : Decoded) × (softCore call ≡ Found d)
+  unfolding softCore softJudged softVerdict
+  soft-complete h g Q R b clear l =
+      let s = sole-selected (call .hard .board) (call .hard .logical) (call .hard .transforms) (call .hard .error-limit) (A .hard .board) (A .hard .logical) (A .hard .transforms .few) g (Q .listed) (keyOf (call .hard .board) (A .hard .board) Q) (leads-sole (call .hard .board) (A .hard .board) (call .hard .transforms) (call .hard .logical) (call .hard .error-limit) Q l) in
+      let x = s .0 in
+      let r = s .1 in
+      let k = key-same (call .hard .board) (A .hard .board) (call .hard .transforms) Q (x .placing) (l .on-board) (winner-on (call .hard .board) (call .hard .logical) (call .hard .transforms) (call .hard .error-limit) (A .hard .board) (A .hard .logical) (A .hard .transforms .few) x r (s .2)) (s .4, s .5) in
+      let t = getD (call .hard .transforms) (Q .listed) 0 in
+      let p1 : eqb t (getD (call .hard .transforms) (x .placing .listed) 0) ≡ true = eq-eqb t (getD (call .hard .transforms) (x .placing .listed) 0) (ap (λ (i : ℕ). getD (call .hard .transforms) i 0) (k .0)) in
+      let p2 : eqb (Q .row) (x .placing .row) ≡ true = eq-eqb (Q .row) (x .placing .row) (k .1) in
+      let p3 : eqb (Q .col) (x .placing .col) ≡ true = eq-eqb (Q .col) (x .placing .col) (k .2) in
+      (softDecodedOf t (bestOf (withTotal (call .hard .board) (call .hard .physical) (call .likelihoods) (call .hard .transforms) Q) (withTotal (call .hard .board) (call .hard .physical) (call .likelihoods) (call .hard .transforms) R) (size (call .hard .physical))) (fitOf (call .hard .board) (call .hard .physical) t (Q .row) (Q .col)) (size (call .hard .physical)) r, rw (h, own-best Q R b, clear, s .2, p1, p2, p3, s .3))

@@ -29,7 +29,7 @@ abbrev pub whenAccepted : Admission → Answer → Answer
 whenAccepted admission.Accepted x = x
 whenAccepted (admission.Refused r) x = Refused r
 
--- "origin and matrix must agree": the eight matrices differ, so transforms by number (`matrix-tells` in HardLaws)
+-- "origin and matrix must agree": the eight matrices differ, so transforms by number (`matrix-tells` in demand/specs/Matrices.antt)
 unfoldable pub agreed : ℕ → Candidate → ℕ → Candidate → Bool
 agreed t a s b = eqb t s && (eqb (a .placing .row) (b .placing .row) && eqb (a .placing .col) (b .placing .col))
 

@@ -19,4 +19,6 @@ pub mod Grid
 pub mod GridLaws
 pub mod Weights
 pub mod WeightLaws
+pub mod WithinLaws
 pub mod PlusZero
+pub mod ShareLaws

@@ -21,7 +21,7 @@ use Rattle.laws.specs.Weights.{zeroF, Unsigned}
 cross-pow : (x c a d l : ℕ) → x * c ≡ a * d → x * l * c ≡ a * l * d
 cross-pow x c a d l h = mul-right-comm x l c ∙ ap (λ y. y * l) h ∙ mul-right-comm a d l
 
-unique : (f : Format) (x y : Float) (s : Bool) (a c : ℕ) → 0 < c → T (fits f x) → T (fits f y) → HasValue x s a c → HasValue y s a c → x ≡ y
+pub unique : (f : Format) (x y : Float) (s : Bool) (a c : ℕ) → 0 < c → T (fits f x) → T (fits f y) → HasValue x s a c → HasValue y s a c → x ≡ y
 unfolding toBits
 unique f nan y s a c C p q v w = absurd v
 unique f (inf t) y s a c C p q v w = absurd v

@@ -18,7 +18,7 @@ use lib.Ieee.Positive.{num, den, den-pos, through}
 use Rattle.laws.specs.Tests.{compared, and-comm}
 use Rattle.laws.specs.Fold.{fold, put}
 use Rattle.laws.specs.Best.{Weak}
-use Rattle.laws.specs.Weights.{zeroF, oneF, Upto, Weight, weightlike, heavier}
+use Rattle.laws.specs.Weights.{zeroF, oneF, Upto, Weight, UptoOver, WeightOver, weightlike, heavier}
 
 -- ---- what is not negative rounds to what has no minus sign
 abbrev plain : Float → Bool
@@ -43,7 +43,7 @@ round-plain : (f : Format) (a c : ℕ) → T (plain (round f false a c))
 round-plain f a c = rw (round-is f false a c) (units-plain f _ _)
 
 -- ---- below a value there is no infinity
-lt-or-eq : (x y : ℕ) → T (ltb x y || (eqb x y && true)) → x ≤ y
+pub lt-or-eq : (x y : ℕ) → T (ltb x y || (eqb x y && true)) → x ≤ y
 lt-or-eq x y t = go (ltb x y) (eqb x y) (ltb→lt x y) (eqb→eq x y) t
   where
     go : (p q : Bool) → (T p → x < y) → (T q → x ≡ y) → T (p || (q && true)) → x ≤ y
@@ -51,47 +51,76 @@ lt-or-eq x y t = go (ltb x y) (eqb x y) (ltb→lt x y) (eqb→eq x y) t
     go false true a b t = le-of-eq (b tt)
     go false false a b t = absurd t
 
-cancel : (x y e d a : ℕ) → 0 < d → x * d ≤ y * e → y * 1 ≡ a * d → x ≤ a * e
-cancel x y e d a D h k = le-of-mul-le-mul-right (le-trans h (le-of-eq (ap (λ w. w * e) (sym (mul-one y) ∙ k) ∙ mul-right-comm a d e))) D
+cancel : (x y e d a c : ℕ) → 0 < d → x * d ≤ y * e → y * c ≡ a * d → x * c ≤ a * e
+cancel x y e d a c D h k =
+    le-of-mul-le-mul-right
+    (le-trans (le-of-eq (mul-right-comm x c d)) (le-trans (mul-le-mul-right c h) (le-of-eq (mul-right-comm y e c ∙ ap (λ w. w * e) k ∙ mul-right-comm a d e)))) D
 
-under : (z y : Float) (a : ℕ) → T (plain z) → HasValue y false a 1 → T (le z y) → Upto z a
+under : (z y : Float) (a c : ℕ) → T (plain z) → HasValue y false a c → T (le z y) → UptoOver z a c
 unfolding le
-under nan y a p v h = absurd p
-under (inf true) y a p v h = absurd p
-under (inf false) nan a p v h = absurd v
-under (inf false) (inf t) a p v h = absurd v
-under (inf false) (fin t n d) a p v h = absurd h
-under (fin true m e) y a p v h = absurd p
-under (fin false m e) nan a p v h = absurd v
-under (fin false m e) (inf t) a p v h = absurd v
-under (fin false m e) (fin true n d) a p v h = absurd (true≢false (v .0))
-under (fin false m e) (fin false n d) a p v h = cancel (m * up e) (n * up d) (down e) (down d) a (down-pos d) (lt-or-eq (m * up e * down d) (n * up d * down e) h) (v .1)
+under nan y a c p v h = absurd p
+under (inf true) y a c p v h = absurd p
+under (inf false) nan a c p v h = absurd v
+under (inf false) (inf t) a c p v h = absurd v
+under (inf false) (fin t n d) a c p v h = absurd h
+under (fin true m e) y a c p v h = absurd p
+under (fin false m e) nan a c p v h = absurd v
+under (fin false m e) (inf t) a c p v h = absurd v
+under (fin false m e) (fin true n d) a c p v h = absurd (true≢false (v .0))
+under (fin false m e) (fin false n d) a c p v h = cancel (m * up e) (n * up d) (down e) (down d) a c (down-pos d) (lt-or-eq (m * up e * down d) (n * up d * down e) h) (v .1)
 
-round-upto : (a n c : ℕ) → 0 < c → a ≤ 2 ^ 24 → n ≤ a * c → Upto (round binary32 false n c) a
-round-upto a n c C h k =
-    under (round binary32 false n c) (round binary32 false a 1) a (round-plain binary32 n c) (round-whole binary32 false a h)
-    (round-mono binary32 n c a 1 C (lit< tt) (le-trans (le-of-eq (mul-one n)) k))
+-- a fraction that f32 holds bounds what it bounds before rounding
+abbrev pub Held : ℕ → ℕ → Type 0
+Held a c = HasValue (round binary32 false a c) false a c
+
+pub round-over : (a b n c : ℕ) → 0 < b → 0 < c → Held a b → n * b ≤ a * c → UptoOver (round binary32 false n c) a b
+round-over a b n c B C h k = under (round binary32 false n c) (round binary32 false a b) a b (round-plain binary32 n c) h (round-mono binary32 n c a b C B k)
 
 -- ---- the sum
-cross : (m n d e a b : ℕ) → m ≤ a * e → n ≤ b * d → m * d + n * e ≤ (a + b) * (e * d)
-cross m n d e a b h k =
+pub cross : (m n d e a b c : ℕ) → m * c ≤ a * e → n * c ≤ b * d → (m * d + n * e) * c ≤ (a + b) * (e * d)
+cross m n d e a b c h k =
+    let q : m * c * d + n * c * e ≡ (m * d + n * e) * c = simp (add-mul, mul-assoc, mul-comm) in
     let p : a * e * d + b * d * e ≡ (a + b) * (e * d) = simp (add-mul, mul-assoc, mul-comm, mul-left-comm) in
-    le-trans (add-le-add (mul-le-mul-right d h) (mul-le-mul-right e k)) (le-of-eq p)
+    le-trans (le-of-eq (sym q)) (le-trans (add-le-add (mul-le-mul-right d h) (mul-le-mul-right e k)) (le-of-eq p))
 
-no-minus : (X c a : ℕ) → Upto (round binary32 false X c) a → Upto (cond (ltb X 0) (round binary32 true (0 - X) c) (round binary32 false (X - 0) c)) a
-no-minus X c a h = rw (le-ltb X 0 zero-le, sub-zero) h
+no-minus : (X c a b : ℕ) → UptoOver (round binary32 false X c) a b → UptoOver (cond (ltb X 0) (round binary32 true (0 - X) c) (round binary32 false (X - 0) c)) a b
+no-minus X c a b h = rw (le-ltb X 0 zero-le, sub-zero) h
+
+pub add-over : (x y : Float) (a b c : ℕ) → 0 < c → Held (a + b) c → UptoOver x a c → WeightOver y b c → UptoOver (add binary32 x y) (a + b) c
+unfolding add sum
+add-over nan y a b c C l h k = absurd h
+add-over (inf s) y a b c C l h k = absurd h
+add-over (fin true m e) y a b c C l h k = absurd h
+add-over (fin false m e) nan a b c C l h k = absurd k
+add-over (fin false m e) (inf t) a b c C l h k = absurd k
+add-over (fin false m e) (fin false n d) a b c C l h k =
+    round-over (a + b) c (m * up e * down d + n * up d * down e) (down e * down d) C (mul-pos (down-pos e) (down-pos d)) l (cross (m * up e) (n * up d) (down d) (down e) a b c h k)
+add-over (fin false m e) (fin true n d) a b c C l h k =
+    let z : 0 * c ≤ b * down d = le-trans (le-of-eq (zero-mul c)) zero-le in
+    let g : m * up e * down d * c ≤ (a + b) * (down e * down d) = le-trans (le-of-eq (sym (rw (zero-mul, add-zero)))) (cross (m * up e) 0 (down d) (down e) a b c h z) in
+    rw (k, zero-mul, zero-mul) (no-minus (m * up e * down d) (down e * down d) (a + b) c (round-over (a + b) c (m * up e * down d) (down e * down d) C (mul-pos (down-pos e) (down-pos d)) l g))
+
+-- a whole number is a fraction of 1
+pub over-upto : (x : Float) (a : ℕ) → UptoOver x a 1 → Upto x a
+over-upto nan a h = h
+over-upto (inf s) a h = h
+over-upto (fin true m e) a h = h
+over-upto (fin false m e) a h = rw mul-one at h
+
+upto-over : (x : Float) (a : ℕ) → Upto x a → UptoOver x a 1
+upto-over nan a h = h
+upto-over (inf s) a h = h
+upto-over (fin true m e) a h = h
+upto-over (fin false m e) a h = rw mul-one h
+
+weight-over : (x : Float) (a : ℕ) → Weight x a → WeightOver x a 1
+weight-over nan a h = h
+weight-over (inf s) a h = h
+weight-over (fin true m e) a h = h
+weight-over (fin false m e) a h = rw mul-one h
 
 pub add-upto : (x y : Float) (a b : ℕ) → Upto x a → Weight y b → a + b ≤ 2 ^ 24 → Upto (add binary32 x y) (a + b)
-unfolding add sum
-add-upto nan y a b h k l = absurd h
-add-upto (inf s) y a b h k l = absurd h
-add-upto (fin true m e) y a b h k l = absurd h
-add-upto (fin false m e) nan a b h k l = absurd k
-add-upto (fin false m e) (inf t) a b h k l = absurd k
-add-upto (fin false m e) (fin false n d) a b h k l = round-upto (a + b) (m * up e * down d + n * up d * down e) (down e * down d) (mul-pos (down-pos e) (down-pos d)) l (cross (m * up e) (n * up d) (down d) (down e) a b h k)
-add-upto (fin false m e) (fin true n d) a b h k l =
-    let c : m * up e * down d ≤ (a + b) * (down e * down d) = le-trans (le-of-eq (sym (rw (zero-mul, add-zero)))) (cross (m * up e) 0 (down d) (down e) a b h zero-le) in
-    rw (k, zero-mul, zero-mul) (no-minus (m * up e * down d) (down e * down d) (a + b) (round-upto (a + b) (m * up e * down d) (down e * down d) (mul-pos (down-pos e) (down-pos d)) l c))
+add-upto x y a b h k l = over-upto (add binary32 x y) (a + b) (add-over x y a b 1 (lit< tt) (round-whole binary32 false (a + b) l) (upto-over x a h) (weight-over y b k))
 
 -- ---- sums
 pub upto-weight : (x : Float) (a : ℕ) → Upto x a → Weight x a
@@ -100,23 +129,33 @@ upto-weight (inf s) a h = h
 upto-weight (fin true m e) a h = absurd h
 upto-weight (fin false m e) a h = h
 
-zero-upto : Upto zeroF 0
-zero-upto = zero-le
+-- a bound that additions keep: U of a sum, W of what is added to it
+pub record Bounds (U W : Float → ℕ → Type 0) : Type 0 where
+  pub none : U zeroF 0
+  pub more : (x y : Float) (a b : ℕ) → U x a → W y b → a + b ≤ 2 ^ 24 → U (add binary32 x y) (a + b)
+  pub again : (x : Float) (a : ℕ) → U x a → W x a
+
+-- by counts
+pub by-counts : Bounds Upto Weight
+by-counts = record { none = zero-le; more = add-upto; again = upto-weight }
 
 -- a rounded sum of the chosen weights is at most the sum of their bounds
-module _ (p : ℕ → Bool) (w : ℕ → Float) (g : ℕ → ℕ) where
-  step : (b : Bool) (x y : Float) (a c : ℕ) → Upto x a → Weight y c → put _+_ b a c ≤ 2 ^ 24 → Upto (put (add binary32) b x y) (put _+_ b a c)
-  step true x y a c h k l = add-upto x y a c h k l
+module _ (U W : Float → ℕ → Type 0) (K : Bounds U W) (p : ℕ → Bool) (w : ℕ → Float) (g : ℕ → ℕ) where
+  step : (b : Bool) (x y : Float) (a c : ℕ) → U x a → W y c → put _+_ b a c ≤ 2 ^ 24 → U (put (add binary32) b x y) (put _+_ b a c)
+  step true x y a c h k l = K .more x y a c h k l
   step false x y a c h k l = h
 
   less : (b : Bool) (a c : ℕ) → put _+_ b a c ≤ 2 ^ 24 → a ≤ 2 ^ 24
   less true a c h = omega arith
   less false a c h = h
 
-  pub sum-upto : (n : ℕ) → ((i : ℕ) → i < n → Weight (w i) (g i)) → fold _+_ 0 n p g ≤ 2 ^ 24 → Upto (fold (add binary32) zeroF n p w) (fold _+_ 0 n p g)
+  pub sum-bounded : (n : ℕ) → ((i : ℕ) → i < n → W (w i) (g i)) → fold _+_ 0 n p g ≤ 2 ^ 24 → U (fold (add binary32) zeroF n p w) (fold _+_ 0 n p g)
   unfolding fold
-  sum-upto zero h l = zero-upto
-  sum-upto (suc n) h l = step (p n) (fold (add binary32) zeroF n p w) (w n) (fold _+_ 0 n p g) (g n) (sum-upto n (λ i k. h i (omega arith)) (less (p n) (fold _+_ 0 n p g) (g n) l)) (h n (omega arith)) l
+  sum-bounded zero h l = K .none
+  sum-bounded (suc n) h l = step (p n) (fold (add binary32) zeroF n p w) (w n) (fold _+_ 0 n p g) (g n) (sum-bounded n (λ i k. h i (omega arith)) (less (p n) (fold _+_ 0 n p g) (g n) l)) (h n (omega arith)) l
+
+pub sum-upto : (p : ℕ → Bool) (w : ℕ → Float) (g : ℕ → ℕ) (n : ℕ) → ((i : ℕ) → i < n → Weight (w i) (g i)) → fold _+_ 0 n p g ≤ 2 ^ 24 → Upto (fold (add binary32) zeroF n p w) (fold _+_ 0 n p g)
+sum-upto = sum-bounded Upto Weight by-counts
 
 -- ---- a confidence, by the tests 0.0 <= x and x <= 1.0
 none-left : (m u d : ℕ) → 0 < u → 0 * d ≡ m * u * 1 → m ≡ 0

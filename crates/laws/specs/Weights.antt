@@ -27,6 +27,26 @@ Weight (inf s) a = ⊥
 Weight (fin true m e) a = m ≡ 0
 Weight (fin false m e) a = m * up e ≤ a * down e
 
+-- finite, with no minus sign, and at most the fraction a / c
+abbrev pub UptoOver : Float → ℕ → ℕ → Type 0
+UptoOver nan a c = ⊥
+UptoOver (inf s) a c = ⊥
+UptoOver (fin true m e) a c = ⊥
+UptoOver (fin false m e) a c = m * up e * c ≤ a * down e
+
+-- the same, or -0
+abbrev pub WeightOver : Float → ℕ → ℕ → Type 0
+WeightOver nan a c = ⊥
+WeightOver (inf s) a c = ⊥
+WeightOver (fin true m e) a c = m ≡ 0
+WeightOver (fin false m e) a c = m * up e * c ≤ a * down e
+
+-- finite, and at most a in size, whatever the sign
+abbrev pub Within : Float → ℕ → Type 0
+Within nan a = ⊥
+Within (inf s) a = ⊥
+Within (fin s m e) a = m * up e ≤ a * down e
+
 -- finite, with no minus sign
 abbrev pub weightlike : Float → Bool
 weightlike nan = false

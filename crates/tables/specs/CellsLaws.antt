@@ -17,7 +17,7 @@ use Rattle.laws.specs.DoubleCounting.{fold-ext, fold-where, flatten, regroup, e
 use Rattle.laws.specs.Remainder.{emod}
 use Rattle.laws.specs.RemainderLaws.{emod-lt, emod-add}
 use Rattle.laws.specs.Weights.{zeroF, Upto, Weight}
-use Rattle.laws.specs.WeightLaws.{sum-upto, upto-weight}
+use Rattle.laws.specs.WeightLaws.{Bounds, by-counts, sum-bounded}
 use Rattle.laws.specs.PlusZero.{sum-fits}
 use Rattle.laws.specs.Zone.{Zone}
 use Rattle.board.specs.Hits.{EdgeList, Board, size, seen, bitAt, patternBit, hit}
@@ -88,20 +88,30 @@ family-total g f n h =
     let m : total g (f + 1) ≤ total g n = total-mono g (f + 1) n (omega arith) in
     omega (arith, b, by-family g (f + 1))
 
--- ---- weights: at most the counts
-module _ (g : ℕ → ℕ) (w : ℕ → Float) (n : ℕ) (small : (k : ℕ) → k < n * 6 → Weight (w k) (g k)) (few : total g n ≤ 2 ^ 24) where
-  term-upto : (f : ℕ) → f < n → (p s : ℕ) → Upto (familyW g w f p s) (familyC g f p s)
-  unfolding termSum
-  term-upto f h p s =
-      let a : fold _+_ 0 6 (adds false (family g f) p s) (family g f) ≤ fold _+_ 0 6 all (family g f) = sum-some (adds false (family g f) p s) (family g f) 6 in
-      sum-upto (adds false (family g f) p s) (family w f) (family g f) 6 (λ j l. small (f * 6 + j) (omega arith)) (omega (arith, family-total g f n h))
+-- ---- weights: bounded as what is added up is (U bounds a sum, W what is added to it)
+module _ (U W : Float → ℕ → Type 0) (K : Bounds U W) where
+  module _ (g : ℕ → ℕ) (w : ℕ → Float) (n : ℕ) (small : (k : ℕ) → k < n * 6 → W (w k) (g k)) (few : total g n ≤ 2 ^ 24) where
+    term-bounded : (f : ℕ) → f < n → (p s : ℕ) → U (familyW g w f p s) (familyC g f p s)
+    unfolding termSum
+    term-bounded f h p s =
+        let a : fold _+_ 0 6 (adds false (family g f) p s) (family g f) ≤ fold _+_ 0 6 all (family g f) = sum-some (adds false (family g f) p s) (family g f) 6 in
+        sum-bounded U W K (adds false (family g f) p s) (family w f) (family g f) 6 (λ j l. small (f * 6 + j) (omega arith)) (omega (arith, family-total g f n h))
 
-  pub cell-upto : (ps : List ℕ) (lc s : ℕ) → Upto (cellSum (add binary32) zeroF (familyW g w) ps n lc s) (cellSum _+_ 0 (familyC g) ps n lc s)
-  unfolding cellSum
-  cell-upto ps lc s =
-      sum-upto all (λ f. familyW g w f (patternAt ps lc f) s) (λ f. familyC g f (patternAt ps lc f) s) n
-      (λ f l. upto-weight (familyW g w f (patternAt ps lc f) s) (familyC g f (patternAt ps lc f) s) (term-upto f l (patternAt ps lc f) s))
-      (le-trans (cell-total g ps n lc s) few)
+    pub cell-bounded : (ps : List ℕ) (lc s : ℕ) → U (cellSum (add binary32) zeroF (familyW g w) ps n lc s) (cellSum _+_ 0 (familyC g) ps n lc s)
+    unfolding cellSum
+    cell-bounded ps lc s =
+        sum-bounded U W K all (λ f. familyW g w f (patternAt ps lc f) s) (λ f. familyC g f (patternAt ps lc f) s) n
+        (λ f l. K .again (familyW g w f (patternAt ps lc f) s) (familyC g f (patternAt ps lc f) s) (term-bounded f l (patternAt ps lc f) s))
+        (le-trans (cell-total g ps n lc s) few)
+
+  -- a group of at most so many edges
+  pub group-bounded : (B : Board) (E : EdgeList) (t : ℕ) → size E ≤ 2 ^ 24 → ((i : ℕ) → i < size E → W (confidenceAt E i) 1) → (s : Bool) (k : ℕ) → U (groupWeight B E t s k) (groupCount B E t s k)
+  group-bounded B E t h c s k = sum-bounded U W K (member B E t s k) (confidenceAt E) one (size E) c (le-trans (count-le (member B E t s k) (size E)) h)
+
+-- by counts
+pub cell-upto : (g : ℕ → ℕ) (w : ℕ → Float) (n : ℕ) → ((k : ℕ) → k < n * 6 → Weight (w k) (g k)) → total g n ≤ 2 ^ 24 → (ps : List ℕ) (lc s : ℕ)
+    → Upto (cellSum (add binary32) zeroF (familyW g w) ps n lc s) (cellSum _+_ 0 (familyC g) ps n lc s)
+cell-upto = cell-bounded Upto Weight by-counts
 
 -- a cell's weight is a value of f32
 pub cell-fits : (g : ℕ → ℕ) (w : ℕ → Float) (n : ℕ) (ps : List ℕ) (lc s : ℕ) → T (fits binary32 (cellSum (add binary32) zeroF (familyW g w) ps n lc s))
@@ -246,4 +256,4 @@ total-edges B E t s n =
 
 -- and a group's weight is at most its count
 pub group-upto : (B : Board) (E : EdgeList) (t : ℕ) → size E ≤ 2 ^ 24 → ((i : ℕ) → i < size E → Weight (confidenceAt E i) 1) → (s : Bool) (k : ℕ) → Upto (groupWeight B E t s k) (groupCount B E t s k)
-group-upto B E t h c s k = sum-upto (member B E t s k) (confidenceAt E) one (size E) c (le-trans (count-le (member B E t s k) (size E)) h)
+group-upto = group-bounded Upto Weight by-counts

@@ -13,17 +13,17 @@ use Rattle.laws.specs.Cleared.{cleared}
 use Rattle.laws.specs.Grid.{rowOf, colOf, origins}
 use Rattle.laws.specs.GridLaws.{h-below, v-below}
 use Rattle.laws.specs.Part.{view}
-use Rattle.laws.specs.Weights.{zeroF, Upto, weightlike}
-use Rattle.laws.specs.WeightLaws.{upto-weight, upto-weightlike}
+use Rattle.laws.specs.Weights.{zeroF, Upto, Weight, weightlike}
+use Rattle.laws.specs.WeightLaws.{Bounds, by-counts, upto-weightlike}
 use Rattle.board.specs.Hits.{EdgeList, Board, size, look, horizontal, hit, hits}
 use Rattle.board.specs.Sides.{is, tableOf, periodOf, sideHits}
 use Rattle.board.specs.Domain.{ListOk, BoardOk}
 use Rattle.board.specs.HitsLaws.{side-some, hits-by-class, pair-hits}
 use Rattle.likelihood.specs.SumLaws.{counts-apart}
 use Rattle.cells.specs.Listed.{length-listed, getD-listed, view-listed}
-use Rattle.groups.specs.Groups.{groupCount, groupWeight}
+use Rattle.groups.specs.Groups.{groupCount, groupWeight, confidenceAt}
 use Rattle.cells.specs.Cells.{width, longClass, shortClass, cellCount, cellWeight, countsOf, weightsOf}
-use Rattle.tables.specs.CellsLaws.{cell-count, cell-upto, total-edges, group-upto}
+use Rattle.tables.specs.CellsLaws.{cell-count, cell-bounded, total-edges, group-bounded}
 use Rattle.room.specs.Room.{cellsAt, used}
 use Rattle.tables.specs.Built.{TablesReady, TablesBuilt}
 use Rattle.room.specs.RoomLaws.{cells-in, laid-again, laid-cleared, laid-used, laid-same}
@@ -100,15 +100,19 @@ module _ (B : Board) (E : EdgeList) (t : ℕ) where
 
 -- ---- weights
 module _ (B : Board) (E : EdgeList) (t : ℕ) (board : BoardOk B) (list : ListOk E) (s : Bool) (k : ℕ) (h : k < 3 * periodOf B s) where
-  -- every weight is finite, has no minus sign and is at most its count
-  pub weights-upto : Upto (getD (weightsOf B E t s) k nan) (getD (countsOf B E t s) k 0)
+  -- every weight is bounded as the confidences are, in as many as its count
+  pub weights-bounded : (U W : Float → ℕ → Type 0) → Bounds U W → ((i : ℕ) → i < size E → W (confidenceAt E i) 1) → U (getD (weightsOf B E t s) k nan) (getD (countsOf B E t s) k 0)
   unfolding cellWeight
-  weights-upto =
+  weights-bounded U W K each =
       rw (weight-at B E t s k h, count-at B E t s k h, ← (cell-count B E t (side-some B board) (list .bit) s k))
-      (cell-upto (groupCount B E t s) (groupWeight B E t s) (periodOf B s)
-      (λ j l. upto-weight (groupWeight B E t s j) (groupCount B E t s j) (group-upto B E t (omega (arith, list .few)) (list .confidence) s j))
+      (cell-bounded U W K (groupCount B E t s) (groupWeight B E t s) (periodOf B s)
+      (λ j l. K .again (groupWeight B E t s j) (groupCount B E t s j) (group-bounded U W K B E t (omega (arith, list .few)) each s j))
       (omega (arith, total-edges B E t s (periodOf B s), list .few))
       (tableOf B s) (longClass B s k) (shortClass B s k))
+
+  -- so it is finite, has no minus sign and is at most its count
+  pub weights-upto : Upto (getD (weightsOf B E t s) k nan) (getD (countsOf B E t s) k 0)
+  weights-upto = weights-bounded Upto Weight by-counts (list .confidence)
 
   pub weights-weightlike : T (weightlike (getD (weightsOf B E t s) k nan))
   weights-weightlike = upto-weightlike (getD (weightsOf B E t s) k nan) (getD (countsOf B E t s) k 0) weights-upto

@@ -41,7 +41,7 @@ use Rattle.margin.specs.declared.slots.SoftCandidate.{SoftCandidate}
 use Rattle.margin.specs.declared.slots.SoftScan.{SoftScan}
 use Rattle.margin.specs.declared.slots.SoftChoice.{SoftChoice}
 use Rattle.margin.specs.declared.slots.SoftChoice.the-variants.{Nothing, Chosen}
-use Rattle.margin.specs.Scan.{softChosen}
+use Rattle.margin.specs.Choice.{softChosen}
 use Rattle.margin.specs.Margin.{softMargin, belowMargin}
 use Rattle.soft.specs.Select.{softSelection, SoftReady, SoftScanned}
 use Rattle.soft.specs.SelectLaws.{room-beyond, soft-best-edges}

@@ -1,2 +1,2 @@
 pub mod Margin
-pub mod Scan
+pub mod Choice

@@ -1,6 +1,6 @@
 // What a selection keeps by value: the two best candidates of the transforms so far, with placing and total.
 ghost use mathlib.Core.Path.{_≡_};
-ghost use Rattle.margin.specs.Scan.{softChosen};
+ghost use Rattle.margin.specs.Choice.{softChosen};
 use board::edge::Placing;
 
 // A placing with its total.

@@ -15,7 +15,8 @@ use Rattle.likelihood.specs.Likelihood.{dequantised}
 use Rattle.best.specs.CellTables.{Period}
 use Rattle.pair.specs.Sums.{SumTables, SumsOk, sumAt}
 use Rattle.pair.specs.Pair.{winnerOf, secondOf}
-use Rattle.margin.specs.Scan.{softCandidate, softOffered, softEmpty, softFolded, softSelected, choiceOf, softChosen}
+use Rattle.margin.specs.Choice.{choiceOf, softChosen}
+use Rattle.soft.specs.Scan.{softCandidate, softOffered, softEmpty, softFolded, softSelected}
 use Rattle.soft.specs.ScanLaws.{folded-with, soft-selected-count}
 use Rattle.soft.specs.SeparationLaws.{OnGrid, on-grid, sum-under}
 use Rattle.soft.specs.SecondLaws.{winner-own, second-own}

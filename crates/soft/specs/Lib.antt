@@ -3,9 +3,11 @@ pub mod BestPlacingLaws
 pub mod BestPlacingUnique
 pub mod PlaceLaws
 pub mod SecondLaws
+pub mod Scan
 pub mod ScanLaws
 pub mod Select
 pub mod SelectLaws
 pub mod SeparationLaws
 pub mod SlotLaws
+pub mod TotalLaws
 pub mod TotalOrderLaws

@@ -9,7 +9,7 @@ use Rattle.laws.specs.Grid.{origins}
 use Rattle.likelihood.specs.Likelihood.{dequantised}
 use Rattle.pair.specs.Sums.{SumTables, sumAt}
 use Rattle.pair.specs.Pair.{winnerOf, secondOf, twoOf}
-use Rattle.margin.specs.Scan.{yields, softCandidate, softOffered, softEmpty, softFolded, softSelected}
+use Rattle.soft.specs.Scan.{yields, softCandidate, softOffered, softEmpty, softFolded, softSelected}
 use Rattle.pair.specs.declared.pair.TwoBest.{TwoBest}
 use Rattle.margin.specs.declared.slots.SoftCandidate.{SoftCandidate}
 use Rattle.margin.specs.declared.slots.SoftScan.{SoftScan}

@@ -12,7 +12,8 @@ use Rattle.room.specs.Room.{used}
 use Rattle.sums.specs.Sums.{Likelihoods, LikelihoodsOk, sumsOf}
 use Rattle.sums.specs.SumsRoom.{SumsBuilt}
 use Rattle.pair.specs.Sums.{SumTables, sums}
-use Rattle.margin.specs.Scan.{softSelected, softChosen}
+use Rattle.margin.specs.Choice.{softChosen}
+use Rattle.soft.specs.Scan.{softSelected}
 use Rattle.margin.specs.declared.slots.SoftScan.{SoftScan}
 use Rattle.margin.specs.declared.slots.SoftChoice.{SoftChoice}
 

@@ -20,7 +20,7 @@ use Rattle.sums.specs.SumsTheorems.{length-sums, sums-small, read-sums, sums-ag
 use Rattle.best.specs.CellTables.{Period}
 use Rattle.grid.specs.BoardGrid.{period-h, period-v}
 use Rattle.pair.specs.Sums.{SumTables, sums, SumsOk}
-use Rattle.margin.specs.Scan.{softEmpty, softFolded}
+use Rattle.soft.specs.Scan.{softEmpty, softFolded}
 use Rattle.soft.specs.ScanLaws.{soft-selected-none, soft-selected-more, soft-selected-count}
 use Rattle.soft.specs.BestPlacing.{BestTwo}
 use Rattle.soft.specs.BestPlacingLaws.{soft-best}

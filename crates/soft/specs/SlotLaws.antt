@@ -7,7 +7,7 @@ use native.Mathlib.Omega.{arith}
 use lib.Ieee.{lt}
 use Rattle.laws.specs.Tests.{split}
 use Rattle.laws.specs.Best.{Weak, irrefl}
-use Rattle.margin.specs.Scan.{yields, softOffered, softEmpty}
+use Rattle.soft.specs.Scan.{yields, softOffered, softEmpty}
 use Rattle.soft.specs.ScanLaws.{offer-first, offer-second, offer-none}
 use Rattle.margin.specs.declared.slots.SoftCandidate.{SoftCandidate}
 use Rattle.margin.specs.declared.slots.SoftScan.{SoftScan}

@@ -123,14 +123,14 @@ module _ (n : ℕ) (h : n ≤ 2 ^ 53) where
       (subst (λ (z : Float). T (le z (fin false 1 (pos 29)))) (round-is binary32 false n (2 ^ 24))
       (subst (λ (z : Float). T (le (round binary32 false n (2 ^ 24)) z)) top-is (round-mono binary32 n (2 ^ 24) (2 ^ 53) (2 ^ 24) (lit< tt) (lit< tt) (mul-le-mul-right (2 ^ 24) h))))
 
-  valued : (s : Bool) → HasValue (round binary32 s n (2 ^ 24)) s (steps n) (2 ^ 149)
+  pub valued : (s : Bool) → HasValue (round binary32 s n (2 ^ 24)) s (steps n) (2 ^ 149)
   unfolding steps
   valued s =
       subst (λ (z : Float). HasValue z s (kept 24 (n * 2 ^ 149) (2 ^ 24) * 2 ^ drop 24 (n * 2 ^ 149) (2 ^ 24)) (2 ^ 149)) (sym (round-is binary32 s n (2 ^ 24)))
       (units-val binary32 s (kept 24 (n * 2 ^ 149) (2 ^ 24)) (drop 24 (n * 2 ^ 149) (2 ^ 24)) steps-under)
 
 -- a larger size has no fewer
-steps-mono : (m n : ℕ) → m ≤ n → n ≤ 2 ^ 53 → steps m ≤ steps n
+pub steps-mono : (m n : ℕ) → m ≤ n → n ≤ 2 ^ 53 → steps m ≤ steps n
 steps-mono m n l h =
     le-back (round binary32 false m (2 ^ 24)) (round binary32 false n (2 ^ 24)) (steps m) (steps n) (2 ^ 149) (pow-pos 149)
     (valued m (le-trans l h) false) (valued n h false) (round-mono binary32 m (2 ^ 24) n (2 ^ 24) (lit< tt) (lit< tt) (mul-le-mul-right (2 ^ 24) l))

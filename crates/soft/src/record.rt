@@ -3,7 +3,7 @@ ghost use mathlib.Core.Path.{_≡_};
 ghost use Prim.Native.Nat.{_≤_, _<_};
 ghost use Rattle.best.specs.CellTables.{Period};
 ghost use Rattle.pair.specs.Sums.{SumsOk, sums};
-ghost use Rattle.margin.specs.Scan.{yields, softCandidate, softEmpty, softOffered, softFolded};
+ghost use Rattle.soft.specs.Scan.{yields, softCandidate, softEmpty, softOffered, softFolded};
 use board::edge::Placing;
 use laws::Periods;
 use margin::slots::Slot;

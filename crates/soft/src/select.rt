@@ -4,7 +4,7 @@ ghost use Prim.Native.Nat.{_<_};
 ghost use lib.ListN.{length};
 ghost use Rattle.board.specs.Hits.{edges, tables};
 ghost use Rattle.sums.specs.Sums.{likelihoods};
-ghost use Rattle.margin.specs.Scan.{softFolded};
+ghost use Rattle.soft.specs.Scan.{softFolded};
 ghost use Rattle.soft.specs.Select.{SoftReady, SoftScanned};
 ghost use Rattle.soft.specs.SelectLaws.{roomSums, SumsRoomReady};
 use laws::Periods;

@@ -1,5 +1,5 @@
 use borrow.Author.Needs.{needs}
-use Rattle.margin.specs.Scan.{softChosen}
+use Rattle.margin.specs.Choice.{softChosen}
 use Rattle.margin.proofs.slots.finish.Statement.{statement}
 use Rattle.margin.proofs.slots.finish.Tie as tie
 

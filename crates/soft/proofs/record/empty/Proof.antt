@@ -1,5 +1,5 @@
 use mathlib.Core.Path.{refl}
-use Rattle.margin.specs.Scan.{softEmpty}
+use Rattle.soft.specs.Scan.{softEmpty}
 use Rattle.soft.proofs.record.empty.Statement.{statement}
 use Rattle.soft.proofs.record.empty.Tie as tie
 

@@ -1,5 +1,5 @@
 use borrow.Author.Needs.{needs}
-use Rattle.margin.specs.Scan.{yields}
+use Rattle.soft.specs.Scan.{yields}
 use Rattle.soft.proofs.record.takes.Statement.{statement}
 use Rattle.soft.proofs.record.takes.Tie as tie
 

@@ -6,7 +6,7 @@ use lib.IntN.{ℤ}
 use lib.ListN.{take, drop}
 use borrow.Author.Needs.{needs}
 use Rattle.pair.specs.Sums.{SumTables, sums, SumsOk}
-use Rattle.margin.specs.Scan.{softFolded}
+use Rattle.soft.specs.Scan.{softFolded}
 use Rattle.soft.specs.SelectLaws.{roomSums}
 use Rattle.soft.proofs.select.fold_room.Statement.{statement}
 use Rattle.soft.proofs.select.fold_room.Tie as tie

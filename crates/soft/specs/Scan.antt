@@ -6,12 +6,10 @@ use Rattle.laws.specs.Grid.{origins}
 use Rattle.likelihood.specs.Likelihood.{dequantised}
 use Rattle.pair.specs.Sums.{SumTables, sumAt}
 use Rattle.pair.specs.Pair.{winnerOf, secondOf}
 use Rattle.margin.specs.declared.slots.SoftCandidate.{SoftCandidate}
 use Rattle.margin.specs.declared.slots.SoftScan.{SoftScan}
 use Rattle.margin.specs.declared.slots.Slot.{Slot}
 use Rattle.margin.specs.declared.slots.Slot.the-variants.{Free, Held}
-use Rattle.margin.specs.declared.slots.SoftChoice.{SoftChoice}
-use Rattle.margin.specs.declared.slots.SoftChoice.the-variants.{Nothing, Chosen}
 
 -- the origin of key k at a list position, by row and column; "A total returns to f32 as sum / 2^24 rounded once"
 unfoldable pub softCandidate : ℕ → ℕ → SumTables → ℕ → ℕ → SoftCandidate
@@ -54,12 +52,3 @@ module _ (L M : ℕ) where
   unfolding softFolded softEmpty
   softSelected tab zero = softEmpty
   softSelected tab (suc p) = softFolded (tab p) (softSelected tab p)
-
--- both candidates where both places are held
-abbrev pub choiceOf : Slot → Slot → SoftChoice
-choiceOf Free second = Nothing
-choiceOf (Held a) Free = Nothing
-choiceOf (Held a) (Held b) = Chosen a b
-
-unfoldable pub softChosen : SoftScan → SoftChoice
-softChosen s = choiceOf (s .first) (s .second)

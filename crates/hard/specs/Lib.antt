@@ -11,4 +11,5 @@ pub mod SummedLaws
 pub mod Transform
 pub mod TransformLaws
 pub mod View
+pub mod WeighedLaws
 pub mod WinnerLaws

@@ -40,7 +40,7 @@ quotient (fin false m e) (fin false n d) a b h k p =
     nought : (n : ℕ) → 0 < n → n ≡ 0 → ⊥
     nought n l z = omega arith
 
-rate-is : (edges hits : ℕ) → 0 < edges → edges ≤ 8192 → rateOf edges hits ≡ round binary32 false (edges - hits) edges
+pub rate-is : (edges hits : ℕ) → 0 < edges → edges ≤ 8192 → rateOf edges hits ≡ round binary32 false (edges - hits) edges
 unfolding rateOf ofInt
 rate-is edges hits p l =
     quotient (round binary32 false (edges - hits) 1) (round binary32 false edges 1) (edges - hits) edges (round-whole binary32 false (edges - hits) (omega arith)) (round-whole binary32 false edges (omega arith)) p

@@ -16,9 +16,9 @@ use Rattle.best.specs.CellTables.{CellTables, TablesOk}
 use Rattle.figures.specs.Gate.{passed}
 use Rattle.scan.specs.Scan.{overLimit, chosen}
 use Rattle.hard.specs.Placings.{not-far-ahead, found, Right, Sole, MostOther}
-use Rattle.hard.specs.PlacingsLaws.{right-ext, sole-only}
+use Rattle.hard.specs.PlacingsLaws.{right-ext, sole-only, most-other-ext}
 use Rattle.hard.specs.OneList.{hitsOf, keyAt, originNumber, outcomeOf, InRange}
-use Rattle.hard.specs.OneListLaws.{one-list, choice-in-range, choice-most, reported}
+use Rattle.hard.specs.OneListLaws.{one-list, runner-up-exists, choice-in-range, choice-most, reported}
 use Rattle.scan.specs.declared.scan.Candidate.{Candidate}
 use Rattle.scan.specs.declared.scan.RunnerUp.{RunnerUp}
 use Rattle.scan.specs.declared.scan.Choice.{Choice}
@@ -128,6 +128,14 @@ module _ (B : Board) (E : EdgeList) (ts : List ℕ) (limit : Float) where
     selected-runner-up w r e g =
         let n = reported L M (size E) (totalConfidence E) limit (λ p. getD ts p 0) tab (length ts) (period-h B board) (period-v B board) few all-ok w r (selected-chosen w r e .1) g .named in
         (n .0, n .1, n .2, n .4, sym (counted (n .0) (keyAt M (r .row) (r .col))) ∙ n .5)
+
+    -- passed by the gate or not, a winner's runner-up has the most hits of any other placing: "In the domain a runner-up always exists"
+    pub selected-most-other : (w : Candidate) (r : RunnerUp) → selection B E ts limit ≡ Selected w r
+        → MostOther (length ts) none (size E) limit (hitsAtKey B E ts) (w .placing .listed) (keyAt M (w .placing .row) (w .placing .col)) (r .hits)
+    unfolding scanOf
+    selected-most-other w r e =
+        most-other-ext (length ts) none (size E) limit (hitsOf L M tab) (hitsAtKey B E ts) (λ p k hp hk. counted p k) (w .placing .listed) (keyAt M (w .placing .row) (w .placing .col)) (r .hits)
+        (runner-up-exists L M (size E) (totalConfidence E) limit (λ p. getD ts p 0) tab (length ts) (period-h B board) (period-v B board) few all-ok w r (selected-chosen w r e .1))
 
     -- a placing that is sole is selected, and passes the gate
     pub sole-selected : noConfidence E ≡ false → (p k : ℕ) → SoleOne p k

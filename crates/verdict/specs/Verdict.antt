@@ -69,7 +69,7 @@ softVerdict t first s w runner edges =
 -- "the runner-up fields are replaced by the hard runner-up (score = its hits); the margin stays. Best score = f32 total, weighted score = that / edges; edges,
 -- hits, rate and mean confidence are the physical list's."
 unfoldable pub softDecodedOf : ℕ → SoftBest → Fit → ℕ → RunnerUp → Decoded
-softDecodedOf t best fit edges runner = record {
+softDecodedOf t best fit edges hard = record {
   square = record { transform = t; row = best .first .placing .row; col = best .first .placing .col };
   hits = fit .hits;
   edges = edges;
@@ -77,9 +77,9 @@ softDecodedOf t best fit edges runner = record {
   «error_rate» = rateOf edges (fit .hits);
   «mean_confidence» = meanOf (fit .hits) (fit .weight);
   «best_score» = best .first .total;
-  «runner_up_score» = ofInt binary32 (pos (runner .hits));
+  «runner_up_score» = ofInt binary32 (pos (hard .hits));
   margin = best .margin;
-  «runner_up» = record { transform = runner .transform; row = runner .row; col = runner .col };
+  «runner_up» = record { transform = hard .transform; row = hard .row; col = hard .col };
 }
 
 -- the two best candidates of a list of so many edges, with their margin

@@ -115,6 +115,16 @@ module _ (t : ℕ) (w : Candidate) (runner : RunnerUp) (s : ℕ) (p : Candidate)
     pub says : Says t (w .placing) (w .hits) edges runner d
     pub margin : d .margin ≡ ofInt binary32 (pos (w .hits - runner .hits))
 
+  -- what is found is told as document 01 says
+  pub judged-is : (d : Decoded) → judged t w runner s p edges ≡ Found d → decodedOf t w runner edges ≡ d
+  unfolding judged
+  judged-is d h = go (agreed t w s p) (passed edges (w .hits) (runner .hits)) h
+    where
+      go : (a b : Bool) → pick a (pick b (Found (decodedOf t w runner edges)) (refusedBy why.notFarAhead)) (refusedBy why.listsDisagree) ≡ Found d → decodedOf t w runner edges ≡ d
+      go true true k = cc
+      go true false k = absurd (never-both d (numbered why.notFarAhead) k)
+      go false b k = absurd (never-both d (numbered why.listsDisagree) k)
+
   by-gate : (d : Decoded) (b : Bool) → passed edges (w .hits) (runner .hits) ≡ b → Agree t (w .placing) s (p .placing) → pick b (Found (decodedOf t w runner edges)) (refusedBy why.notFarAhead) ≡ Found d → Judged d
   unfolding decodedOf
   by-gate d true g a k =

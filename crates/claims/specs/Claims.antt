@@ -14,6 +14,7 @@ use Rattle.laws.specs.Weights.{zeroF, oneF}
 use Rattle.laws.specs.Cleared.{cleared-written}
 use Rattle.board.specs.declared.edge.Placing.{Placing}
 use Rattle.board.specs.Hits.{EdgeList, Board, size, hits}
+use Rattle.board.specs.Domain.{BoardOk, ListOk}
 use Rattle.sums.specs.Sums.{Likelihoods}
 use Rattle.refusals.specs.declared.Refusal.{Refusal}
 use Rattle.refusals.specs.declared.Admission.{Admission}
@@ -28,6 +29,10 @@ use Rattle.admission.specs.Domain.{HardDomain, SoftDomain, StatsDomain}
 use Rattle.admission.specs.DomainLaws.{hard-domain, soft-domain, stats-domain}
 use Rattle.admission.specs.Accepted.{HardAccepted, hard-accepted, SoftAccepted, soft-accepted}
 use Rattle.figures.specs.Figures.{noConfidence}
+use Rattle.scan.specs.declared.scan.Candidate.{Candidate}
+use Rattle.scan.specs.declared.scan.RunnerUp.{RunnerUp}
+use Rattle.hard.specs.declared.select.Selection.the-variants.{Selected}
+use Rattle.hard.specs.Select.{selection}
 use Rattle.margin.specs.Margin.{belowMargin}
 use Rattle.answer.specs.declared.Decoded.{Decoded}
 use Rattle.answer.specs.declared.Answer.{Answer}
@@ -40,16 +45,17 @@ use Rattle.decode_hard.specs.Hard.{hardCore, hardAnswer, HardDone}
 use Rattle.demand.specs.Left.{left}
 use Rattle.decode_soft.specs.Soft.{softCore, softAnswer, SoftDone}
 use Rattle.stats.specs.Stats.{statsAnswer, statsOf, orCounted}
-use Rattle.demand.specs.Demand.{Leads, Names, AgreesPhysical}
+use Rattle.demand.specs.Demand.{Leads, RunnerUpExists, Names, AgreesPhysical}
 use Rattle.demand.specs.DemandLaws.{leader-named}
+use Rattle.demand.specs.Winners as winners
 use Rattle.demand.specs.FoundRange.{AnswerInRange}
 use Rattle.decode_hard.specs.HardRange.{hard-in-range}
 use Rattle.decode_soft.specs.SoftRange.{soft-in-range}
 use Rattle.decode_hard.specs.HardNumbers.{hard-late}
 use Rattle.decode_soft.specs.SoftNumbers.{soft-late}
-use Rattle.decode_soft.specs.SoftDemand.{marginOf, BestByLikelihood, SoftAnswered}
+use Rattle.decode_soft.specs.SoftDemand.{marginOf, FirstByLikelihood, SecondByLikelihood, BestByLikelihood, SoftAnswered}
 use Rattle.decode_hard.specs.HardTheorems.{Answered, hard-sound, hard-complete}
-use Rattle.decode_soft.specs.SoftTheorems.{soft-sound, soft-complete}
+use Rattle.decode_soft.specs.SoftTheorems.{soft-sound, soft-complete, soft-complete-by-rows}
 
 -- ---- DEMAND 1: refusals and rooms
 -- "A refusal carries no square": it is its number and nothing else
@@ -129,6 +135,12 @@ found-only : (a : Admission) (x : Answer) (d : Decoded) → Found d ≡ whenAcce
 found-only admission.Accepted x d e = (refl, sym e)
 found-only (admission.Refused r) x d e = let z : _≡_ {A = ℕ} 0 1 = cc in absurd (omega arith)
 
+-- "In the domain a runner-up always exists, and this is proved": whatever the selection on a list chose, passed by the gate or not, another placing has the hits that
+-- are reported as the runner-up's, and no third has more
+pub runner-up-exists : (B : Board) (E : EdgeList) (ts : List ℕ) (limit : Float) → BoardOk B → ListOk E → length ts ≤ 8 → (w : Candidate) (r : RunnerUp)
+    → selection B E ts limit ≡ Selected w r → RunnerUpExists B E ts (w .placing) (r .hits)
+runner-up-exists = winners.runner-up-exists
+
 -- ---- HARD DECODE
 module _ (call : HardCall) (c c' : List ℕ) (w w' : List Float) (r : Answer) (done : HardDone call c c' w w' r) where
   -- what the checks say of the call
@@ -170,7 +182,7 @@ module _ (call : HardCall) (c c' : List ℕ) (w w' : List Float) (r : Answer) (d
   pub hard-no-influence : (d d' : List ℕ) (x x' : List Float) (s : Answer) → HardDone call d d' x x' s → length d ≡ length c → length x ≡ length w → s ≡ r
   hard-no-influence d d' x x' s other p q = other .answer ∙ ap₂ (hardAnswer call) p q ∙ sym (done .answer)
 
-  -- the whole numbers of a found answer are in range
+  -- a found answer is in range: its whole numbers, and no float is a NaN or an infinity
   pub hard-answer-in-range : (d : Decoded) → r ≡ Found d → AnswerInRange d
   unfolding hardAnswer
   hard-answer-in-range d e =
@@ -234,7 +246,7 @@ module _ (call : SoftCall) (c c' : List ℕ) (w w' : List Float) (a a' : List �
   unfolding softAnswer
   soft-refused-late h x e = soft-late call (length c) (length w) (length a) (taken h) x (sym (ap (λ (y : Admission). whenAccepted y (softCore call)) h) ∙ sym (done .answer) ∙ e)
 
-  -- the whole numbers of a found answer are in range
+  -- a found answer is in range: its whole numbers, and no float is a NaN or an infinity
   pub soft-answer-in-range : (d : Decoded) → r ≡ Found d → AnswerInRange d
   unfolding softAnswer
   soft-answer-in-range d e =
@@ -254,6 +266,19 @@ module _ (call : SoftCall) (c c' : List ℕ) (w w' : List Float) (a a' : List �
   unfolding softAnswer
   soft-finds h k g Q R b m l =
       let f = soft-complete call (length c) (length w) (length a) (taken h) k g Q R b m l in
+      let s = soft-sound call (length c) (length w) (length a) (taken h) (f .0) (f .1) in
+      (f .0, done .answer ∙ ap (λ (y : Admission). whenAccepted y (softCore call)) h ∙ f .1, leader-named (call .hard .board) (call .hard .logical) (call .hard .transforms) (call .hard .error-limit) Q (s .square) (f .0 .square) l (s .leads) (s .names))
+
+  -- the same with first and second place by rows and columns (FirstByLikelihood, SecondByLikelihood, crates/decode_soft/specs/SoftDemand.antt): of second place the
+  -- margin takes the total alone, so any placing that has it will do
+  pub soft-finds-by-rows : softChecked ≡ admission.Accepted → noConfidence (call .hard .physical) ≡ false → noConfidence (call .hard .logical) ≡ false → (Q R : Placing)
+      → FirstByLikelihood (call .hard .board) (call .hard .physical) (call .likelihoods) (call .hard .transforms) Q
+      → SecondByLikelihood (call .hard .board) (call .hard .physical) (call .likelihoods) (call .hard .transforms) Q R
+      → belowMargin (marginOf (call .hard .board) (call .hard .physical) (call .likelihoods) (call .hard .transforms) Q R) (call .soft-margin) ≡ false
+      → Leads (call .hard .board) (call .hard .logical) (call .hard .transforms) (call .hard .error-limit) Q → (d : Decoded) × (r ≡ Found d) × Names (call .hard .transforms) Q (d .square)
+  unfolding softAnswer
+  soft-finds-by-rows h k g Q R u v m l =
+      let f = soft-complete-by-rows call (length c) (length w) (length a) (taken h) k g Q R u v m l in
       let s = soft-sound call (length c) (length w) (length a) (taken h) (f .0) (f .1) in
       (f .0, done .answer ∙ ap (λ (y : Admission). whenAccepted y (softCore call)) h ∙ f .1, leader-named (call .hard .board) (call .hard .logical) (call .hard .transforms) (call .hard .error-limit) Q (s .square) (f .0 .square) l (s .leads) (s .names))
 

@@ -3,10 +3,12 @@
 use mathlib.Core.Path.{_≡_}
 use mathlib.Core.Bool.{true, false}
 use mathlib.Core.List.{List}
-use Prim.Native.Nat.{ℕ}
+use mathlib.Core.Logic.{_⊎_}
+use Prim.Native.Nat.{ℕ, _<_}
 use lib.ListN.{getD, length}
-use lib.IntN.{pos}
-use lib.Ieee.{Float, binary32, ofInt}
+use lib.IntN.{ℤ, pos}
+use lib.Signed.{ltZ}
+use lib.Ieee.{Float, binary32, lt, ofInt}
 use Rattle.laws.specs.Grid.{origins}
 use Rattle.board.specs.declared.edge.Placing.{Placing}
 use Rattle.board.specs.Hits.{EdgeList, Board, size, hitsAt}
@@ -20,11 +22,15 @@ use Rattle.soft.specs.BestPlacing.{FirstPlace, SecondPlace}
 use Rattle.margin.specs.Margin.{softMargin, belowMargin}
 use Rattle.soft.specs.SelectLaws.{scoreAtKey}
 use Rattle.answer.specs.declared.Decoded.{Decoded}
-use Rattle.demand.specs.Demand.{OnBoard, Names, Leads, RunsUp}
+use Rattle.demand.specs.Demand.{OnBoard, Same, Names, Leads, RunsUp}
 
--- the f32 total of a placing: its likelihood sum over the edges
+-- the likelihood sum of a placing over the edges, a whole number
+abbrev pub wholeSum : Board → EdgeList → Likelihoods → List ℕ → Placing → ℤ
+wholeSum B E X ts P = score B E X (getD ts (P .listed) 0) (P .row) (P .col)
+
+-- its f32 total: "A total returns to f32 as sum / 2^24 rounded once"
 abbrev pub total : Board → EdgeList → Likelihoods → List ℕ → Placing → Float
-total B E X ts P = dequantised (score B E X (getD ts (P .listed) 0) (P .row) (P .col))
+total B E X ts P = dequantised (wholeSum B E X ts P)
 
 -- the placing with its total
 abbrev pub withTotal : Board → EdgeList → Likelihoods → List ℕ → Placing → SoftCandidate
@@ -34,7 +40,30 @@ withTotal B E X ts P = record { placing = P; total = total B E X ts P }
 abbrev pub marginOf : Board → EdgeList → Likelihoods → List ℕ → Placing → Placing → Float
 marginOf B E X ts P Q = softMargin (withTotal B E X ts P) (withTotal B E X ts Q) (size E)
 
--- "its own best placing": P has first place by likelihood, and Q has second place after it (BestPlacing.antt of soft says what these are)
+-- ---- the two best, by rows and columns
+-- row by row, Q stands before P: on an earlier row, or on the same row in an earlier column
+abbrev pub RowMajorBefore : Placing → Placing → Type 0
+RowMajorBefore Q P = (Q .row < P .row) ⊎ ((Q .row ≡ P .row) × (Q .col < P .col))
+
+-- P has first place by likelihood: no placing of the list has a greater f32 total; under its own transform no origin has a greater whole sum, and each that stands
+-- before it row by row has a smaller one; and each placing of an earlier list position has a smaller total. One placing has it (`first-once` of SoftPlaces.antt)
+pub record FirstByLikelihood (B : Board) (E : EdgeList) (X : Likelihoods) (ts : List ℕ) (P : Placing) : Type 0 where
+  pub on-board : OnBoard B ts P
+  pub greatest-total : (Q : Placing) → OnBoard B ts Q → lt (total B E X ts P) (total B E X ts Q) ≡ false
+  pub largest-sum : (Q : Placing) → OnBoard B ts Q → Q .listed ≡ P .listed → ltZ (wholeSum B E X ts P) (wholeSum B E X ts Q) ≡ false
+  pub row-major-first : (Q : Placing) → OnBoard B ts Q → Q .listed ≡ P .listed → RowMajorBefore Q P → ltZ (wholeSum B E X ts Q) (wholeSum B E X ts P) ≡ true
+  pub earliest-listed : (Q : Placing) → OnBoard B ts Q → Q .listed < P .listed → lt (total B E X ts Q) (total B E X ts P) ≡ true
+
+-- Q has second place after P: another placing, and no placing but P has a greater f32 total. All that have it have one total (`second-total`), which is all that the
+-- margin takes of it; which of them the decoder keeps is in SecondPlace (BestPlacing.antt of soft)
+pub record SecondByLikelihood (B : Board) (E : EdgeList) (X : Likelihoods) (ts : List ℕ) (P Q : Placing) : Type 0 where
+  pub on-board : OnBoard B ts Q
+  pub other : Same Q P → ⊥
+  pub greatest-total : (R : Placing) → OnBoard B ts R → (Same R P → ⊥) → lt (total B E X ts Q) (total B E X ts R) ≡ false
+
+-- ---- the same by keys and cells, with the tie rule of second place
+-- "its own best placing": P has first place by likelihood, and Q has second place after it (BestPlacing.antt of soft says what these are). `best-by-rows` of
+-- SoftPlaces.antt: then P and Q are first and second as above, and whoever is first as above is P
 pub record BestByLikelihood (B : Board) (E : EdgeList) (X : Likelihoods) (ts : List ℕ) (P Q : Placing) : Type 0 where
   pub on-board : OnBoard B ts P
   pub second-on : OnBoard B ts Q
@@ -46,7 +75,8 @@ pub record SoftAnswered (call : SoftCall) (d : Decoded) : Type 0 where
   pub square : Placing
   pub second : Placing
   pub runner-up : Placing
-  pub best : BestByLikelihood (call .hard .board) (call .hard .physical) (call .likelihoods) (call .hard .transforms) square second
+  pub first : FirstByLikelihood (call .hard .board) (call .hard .physical) (call .likelihoods) (call .hard .transforms) square
+  pub second-best : SecondByLikelihood (call .hard .board) (call .hard .physical) (call .likelihoods) (call .hard .transforms) square second
   pub clears : belowMargin (marginOf (call .hard .board) (call .hard .physical) (call .likelihoods) (call .hard .transforms) square second) (call .soft-margin) ≡ false
   pub leads : Leads (call .hard .board) (call .hard .logical) (call .hard .transforms) (call .hard .error-limit) square
   pub runs-up : RunsUp (call .hard .board) (call .hard .logical) (call .hard .transforms) square runner-up
@@ -57,3 +87,5 @@ pub record SoftAnswered (call : SoftCall) (d : Decoded) : Type 0 where
   pub margin : d .margin ≡ marginOf (call .hard .board) (call .hard .physical) (call .likelihoods) (call .hard .transforms) square second
   pub runner-up-named : Names (call .hard .transforms) runner-up (d .«runner_up»)
   pub runner-up-score : d .«runner_up_score» ≡ ofInt binary32 (pos (hitsAt (call .hard .board) (call .hard .logical) (call .hard .transforms) runner-up))
+  -- and which of the second-best placings is meant, where several tie
+  pub best : BestByLikelihood (call .hard .board) (call .hard .physical) (call .likelihoods) (call .hard .transforms) square second

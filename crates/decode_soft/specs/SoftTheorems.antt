@@ -8,7 +8,7 @@ use native.Mathlib.Omega.{arith}
 use lib.Dec.{eqb}
 use lib.ListN.{getD, length}
 use lib.IntN.{ℤ, pos}
-use lib.Ieee.{Float, binary32, ofInt}
+use lib.Ieee.{Float, binary32, sub, div, ofInt}
 use borrow.Author.Tests.{eq-eqb, eqb-true, eqb-false}
 use Rattle.laws.specs.Tests.{and-true}
 use Rattle.laws.specs.Grid.{Grid, origins}
@@ -54,7 +54,8 @@ use Rattle.decode_soft.specs.SoftLaws.{likelihoods-ok}
 use Rattle.demand.specs.Demand.{OnBoard, Same, Leads, RunsUp, Names}
 use Rattle.demand.specs.DemandLaws.{keyOf, placing, placing-on, key-same, key-back, row-back, col-back, leads-sole}
 use Rattle.verdict.specs.VerdictTheorems.{never-both}
-use Rattle.decode_soft.specs.SoftDemand.{total, withTotal, marginOf, BestByLikelihood, SoftAnswered}
+use Rattle.decode_soft.specs.SoftDemand.{total, withTotal, marginOf, FirstByLikelihood, SecondByLikelihood, BestByLikelihood, SoftAnswered}
+use Rattle.decode_soft.specs.SoftPlaces.{first-once, best-by-rows, second-total}
 use Rattle.demand.specs.Winners.{runnerAt, winner-on, winner-leads, winner-hits, named, runner-hits, runs-up}
 
 -- ---- the verdict
@@ -122,7 +123,24 @@ module _ (call : SoftCall) (m n o : ℕ) (A : SoftAccepted call m n o) where
             (subst (λ (j : ℕ). SecondPlace (origins (periodOf (call .hard .board) true) (periodOf (call .hard .board) false)) (length (call .hard .transforms)) (scoreAtKey (call .hard .board) (call .hard .physical) (call .likelihoods) (call .hard .transforms)) (best .p) (best .k) (best .q) j) (sym f) (best .second));
       }
 
+  -- by rows and columns: some placing has first place, and some has second place after it
+  pub places-exist : FirstByLikelihood (call .hard .board) (call .hard .physical) (call .likelihoods) (call .hard .transforms) first-placing
+      × SecondByLikelihood (call .hard .board) (call .hard .physical) (call .likelihoods) (call .hard .transforms) first-placing second-placing
+  places-exist = best-by-rows (call .hard .board) (call .hard .physical) (call .likelihoods) (call .hard .transforms) (A .hard .board) first-placing second-placing own-exists
+
   -- ---- found: then its own best placing clears the margin and leads
+  -- how an answer comes to be found: the two best by likelihood, the winner of the logical list with its runner-up, and what is told of them
+  pub record FoundBy (d : Decoded) : Type 0 where
+    pub first : Placing
+    pub second : Placing
+    pub best : BestByLikelihood (call .hard .board) (call .hard .physical) (call .likelihoods) (call .hard .transforms) first second
+    pub clears : belowMargin (marginOf (call .hard .board) (call .hard .physical) (call .likelihoods) (call .hard .transforms) first second) (call .soft-margin) ≡ false
+    pub winner : Candidate
+    pub runner : RunnerUp
+    pub selected : selection (call .hard .board) (call .hard .logical) (call .hard .transforms) (call .hard .error-limit) ≡ sel.Selected winner runner
+    pub agrees : (getD (call .hard .transforms) (first .listed) 0 ≡ getD (call .hard .transforms) (winner .placing .listed) 0) × (first .row ≡ winner .placing .row) × (first .col ≡ winner .placing .col) × (passed (size (call .hard .logical)) (winner .hits) (runner .hits) ≡ true)
+    pub told : softDecodedOf (getD (call .hard .transforms) (first .listed) 0) (bestOf (withTotal (call .hard .board) (call .hard .physical) (call .likelihoods) (call .hard .transforms) first) (withTotal (call .hard .board) (call .hard .physical) (call .likelihoods) (call .hard .transforms) second) (size (call .hard .physical))) (fitOf (call .hard .board) (call .hard .physical) (getD (call .hard .transforms) (first .listed) 0) (first .row) (first .col)) (size (call .hard .physical)) runner ≡ d
+
   module _ (d : Decoded) (Q R : Placing) (b : BestByLikelihood (call .hard .board) (call .hard .physical) (call .likelihoods) (call .hard .transforms) Q R) (clear : belowMargin (marginOf (call .hard .board) (call .hard .physical) (call .likelihoods) (call .hard .transforms) Q R) (call .soft-margin) ≡ false) where
     abbrev t : ℕ
     t = getD (call .hard .transforms) (Q .listed) 0
@@ -145,16 +163,16 @@ module _ (call : SoftCall) (m n o : ℕ) (A : SoftAccepted call m n o) where
       same-one : x .placing ≡ Q
       same-one = let q = same-place (eqb (Q .listed) (x .placing .listed)) refl in λ i. record { listed = sym q i; row = sym (p .1) i; col = sym (p .2) i }
 
-      soft-answered : Found (answer r) ≡ Found d → SoftAnswered call d
+      soft-answered : softDecodedOf t (bestOf (withTotal (call .hard .board) (call .hard .physical) (call .likelihoods) (call .hard .transforms) Q) (withTotal (call .hard .board) (call .hard .physical) (call .likelihoods) (call .hard .transforms) R) (size (call .hard .physical))) (fitOf (call .hard .board) (call .hard .physical) t (Q .row) (Q .col)) (size (call .hard .physical)) r ≡ d → SoftAnswered call d
       unfolding softDecodedOf
-      soft-answered k =
-          let q : answer r ≡ d = cc in
+      soft-answered q =
           let l = named (call .hard .board) (call .hard .logical) (call .hard .transforms) (call .hard .error-limit) (A .hard .board) (A .hard .logical) (A .hard .transforms .few) x r e (p .3) in
           subst (λ (z : Decoded). SoftAnswered call z) q (record {
             square = Q;
             second = R;
             runner-up = runnerAt (l .0) r;
-            best = b;
+            first = best-by-rows (call .hard .board) (call .hard .physical) (call .likelihoods) (call .hard .transforms) (A .hard .board) Q R b .0;
+            second-best = best-by-rows (call .hard .board) (call .hard .physical) (call .likelihoods) (call .hard .transforms) (A .hard .board) Q R b .1;
             clears = clear;
             leads = subst (λ (z : Placing). Leads (call .hard .board) (call .hard .logical) (call .hard .transforms) (call .hard .error-limit) z) same-one lead;
             runs-up = subst (λ (z : Placing). RunsUp (call .hard .board) (call .hard .logical) (call .hard .transforms) z (runnerAt (l .0) r)) same-one (runs-up (call .hard .board) (call .hard .logical) (call .hard .transforms) (call .hard .error-limit) (A .hard .board) (A .hard .logical) (A .hard .transforms .few) x r e (p .3));
@@ -165,36 +183,51 @@ module _ (call : SoftCall) (m n o : ℕ) (A : SoftAccepted call m n o) where
             margin = refl;
             runner-up-named = (l .2, refl, refl);
             runner-up-score = ap (λ (z : ℕ). ofInt binary32 (pos z)) (sym (runner-hits (call .hard .board) (call .hard .logical) (call .hard .transforms) (call .hard .error-limit) (A .hard .board) (A .hard .logical) (A .hard .transforms .few) x r e (p .3)));
+            best = b;
           })
 
     abbrev verdict : Candidate → RunnerUp → Admission
     verdict x r = softVerdict t (withTotal (call .hard .board) (call .hard .physical) (call .likelihoods) (call .hard .transforms) Q) (getD (call .hard .transforms) (x .placing .listed) 0) x r (size (call .hard .logical))
 
-    by-verdict : (x : Candidate) (r : RunnerUp) (v : Admission) → selection (call .hard .board) (call .hard .logical) (call .hard .transforms) (call .hard .error-limit) ≡ sel.Selected x r → verdict x r ≡ v → whenAccepted v (Found (answer r)) ≡ Found d → SoftAnswered call d
-    by-verdict x r admission.Accepted e h k = soft-answered x r e (verdict-passed t (withTotal (call .hard .board) (call .hard .physical) (call .likelihoods) (call .hard .transforms) Q) (getD (call .hard .transforms) (x .placing .listed) 0) x r (size (call .hard .logical)) h) k
+    by-verdict : (x : Candidate) (r : RunnerUp) (v : Admission) → selection (call .hard .board) (call .hard .logical) (call .hard .transforms) (call .hard .error-limit) ≡ sel.Selected x r → verdict x r ≡ v → whenAccepted v (Found (answer r)) ≡ Found d → FoundBy d
+    by-verdict x r admission.Accepted e h k = record {
+      first = Q;
+      second = R;
+      best = b;
+      clears = clear;
+      winner = x;
+      runner = r;
+      selected = e;
+      agrees = verdict-passed t (withTotal (call .hard .board) (call .hard .physical) (call .likelihoods) (call .hard .transforms) Q) (getD (call .hard .transforms) (x .placing .listed) 0) x r (size (call .hard .logical)) h;
+      told = let q : answer r ≡ d = cc in q;
+    }
     by-verdict x r (admission.Refused j) e h k = absurd (never-both d j k)
 
-    by-logical : (q : Selection) → selection (call .hard .board) (call .hard .logical) (call .hard .transforms) (call .hard .error-limit) ≡ q → afterHard (call .hard) (bestOf (withTotal (call .hard .board) (call .hard .physical) (call .likelihoods) (call .hard .transforms) Q) (withTotal (call .hard .board) (call .hard .physical) (call .likelihoods) (call .hard .transforms) R) (size (call .hard .physical))) q ≡ Found d → SoftAnswered call d
+    by-logical : (q : Selection) → selection (call .hard .board) (call .hard .logical) (call .hard .transforms) (call .hard .error-limit) ≡ q → afterHard (call .hard) (bestOf (withTotal (call .hard .board) (call .hard .physical) (call .likelihoods) (call .hard .transforms) Q) (withTotal (call .hard .board) (call .hard .physical) (call .likelihoods) (call .hard .transforms) R) (size (call .hard .physical))) q ≡ Found d → FoundBy d
     unfolding softJudged
     by-logical (sel.Refused j) e h = absurd (never-both d j h)
     by-logical (sel.Selected x r) e h = by-verdict x r (verdict x r) e refl h
 
   by-margin : (d : Decoded) (Q R : Placing) → BestByLikelihood (call .hard .board) (call .hard .physical) (call .likelihoods) (call .hard .transforms) Q R → (v : Bool) → belowMargin (marginOf (call .hard .board) (call .hard .physical) (call .likelihoods) (call .hard .transforms) Q R) (call .soft-margin) ≡ v
-      → pick v (refusedBy why.softMargin) (afterHard (call .hard) (bestOf (withTotal (call .hard .board) (call .hard .physical) (call .likelihoods) (call .hard .transforms) Q) (withTotal (call .hard .board) (call .hard .physical) (call .likelihoods) (call .hard .transforms) R) (size (call .hard .physical))) (selection (call .hard .board) (call .hard .logical) (call .hard .transforms) (call .hard .error-limit))) ≡ Found d → SoftAnswered call d
+      → pick v (refusedBy why.softMargin) (afterHard (call .hard) (bestOf (withTotal (call .hard .board) (call .hard .physical) (call .likelihoods) (call .hard .transforms) Q) (withTotal (call .hard .board) (call .hard .physical) (call .likelihoods) (call .hard .transforms) R) (size (call .hard .physical))) (selection (call .hard .board) (call .hard .logical) (call .hard .transforms) (call .hard .error-limit))) ≡ Found d → FoundBy d
   by-margin d Q R b true e h = absurd (never-both d (numbered why.softMargin) h)
   by-margin d Q R b false e h = by-logical d Q R b e (selection (call .hard .board) (call .hard .logical) (call .hard .transforms) (call .hard .error-limit)) refl h
 
-  by-confidence : (d : Decoded) (v : Bool) → pick v (refusedBy why.noConfidence) (afterSoft (call .hard) (call .soft-margin) (softSelection (call .hard .board) (call .hard .physical) (call .likelihoods) (call .hard .transforms))) ≡ Found d → SoftAnswered call d
+  by-confidence : (d : Decoded) (v : Bool) → pick v (refusedBy why.noConfidence) (afterSoft (call .hard) (call .soft-margin) (softSelection (call .hard .board) (call .hard .physical) (call .likelihoods) (call .hard .transforms))) ≡ Found d → FoundBy d
   by-confidence d true h = absurd (never-both d (numbered why.noConfidence) h)
   by-confidence d false h =
       let Q = first-placing in
       let R = second-placing in
       by-margin d Q R own-exists (belowMargin (marginOf (call .hard .board) (call .hard .physical) (call .likelihoods) (call .hard .transforms) Q R) (call .soft-margin)) refl (ap (afterSoft (call .hard) (call .soft-margin)) (sym (own-best Q R own-exists)) ∙ h)
 
+  -- how it was found
+  pub found-by : (d : Decoded) → softCore call ≡ Found d → FoundBy d
+  unfolding softCore
+  found-by d h = by-confidence d (noConfidence (call .hard .physical)) h
+
   -- FOUND MEANS TRUE
   pub soft-sound : (d : Decoded) → softCore call ≡ Found d → SoftAnswered call d
-  unfolding softCore
-  soft-sound d h = by-confidence d (noConfidence (call .hard .physical)) h
+  soft-sound d h = let f = found-by d h in soft-answered d (f .first) (f .second) (f .best) (f .clears) (f .winner) (f .runner) (f .selected) (f .agrees) (f .told)
 
   -- ---- its own best placing clears the margin and leads: then soft decode finds
   -- A TRUE SQUARE IS FOUND
@@ -211,3 +244,23 @@ module _ (call : SoftCall) (m n o : ℕ) (A : SoftAccepted call m n o) where
       let p2 : eqb (Q .row) (x .placing .row) ≡ true = eq-eqb (Q .row) (x .placing .row) (k .1) in
       let p3 : eqb (Q .col) (x .placing .col) ≡ true = eq-eqb (Q .col) (x .placing .col) (k .2) in
       (softDecodedOf t (bestOf (withTotal (call .hard .board) (call .hard .physical) (call .likelihoods) (call .hard .transforms) Q) (withTotal (call .hard .board) (call .hard .physical) (call .likelihoods) (call .hard .transforms) R) (size (call .hard .physical))) (fitOf (call .hard .board) (call .hard .physical) t (Q .row) (Q .col)) (size (call .hard .physical)) r, rw (h, own-best Q R b, clear, s .2, p1, p2, p3, s .3))
+
+  -- the same by rows and columns: a placing that has first place, clears the margin over any that has second place, and leads, is found
+  pub soft-complete-by-rows : noConfidence (call .hard .physical) ≡ false → noConfidence (call .hard .logical) ≡ false → (Q R : Placing)
+      → FirstByLikelihood (call .hard .board) (call .hard .physical) (call .likelihoods) (call .hard .transforms) Q
+      → SecondByLikelihood (call .hard .board) (call .hard .physical) (call .likelihoods) (call .hard .transforms) Q R
+      → belowMargin (marginOf (call .hard .board) (call .hard .physical) (call .likelihoods) (call .hard .transforms) Q R) (call .soft-margin) ≡ false
+      → Leads (call .hard .board) (call .hard .logical) (call .hard .transforms) (call .hard .error-limit) Q → (d : Decoded) × (softCore call ≡ Found d)
+  soft-complete-by-rows h g Q R u v clear l =
+      let H = call .hard in
+      let X = call .likelihoods in
+      let P = first-placing in
+      let S = second-placing in
+      let b = places-exist in
+      let s = first-once (H .board) (H .physical) X (H .transforms) (A .hard .board) Q P u (b .0) in
+      let e : Q ≡ P = λ i. record { listed = s .0 i; row = s .1 i; col = s .2 i } in
+      let w = subst (λ (z : Placing). SecondByLikelihood (H .board) (H .physical) X (H .transforms) z R) e v in
+      let k = second-total (H .board) (H .physical) X (H .transforms) (A .hard .board) (A .hard .physical) (likelihoods-ok call m n o A) P R S w (b .1) in
+      soft-complete h g P S own-exists
+      (sym (ap₂ (λ (x y : Float). belowMargin (div binary32 (sub binary32 x y) (ofInt binary32 (pos (size (H .physical))))) (call .soft-margin)) (ap (total (H .board) (H .physical) X (H .transforms)) e) k) ∙ clear)
+      (subst (λ (z : Placing). Leads (H .board) (H .logical) (H .transforms) (H .error-limit) z) e l)

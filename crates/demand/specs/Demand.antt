@@ -45,6 +45,12 @@ pub record RunsUp (B : Board) (E : EdgeList) (ts : List ℕ) (P Q : Placing) : T
   pub other : Same Q P → ⊥
   pub no-third : (R : Placing) → OnBoard B ts R → (Same R P → ⊥) → hitsAt B E ts R ≤ hitsAt B E ts Q
 
+-- "In the domain a runner-up always exists": another placing than P has so many hits, and no third has more
+pub record RunnerUpExists (B : Board) (E : EdgeList) (ts : List ℕ) (P : Placing) (hits : ℕ) : Type 0 where
+  pub one : Placing
+  pub runs-up : RunsUp B E ts P one
+  pub with-hits : hitsAt B E ts one ≡ hits
+
 -- the square that a placing names: its transform's number, row and column
 abbrev pub Names : List ℕ → Placing → Square → Type 0
 Names ts P s = (getD ts (P .listed) 0 ≡ s .transform) × (P .row ≡ s .row) × (P .col ≡ s .col)

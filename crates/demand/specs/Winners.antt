@@ -1,4 +1,5 @@
--- The winner of hard selection on one list, where it passes the gate: it leads, its hits are board's, and its runner-up is another placing with hits no third exceeds.
+-- The winner of hard selection on one list: a runner-up always exists; and where it passes the gate, it leads, its hits are board's, and its runner-up is another
+-- placing with hits no third exceeds.
 use mathlib.Core.Path.{_≡_, sym, _∙_}
 use mathlib.Core.Bool.{true, false}
 use mathlib.Core.List.{List}
@@ -14,12 +15,12 @@ use Rattle.hard.specs.Placings.{Sole, MostOther}
 use Rattle.hard.specs.OneList.{keyAt, originNumber, InRange}
 use Rattle.figures.specs.Figures.{totalConfidence}
 use Rattle.hard.specs.Select.{tablesOf, selection}
-use Rattle.hard.specs.SelectTheorems.{hitsAtKey, selected-in-range, selected-right, selected-runner-up}
+use Rattle.hard.specs.SelectTheorems.{hitsAtKey, selected-in-range, selected-most-other, selected-right, selected-runner-up}
 use Rattle.scan.specs.declared.scan.Candidate.{Candidate}
 use Rattle.scan.specs.declared.scan.RunnerUp.{RunnerUp}
 use Rattle.hard.specs.declared.select.Selection.the-variants.{Selected}
-use Rattle.demand.specs.Demand.{OnBoard, Same, Leads, RunsUp}
-use Rattle.demand.specs.DemandLaws.{same-key, hits-key, sole-leads, most-runs-up}
+use Rattle.demand.specs.Demand.{OnBoard, Same, Leads, RunsUp, RunnerUpExists}
+use Rattle.demand.specs.DemandLaws.{placing, placing-on, key-back, same-key, hits-key, sole-leads, most-runs-up}
 
 -- the placing of a runner-up at list position p
 abbrev pub runnerAt : ℕ → RunnerUp → Placing
@@ -32,6 +33,17 @@ module _ (B : Board) (E : EdgeList) (ts : List ℕ) (limit : Float) (board : Boa
   pub winner-on : OnBoard B ts (x .placing)
   winner-on = record { in-list = in-range .listed; row = in-range .row; col = in-range .col }
 
+  -- A RUNNER-UP ALWAYS EXISTS: whatever was selected, passed by the gate or not, another placing has the hits that are reported, and no third has more
+  pub runner-up-exists : RunnerUpExists B E ts (x .placing) (r .hits)
+  runner-up-exists =
+      let m = selected-most-other B E ts limit board list few x r e in
+      let w = m .reached in
+      let Q = placing B board (w .0) (w .1) in
+      let o = placing-on B board ts (w .0) (w .1) (w .2) (w .3) in
+      let other : Same Q (x .placing) → ⊥ = λ s. let k = same-key B board ts Q (x .placing) s in w .4 (k .0, sym (key-back B board ts (w .0) (w .1)) ∙ k .1) in
+      record { one = Q; runs-up = most-runs-up B board ts E limit (x .placing) Q (r .hits) winner-on o other (w .5) m; with-hits = w .5 }
+
+  -- ---- where it passes the gate
   module _ (g : passed (size E) (x .hits) (r .hits) ≡ true) where
     right : Sole (length ts) (originNumber (periodOf B true) (periodOf B false)) (size E) limit (hitsAtKey B E ts) (x .placing .listed) (keyAt (periodOf B false) (x .placing .row) (x .placing .col))
         × (x .hits ≡ hitsAtKey B E ts (x .placing .listed) (keyAt (periodOf B false) (x .placing .row) (x .placing .col)))

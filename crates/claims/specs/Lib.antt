@@ -2,3 +2,4 @@ pub mod Claims
 pub mod NumbersToTry
 pub mod FoundLaws
 pub mod Ranges
+pub mod Witness

@@ -1,39 +1,31 @@
--- What Samburext promises, in one place. Each claim speaks of what a call gave: `HardDone ..`, `SoftDone ..` and `r ≡ statsAnswer ..` are the contracts of
--- `decode_hard`, `decode_soft` and `match_stats`, which have no `requires`, so the claims hold for all inputs and every pair of pattern tables.
--- Quotes are of the demands (docs/CONTRACTS.md).
+-- THE PROMISES ARE KEPT: each record of Promises.antt follows from the contract of its entry point, for all inputs. `HardGave ..`, `SoftGave ..` and
+-- `answer ≡ statsAnswer ..` are the contracts of `decode_hard`, `decode_soft` and `match_stats`, which have no `requires`.
 use mathlib.Core.Path.{_≡_, refl, sym, ap, ap₂, subst, _∙_}
 use mathlib.Core.Bool.{Bool, true, false, not, cond, _||_}
 use mathlib.Core.List.{List}
 use Prim.Native.Nat.{ℕ, _≤_, _<_}
 use native.Mathlib.Omega.{arith}
 use lib.Dec.{ltb}
-use lib.ListN.{getD, length}
-use lib.IntN.{ℤ, pos}
-use lib.Ieee.{Float, nan}
+use lib.ListN.{length}
+use lib.IntN.{pos}
+use lib.Ieee.{nan}
 use Rattle.laws.specs.Weights.{zeroF, oneF}
 use Rattle.laws.specs.Cleared.{cleared-written}
 use Rattle.board.specs.declared.edge.Placing.{Placing}
-use Rattle.board.specs.Hits.{EdgeList, Board, size, hits}
-use Rattle.board.specs.Domain.{BoardOk, ListOk}
-use Rattle.sums.specs.Sums.{Likelihoods}
+use Rattle.board.specs.Hits.{EdgeList, Board, size, hits, hitsAt}
 use Rattle.refusals.specs.declared.Refusal.{Refusal}
 use Rattle.refusals.specs.declared.Admission.{Admission}
 use Rattle.refusals.specs.declared.Admission.the-variants as admission
 use Rattle.refusals.specs.Numbers.{numbered}
 use Rattle.refusals.specs.Numbers as why
-use Rattle.room.specs.Room.{tablesRoom, sumsRoom, flatTables, flatSums, flat-room}
+use Rattle.room.specs.Room.{tablesRoom, sumsRoom, flat-room}
 use Rattle.admission.specs.Calls.{HardCall, SoftCall}
 use Rattle.checks.specs.Checks.{inRange, lengthsDiffer, sizeBad, confidenceBad, transformsBad, originBad}
 use Rattle.admission.specs.Refusals.{fieldsBad, tablesBad, roomShort, softRoomShort, softLengthsDiffer, softLikelihoodBad, softSettingsBad, hardAdmission, softAdmission, statsAdmission}
-use Rattle.admission.specs.Domain.{HardDomain, SoftDomain, StatsDomain}
+use Rattle.admission.specs.Domain.{StatsDomain}
 use Rattle.admission.specs.DomainLaws.{hard-domain, soft-domain, stats-domain}
 use Rattle.admission.specs.Accepted.{HardAccepted, hard-accepted, SoftAccepted, soft-accepted}
 use Rattle.figures.specs.Figures.{noConfidence}
-use Rattle.scan.specs.declared.scan.Candidate.{Candidate}
-use Rattle.scan.specs.declared.scan.RunnerUp.{RunnerUp}
-use Rattle.hard.specs.declared.select.Selection.the-variants.{Selected}
-use Rattle.hard.specs.Select.{selection}
-use Rattle.margin.specs.Margin.{belowMargin}
 use Rattle.answer.specs.declared.Decoded.{Decoded}
 use Rattle.answer.specs.declared.Answer.{Answer}
 use Rattle.answer.specs.declared.Answer.the-variants.{Found, Refused}
@@ -41,34 +33,87 @@ use Rattle.answer.specs.declared.MatchStats.{MatchStats}
 use Rattle.answer.specs.declared.StatsAnswer.{StatsAnswer}
 use Rattle.answer.specs.declared.StatsAnswer.the-variants as stats
 use Rattle.verdict.specs.Verdict.{whenAccepted}
-use Rattle.decode_hard.specs.Hard.{hardCore, hardAnswer, HardDone}
 use Rattle.demand.specs.Left.{left}
-use Rattle.decode_soft.specs.Soft.{softCore, softAnswer, SoftDone}
-use Rattle.stats.specs.Stats.{statsAnswer, statsOf, orCounted}
-use Rattle.demand.specs.Demand.{Leads, RunnerUpExists, Names, AgreesPhysical}
+use Rattle.demand.specs.Demand.{OnBoard, Same, Leads, Names, AgreesPhysical}
 use Rattle.demand.specs.DemandLaws.{leader-named}
 use Rattle.demand.specs.Winners as winners
+use Rattle.demand.specs.AgreesLaws as physical
 use Rattle.demand.specs.FoundRange.{AnswerInRange}
+use Rattle.decode_hard.specs.Hard.{hardCore, hardAnswer}
 use Rattle.decode_hard.specs.HardRange.{hard-in-range}
-use Rattle.decode_soft.specs.SoftRange.{soft-in-range}
 use Rattle.decode_hard.specs.HardNumbers.{hard-late}
+use Rattle.decode_hard.specs.HardDemand.{HardAnswered}
+use Rattle.decode_hard.specs.HardLate.{HardLate}
+use Rattle.decode_hard.specs.HardLateLaws.{hard-late-numbers}
+use Rattle.decode_hard.specs.HardTheorems.{hard-sound, hard-complete}
+use Rattle.decode_soft.specs.Soft.{softCore, softAnswer}
+use Rattle.decode_soft.specs.SoftRange.{soft-in-range}
 use Rattle.decode_soft.specs.SoftNumbers.{soft-late}
-use Rattle.decode_soft.specs.SoftDemand.{marginOf, FirstByLikelihood, SecondByLikelihood, BestByLikelihood, SoftAnswered}
-use Rattle.decode_hard.specs.HardTheorems.{Answered, hard-sound, hard-complete}
-use Rattle.decode_soft.specs.SoftTheorems.{soft-sound, soft-complete, soft-complete-by-rows}
+use Rattle.decode_soft.specs.SoftDemand.{BestByLikelihood, SoftAnswered}
+use Rattle.decode_soft.specs.SoftLate.{SoftLate}
+use Rattle.decode_soft.specs.SoftLateLaws.{soft-late-numbers}
+use Rattle.decode_soft.specs.SoftPlaces.{best-by-rows}
+use Rattle.decode_soft.specs.SoftTheorems.{soft-sound, soft-complete-by-rows}
+use Rattle.stats.specs.Stats.{statsAnswer, statsOf, orCounted}
+use Rattle.claims.specs.Promises.{NumberAlone, OneToNine, RunnerUpAlways, Emptied, HardRoom, SoftRoom, hardChecked, InHardDomain, HardGave, HardPromise, softChecked, InSoftDomain, SoftGave, SoftBestPlacing, SoftClears, SoftPromise, StatsPromise}
 
--- ---- DEMAND 1: refusals and rooms
--- "A refusal carries no square": it is its number and nothing else
-pub refusal-is-number : (a b : Refusal) → a .number ≡ b .number → a ≡ b
-refusal-is-number a b e = λ i. record { number = e i }
+-- ---- EARLY REFUSALS
+pub refusal-is-number : NumberAlone
+refusal-is-number one other e = λ i. record { number = e i }
 
--- a room slice of which n places are used: zero there, and beyond as it was
-pub record Emptied {A : Type 0} (d zero : A) (n : ℕ) (old new : List A) : Type 0 where
-  pub room : n ≤ length old
-  pub len : length new ≡ length old
-  pub used : (k : ℕ) → k < n → getD new k d ≡ zero
-  pub surplus : (k : ℕ) → n ≤ k → getD new k d ≡ getD old k d
+early-none : OneToNine admission.Accepted
+early-none r e = let z : _≡_ {A = ℕ} 0 1 = cc in absurd (omega arith)
 
+early-if : (b : Bool) (k : ℕ) (x : Admission) → 1 ≤ k → k ≤ 9 → OneToNine x → OneToNine (cond b (admission.Refused (numbered k)) x)
+early-if true k x h l e r q = let z : numbered k ≡ r = cc in let y : k ≡ r .number = ap (λ (w : Refusal). w .number) z in (omega arith, omega arith)
+early-if false k x h l e r q = e r q
+
+pub hard-early : (call : HardCall) (m n : ℕ) → OneToNine (hardAdmission call m n)
+unfolding hardAdmission
+hard-early call m n =
+    early-if (roomShort m n) why.roomTooShort _ (omega arith) (omega arith)
+    (early-if (lengthsDiffer (call .logical) || lengthsDiffer (call .physical)) why.lengthsDiffer _ (omega arith) (omega arith)
+    (early-if (sizeBad 1 (size (call .logical)) || sizeBad 1 (size (call .physical))) why.listSize _ (omega arith) (omega arith)
+    (early-if (fieldsBad (call .logical) || fieldsBad (call .physical)) why.edgeOutOfRange _ (omega arith) (omega arith)
+    (early-if (confidenceBad (call .logical .confidences) || confidenceBad (call .physical .confidences)) why.badConfidence _ (omega arith) (omega arith)
+    (early-if (transformsBad (call .transforms)) why.badTransform _ (omega arith) (omega arith)
+    (early-if (tablesBad (call .board)) why.badTable _ (omega arith) (omega arith)
+    (early-if (not (inRange oneF (call .error-limit))) why.badSetting _ (omega arith) (omega arith) early-none)))))))
+
+pub soft-early : (call : SoftCall) (m n k : ℕ) → OneToNine (softAdmission call m n k)
+unfolding softAdmission
+soft-early call m n k =
+    early-if (softRoomShort m n k) why.roomTooShort _ (omega arith) (omega arith)
+    (early-if ((lengthsDiffer (call .hard .logical) || lengthsDiffer (call .hard .physical)) || softLengthsDiffer call) why.lengthsDiffer _ (omega arith) (omega arith)
+    (early-if (sizeBad 1 (size (call .hard .logical)) || sizeBad 1 (size (call .hard .physical))) why.listSize _ (omega arith) (omega arith)
+    (early-if (fieldsBad (call .hard .logical) || fieldsBad (call .hard .physical)) why.edgeOutOfRange _ (omega arith) (omega arith)
+    (early-if (confidenceBad (call .hard .logical .confidences) || confidenceBad (call .hard .physical .confidences)) why.badConfidence _ (omega arith) (omega arith)
+    (early-if (softLikelihoodBad call) why.badLikelihood _ (omega arith) (omega arith)
+    (early-if (transformsBad (call .hard .transforms)) why.badTransform _ (omega arith) (omega arith)
+    (early-if (tablesBad (call .hard .board)) why.badTable _ (omega arith) (omega arith)
+    (early-if (softSettingsBad call) why.badSetting _ (omega arith) (omega arith) early-none))))))))
+
+pub stats-early : (E : EdgeList) (t row col : ℕ) (B : Board) → OneToNine (statsAdmission E t row col B)
+unfolding statsAdmission
+stats-early E t row col B =
+    early-if (lengthsDiffer E) why.lengthsDiffer _ (omega arith) (omega arith)
+    (early-if (sizeBad 0 (size E)) why.listSize _ (omega arith) (omega arith)
+    (early-if (fieldsBad E) why.edgeOutOfRange _ (omega arith) (omega arith)
+    (early-if (confidenceBad (E .confidences)) why.badConfidence _ (omega arith) (omega arith)
+    (early-if (ltb 7 t) why.badTransform _ (omega arith) (omega arith)
+    (early-if (tablesBad B) why.badTable _ (omega arith) (omega arith)
+    (early-if (originBad row col) why.badSetting _ (omega arith) (omega arith) early-none))))))
+
+-- ---- RUNNER-UP
+pub runner-up-exists : RunnerUpAlways
+runner-up-exists = winners.runner-up-exists
+
+-- ---- FOUND
+found-only : (a : Admission) (x : Answer) (d : Decoded) → Found d ≡ whenAccepted a x → (a ≡ admission.Accepted) × (x ≡ Found d)
+found-only admission.Accepted x d e = (refl, sym e)
+found-only (admission.Refused r) x d e = let z : _≡_ {A = ℕ} 0 1 = cc in absurd (omega arith)
+
+-- ---- ROOM
 module _ {A : Type 0} (d zero : A) (n : ℕ) (a : Admission) (old : List A) where
   -- "After refusals 1 to 9 the lent room is untouched"
   left-untouched : (x : Refusal) → a ≡ admission.Refused x → left zero n a old ≡ old
@@ -84,229 +129,228 @@ module _ {A : Type 0} (d zero : A) (n : ℕ) (a : Admission) (old : List A) wher
 pub left-zero : {A : Type 0} (d zero : A) (n m : ℕ) (a : Admission) (old new : List A) → n ≡ m → a ≡ admission.Accepted → n ≤ length old → new ≡ left zero n a old → Emptied d zero m old new
 left-zero d zero n m a old new u h room e = rw (e, ← u) (left-emptied d zero n a old h room)
 
--- a refusal before any work is done has one of the numbers 1 to 9
-abbrev pub Early : Admission → Type 0
-Early a = (r : Refusal) → a ≡ admission.Refused r → (why.roomTooShort ≤ r .number) × (r .number ≤ why.badSetting)
-
-early-none : Early admission.Accepted
-early-none r e = let z : _≡_ {A = ℕ} 0 1 = cc in absurd (omega arith)
-
-early-if : (b : Bool) (k : ℕ) (x : Admission) → why.roomTooShort ≤ k → k ≤ why.badSetting → Early x → Early (cond b (admission.Refused (numbered k)) x)
-early-if true k x h l e r q = let z : numbered k ≡ r = cc in let y : k ≡ r .number = ap (λ (w : Refusal). w .number) z in (omega arith, omega arith)
-early-if false k x h l e r q = e r q
-
-pub hard-early : (call : HardCall) (m n : ℕ) → Early (hardAdmission call m n)
-unfolding hardAdmission
-hard-early call m n =
-    early-if (roomShort m n) why.roomTooShort _ (omega arith) (omega arith)
-    (early-if (lengthsDiffer (call .logical) || lengthsDiffer (call .physical)) why.lengthsDiffer _ (omega arith) (omega arith)
-    (early-if (sizeBad 1 (size (call .logical)) || sizeBad 1 (size (call .physical))) why.listSize _ (omega arith) (omega arith)
-    (early-if (fieldsBad (call .logical) || fieldsBad (call .physical)) why.edgeOutOfRange _ (omega arith) (omega arith)
-    (early-if (confidenceBad (call .logical .confidences) || confidenceBad (call .physical .confidences)) why.badConfidence _ (omega arith) (omega arith)
-    (early-if (transformsBad (call .transforms)) why.badTransform _ (omega arith) (omega arith)
-    (early-if (tablesBad (call .board)) why.badTable _ (omega arith) (omega arith)
-    (early-if (not (inRange oneF (call .error-limit))) why.badSetting _ (omega arith) (omega arith) early-none)))))))
-
-pub soft-early : (call : SoftCall) (m n k : ℕ) → Early (softAdmission call m n k)
-unfolding softAdmission
-soft-early call m n k =
-    early-if (softRoomShort m n k) why.roomTooShort _ (omega arith) (omega arith)
-    (early-if ((lengthsDiffer (call .hard .logical) || lengthsDiffer (call .hard .physical)) || softLengthsDiffer call) why.lengthsDiffer _ (omega arith) (omega arith)
-    (early-if (sizeBad 1 (size (call .hard .logical)) || sizeBad 1 (size (call .hard .physical))) why.listSize _ (omega arith) (omega arith)
-    (early-if (fieldsBad (call .hard .logical) || fieldsBad (call .hard .physical)) why.edgeOutOfRange _ (omega arith) (omega arith)
-    (early-if (confidenceBad (call .hard .logical .confidences) || confidenceBad (call .hard .physical .confidences)) why.badConfidence _ (omega arith) (omega arith)
-    (early-if (softLikelihoodBad call) why.badLikelihood _ (omega arith) (omega arith)
-    (early-if (transformsBad (call .hard .transforms)) why.badTransform _ (omega arith) (omega arith)
-    (early-if (tablesBad (call .hard .board)) why.badTable _ (omega arith) (omega arith)
-    (early-if (softSettingsBad call) why.badSetting _ (omega arith) (omega arith) early-none))))))))
-
-pub stats-early : (E : EdgeList) (t row col : ℕ) (B : Board) → Early (statsAdmission E t row col B)
-unfolding statsAdmission
-stats-early E t row col B =
-    early-if (lengthsDiffer E) why.lengthsDiffer _ (omega arith) (omega arith)
-    (early-if (sizeBad 0 (size E)) why.listSize _ (omega arith) (omega arith)
-    (early-if (fieldsBad E) why.edgeOutOfRange _ (omega arith) (omega arith)
-    (early-if (confidenceBad (E .confidences)) why.badConfidence _ (omega arith) (omega arith)
-    (early-if (ltb 7 t) why.badTransform _ (omega arith) (omega arith)
-    (early-if (tablesBad B) why.badTable _ (omega arith) (omega arith)
-    (early-if (originBad row col) why.badSetting _ (omega arith) (omega arith) early-none))))))
-
-found-only : (a : Admission) (x : Answer) (d : Decoded) → Found d ≡ whenAccepted a x → (a ≡ admission.Accepted) × (x ≡ Found d)
-found-only admission.Accepted x d e = (refl, sym e)
-found-only (admission.Refused r) x d e = let z : _≡_ {A = ℕ} 0 1 = cc in absurd (omega arith)
-
--- "In the domain a runner-up always exists, and this is proved": whatever the selection on a list chose, passed by the gate or not, another placing has the hits that
--- are reported as the runner-up's, and no third has more
-pub runner-up-exists : (B : Board) (E : EdgeList) (ts : List ℕ) (limit : Float) → BoardOk B → ListOk E → length ts ≤ 8 → (w : Candidate) (r : RunnerUp)
-    → selection B E ts limit ≡ Selected w r → RunnerUpExists B E ts (w .placing) (r .hits)
-runner-up-exists = winners.runner-up-exists
-
 -- ---- HARD DECODE
-module _ (call : HardCall) (c c' : List ℕ) (w w' : List Float) (r : Answer) (done : HardDone call c c' w w' r) where
-  -- what the checks say of the call
-  abbrev hardChecked : Admission
-  hardChecked = hardAdmission call (length c) (length w)
+module _ (call : HardCall) (before after : HardRoom) (answer : Answer) (done : HardGave call before after answer) where
+  -- which calls are accepted, from both sides: those in the domain
+  pub hard-accepts : (hardChecked call before ≡ admission.Accepted → InHardDomain call before) × (InHardDomain call before → hardChecked call before ≡ admission.Accepted)
+  hard-accepts = hard-domain call (length (before .counts)) (length (before .weights))
+
+  taken : InHardDomain call before → HardAccepted call (length (before .counts)) (length (before .weights))
+  taken domain = hard-accepted call (length (before .counts)) (length (before .weights)) (hard-accepts .1 domain)
 
   -- refusals 1 to 9: the number of document 01, and both slices as they were
-  pub hard-refused-early : (x : Refusal) → hardChecked ≡ admission.Refused x → (r ≡ Refused x) × (c' ≡ c) × (w' ≡ w)
+  pub hard-refused-early : (refusal : Refusal) → hardChecked call before ≡ admission.Refused refusal → (answer ≡ Refused refusal) × (after .counts ≡ before .counts) × (after .weights ≡ before .weights)
   unfolding hardAnswer
   hard-refused-early x h = (
     done .answer ∙ ap (λ (y : Admission). whenAccepted y (hardCore call)) h,
-    done .counts ∙ left-untouched 0 0 (tablesRoom (call .board)) hardChecked c x h,
-    done .weights ∙ left-untouched nan zeroF (tablesRoom (call .board)) hardChecked w x h,
+    done .counts ∙ left-untouched 0 0 (tablesRoom (call .board)) (hardChecked call before) (before .counts) x h,
+    done .weights ∙ left-untouched nan zeroF (tablesRoom (call .board)) (hardChecked call before) (before .weights) x h,
   )
 
-  accepted : hardChecked ≡ admission.Accepted → HardAccepted call (length c) (length w)
-  accepted h = hard-accepted call (length c) (length w) h
+  -- in the domain the answer is the decoder's
+  core : InHardDomain call before → answer ≡ hardCore call
+  unfolding hardAnswer
+  core domain = done .answer ∙ ap (λ (y : Admission). whenAccepted y (hardCore call)) (hard-accepts .1 domain)
 
-  -- every other call: the first 3,006 places are zero, the surplus as it was
-  pub hard-room-zero : hardChecked ≡ admission.Accepted → Emptied 0 0 flatTables c c' × Emptied nan zeroF flatTables w w'
-  hard-room-zero h =
-      let u = flat-room (call .board) (accepted h .periods) .0 in
-      (left-zero 0 0 (tablesRoom (call .board)) flatTables hardChecked c c' u h (accepted h .room .0) (done .counts), left-zero nan zeroF (tablesRoom (call .board)) flatTables hardChecked w w' u h (accepted h .room .1) (done .weights))
+  -- every call in the domain: the first 3,006 places are zero, the surplus as it was
+  pub hard-room-zero : InHardDomain call before → Emptied 0 0 3006 (before .counts) (after .counts) × Emptied nan zeroF 3006 (before .weights) (after .weights)
+  hard-room-zero domain =
+      let h = hard-accepts .1 domain in
+      let A = taken domain in
+      let u = flat-room (call .board) (A .periods) .0 in (
+        left-zero 0 0 (tablesRoom (call .board)) 3006 (hardChecked call before) (before .counts) (after .counts) u h (A .room .0) (done .counts),
+        left-zero nan zeroF (tablesRoom (call .board)) 3006 (hardChecked call before) (before .weights) (after .weights) u h (A .room .1) (done .weights),
+      )
 
-  -- DEMAND 2: the answer is document 01's
-  pub hard-by-the-rules : r ≡ hardAnswer call (length c) (length w)
+  -- refused late means 10 to 13
+  pub hard-refused-late : InHardDomain call before → (refusal : Refusal) → answer ≡ Refused refusal → (10 ≤ refusal .number) × (refusal .number ≤ 13)
+  hard-refused-late domain x e = hard-late call (length (before .counts)) (length (before .weights)) (taken domain) x (sym (core domain) ∙ e)
+
+  -- each exactly when (`hard-10` to `hard-13` of HardNumbers.antt)
+  pub hard-refused-exactly : InHardDomain call before → HardLate call answer
+  hard-refused-exactly domain = subst (HardLate call) (sym (core domain)) (hard-late-numbers call (length (before .counts)) (length (before .weights)) (taken domain))
+
+  -- a found answer: the call is in the domain, and it is the decoder's
+  told : (found : Decoded) → answer ≡ Found found → InHardDomain call before × (hardCore call ≡ Found found)
+  unfolding hardAnswer
+  told d e = let f = found-only (hardChecked call before) (hardCore call) d (sym e ∙ done .answer) in (hard-accepts .0 (f .0), f .1)
+
+  pub hard-answer-in-range : (found : Decoded) → answer ≡ Found found → AnswerInRange found
+  hard-answer-in-range d e = let f = told d e in hard-in-range call (length (before .counts)) (length (before .weights)) (taken (f .0)) d (f .1)
+
+  pub hard-no-influence : (before' after' : HardRoom) (answer' : Answer) → HardGave call before' after' answer' → length (before' .counts) ≡ length (before .counts) → length (before' .weights) ≡ length (before .weights) → answer' ≡ answer
+  hard-no-influence before' after' answer' other p q = other .answer ∙ ap₂ (hardAnswer call) p q ∙ sym (done .answer)
+
+  -- DEMAND 2
+  pub hard-by-the-rules : answer ≡ hardAnswer call (length (before .counts)) (length (before .weights))
   hard-by-the-rules = done .answer
 
-  -- which calls are accepted, from both sides: those in the domain (HardDomain, crates/admission/specs/Domain.antt)
-  pub hard-accepts : (hardChecked ≡ admission.Accepted → HardDomain call (length c) (length w)) × (HardDomain call (length c) (length w) → hardChecked ≡ admission.Accepted)
-  hard-accepts = hard-domain call (length c) (length w)
+  -- DEMAND 3, found means true
+  pub hard-found : (found : Decoded) → answer ≡ Found found → InHardDomain call before × HardAnswered call found
+  hard-found d e = let f = told d e in (f .0, hard-sound call (length (before .counts)) (length (before .weights)) (taken (f .0)) d (f .1))
 
-  -- refused late means 10 to 13 (`hard-10` to `hard-13` of HardNumbers.antt say exactly when), and the used room is zero (`hard-room-zero`)
-  pub hard-refused-late : hardChecked ≡ admission.Accepted → (x : Refusal) → r ≡ Refused x → (why.noConfidence ≤ x .number) × (x .number ≤ why.notFarAhead)
-  unfolding hardAnswer
-  hard-refused-late h x e = hard-late call (length c) (length w) (accepted h) x (sym (ap (λ (y : Admission). whenAccepted y (hardCore call)) h) ∙ sym (done .answer) ∙ e)
+  -- DEMAND 3, a true square is found
+  pub hard-finds : InHardDomain call before → noConfidence (call .logical) ≡ false → (square : Placing) → Leads (call .board) (call .logical) (call .transforms) (call .error-limit) square
+      → AgreesPhysical (call .board) (call .physical) (call .transforms) square → (found : Decoded) × (answer ≡ Found found) × Names (call .transforms) square (found .square)
+  hard-finds domain k square l a =
+      let f = hard-complete call (length (before .counts)) (length (before .weights)) (taken domain) k square l a in
+      let s = hard-sound call (length (before .counts)) (length (before .weights)) (taken domain) (f .0) (f .1) in
+      (f .0, core domain ∙ f .1, leader-named (call .board) (call .logical) (call .transforms) (call .error-limit) square (s .square) (f .0 .square) l (s .leads) (s .tells .square))
 
-  -- "What the room held before has no influence."
-  pub hard-no-influence : (d d' : List ℕ) (x x' : List Float) (s : Answer) → HardDone call d d' x x' s → length d ≡ length c → length x ≡ length w → s ≡ r
-  hard-no-influence d d' x x' s other p q = other .answer ∙ ap₂ (hardAnswer call) p q ∙ sym (done .answer)
+  -- the physical winner, by hits
+  pub hard-agrees-most : InHardDomain call before → (square : Placing) → AgreesPhysical (call .board) (call .physical) (call .transforms) square
+      → (other : Placing) → OnBoard (call .board) (call .transforms) other → hitsAt (call .board) (call .physical) (call .transforms) other ≤ hitsAt (call .board) (call .physical) (call .transforms) square
+  hard-agrees-most domain = let A = taken domain in physical.agrees-most (call .board) (call .physical) (call .transforms) (A .board) (A .physical) (A .transforms .few) (A .some-physical)
 
-  -- a found answer is in range: its whole numbers, and no float is a NaN or an infinity
-  pub hard-answer-in-range : (d : Decoded) → r ≡ Found d → AnswerInRange d
-  unfolding hardAnswer
-  hard-answer-in-range d e =
-      let f = found-only hardChecked (hardCore call) d (sym e ∙ done .answer) in
-      hard-in-range call (length c) (length w) (accepted (f .0)) d (f .1)
+  pub hard-most-agrees : InHardDomain call before → noConfidence (call .physical) ≡ false → (square : Placing) → OnBoard (call .board) (call .transforms) square
+      → ((other : Placing) → OnBoard (call .board) (call .transforms) other → (Same other square → ⊥) → hitsAt (call .board) (call .physical) (call .transforms) other < hitsAt (call .board) (call .physical) (call .transforms) square)
+      → AgreesPhysical (call .board) (call .physical) (call .transforms) square
+  hard-most-agrees domain = let A = taken domain in physical.most-agrees (call .board) (call .physical) (call .transforms) (A .board) (A .physical) (A .transforms .few) (A .some-physical)
 
-  -- DEMAND 3, found means true: some placing of the logical list leads and agrees, and the answer tells it
-  pub hard-found : (d : Decoded) → r ≡ Found d → (h : hardChecked ≡ admission.Accepted) × Answered call (length c) (length w) (hard-accepted call (length c) (length w) h) d
-  unfolding hardAnswer
-  hard-found d e =
-      let f = found-only hardChecked (hardCore call) d (sym e ∙ done .answer) in
-      (f .0, hard-sound call (length c) (length w) (hard-accepted call (length c) (length w) (f .0)) d (f .1))
-
-  -- DEMAND 3, a true square is found, and it is the one that the answer names
-  pub hard-finds : hardChecked ≡ admission.Accepted → noConfidence (call .logical) ≡ false → (Q : Placing) → Leads (call .board) (call .logical) (call .transforms) (call .error-limit) Q → AgreesPhysical (call .board) (call .physical) (call .transforms) Q → (d : Decoded) × (r ≡ Found d) × Names (call .transforms) Q (d .square)
-  unfolding hardAnswer
-  hard-finds h k Q l a =
-      let f = hard-complete call (length c) (length w) (accepted h) k Q l a in
-      let s = hard-sound call (length c) (length w) (accepted h) (f .0) (f .1) in
-      (f .0, done .answer ∙ ap (λ (y : Admission). whenAccepted y (hardCore call)) h ∙ f .1, leader-named (call .board) (call .logical) (call .transforms) (call .error-limit) Q (s .square) (f .0 .square) l (s .leads) (s .tells .square))
+  -- WHAT HARD DECODE PROMISES
+  pub hard-promise : HardPromise call before after answer
+  hard-promise = record {
+    early = record { accepts = hard-accepts; number = hard-early call (length (before .counts)) (length (before .weights)); refuses = hard-refused-early };
+    room-zero = hard-room-zero;
+    refused-late = hard-refused-late;
+    refused-exactly = hard-refused-exactly;
+    answer-in-range = hard-answer-in-range;
+    no-influence = hard-no-influence;
+    by-the-rules = hard-by-the-rules;
+    found = hard-found;
+    finds = hard-finds;
+    agrees-most = hard-agrees-most;
+    most-agrees = hard-most-agrees;
+  }
 
 -- ---- SOFT DECODE
-module _ (call : SoftCall) (c c' : List ℕ) (w w' : List Float) (a a' : List ℤ) (r : Answer) (done : SoftDone call c c' w w' a a' r) where
-  -- what the checks say of the call
-  abbrev softChecked : Admission
-  softChecked = softAdmission call (length c) (length w) (length a)
+module _ (call : SoftCall) (before after : SoftRoom) (answer : Answer) (done : SoftGave call before after answer) where
+  -- which calls are accepted, from both sides: those in the domain
+  pub soft-accepts : (softChecked call before ≡ admission.Accepted → InSoftDomain call before) × (InSoftDomain call before → softChecked call before ≡ admission.Accepted)
+  soft-accepts = soft-domain call (length (before .counts)) (length (before .weights)) (length (before .sums))
+
+  admitted : InSoftDomain call before → SoftAccepted call (length (before .counts)) (length (before .weights)) (length (before .sums))
+  admitted domain = soft-accepted call (length (before .counts)) (length (before .weights)) (length (before .sums)) (soft-accepts .1 domain)
 
   -- refusals 1 to 9: the number of document 01, and all three slices as they were
-  pub soft-refused-early : (x : Refusal) → softChecked ≡ admission.Refused x → (r ≡ Refused x) × (c' ≡ c) × (w' ≡ w) × (a' ≡ a)
+  pub soft-refused-early : (refusal : Refusal) → softChecked call before ≡ admission.Refused refusal
+      → (answer ≡ Refused refusal) × (after .counts ≡ before .counts) × (after .weights ≡ before .weights) × (after .sums ≡ before .sums)
   unfolding softAnswer
   soft-refused-early x h = (
     done .answer ∙ ap (λ (y : Admission). whenAccepted y (softCore call)) h,
-    done .counts ∙ left-untouched 0 0 (tablesRoom (call .hard .board)) softChecked c x h,
-    done .weights ∙ left-untouched nan zeroF (tablesRoom (call .hard .board)) softChecked w x h,
-    done .sums ∙ left-untouched (pos 0) (pos 0) (sumsRoom (call .hard .board)) softChecked a x h,
+    done .counts ∙ left-untouched 0 0 (tablesRoom (call .hard .board)) (softChecked call before) (before .counts) x h,
+    done .weights ∙ left-untouched nan zeroF (tablesRoom (call .hard .board)) (softChecked call before) (before .weights) x h,
+    done .sums ∙ left-untouched (pos 0) (pos 0) (sumsRoom (call .hard .board)) (softChecked call before) (before .sums) x h,
   )
 
-  taken : softChecked ≡ admission.Accepted → SoftAccepted call (length c) (length w) (length a)
-  taken h = soft-accepted call (length c) (length w) (length a) h
+  -- in the domain the answer is the decoder's
+  soft-core : InSoftDomain call before → answer ≡ softCore call
+  unfolding softAnswer
+  soft-core domain = done .answer ∙ ap (λ (y : Admission). whenAccepted y (softCore call)) (soft-accepts .1 domain)
 
-  -- every other call: the first 3,006, 3,006 and 5,010 places are zero, the surplus as it was
-  pub soft-room-zero : softChecked ≡ admission.Accepted → Emptied 0 0 flatTables c c' × Emptied nan zeroF flatTables w w' × Emptied (pos 0) (pos 0) flatSums a a'
-  soft-room-zero h =
-      let A = taken h in
+  -- every call in the domain: the first 3,006, 3,006 and 5,010 places are zero, the surplus as it was
+  pub soft-room-zero : InSoftDomain call before
+      → Emptied 0 0 3006 (before .counts) (after .counts) × Emptied nan zeroF 3006 (before .weights) (after .weights) × Emptied (pos 0) (pos 0) 5010 (before .sums) (after .sums)
+  soft-room-zero domain =
+      let h = soft-accepts .1 domain in
+      let A = admitted domain in
       let u = flat-room (call .hard .board) (A .hard .periods) in (
-        left-zero 0 0 (tablesRoom (call .hard .board)) flatTables softChecked c c' (u .0) h (A .hard .room .0) (done .counts),
-        left-zero nan zeroF (tablesRoom (call .hard .board)) flatTables softChecked w w' (u .0) h (A .hard .room .1) (done .weights),
-        left-zero (pos 0) (pos 0) (sumsRoom (call .hard .board)) flatSums softChecked a a' (u .1) h (A .room) (done .sums),
+        left-zero 0 0 (tablesRoom (call .hard .board)) 3006 (softChecked call before) (before .counts) (after .counts) (u .0) h (A .hard .room .0) (done .counts),
+        left-zero nan zeroF (tablesRoom (call .hard .board)) 3006 (softChecked call before) (before .weights) (after .weights) (u .0) h (A .hard .room .1) (done .weights),
+        left-zero (pos 0) (pos 0) (sumsRoom (call .hard .board)) 5010 (softChecked call before) (before .sums) (after .sums) (u .1) h (A .room) (done .sums),
       )
 
-  -- DEMAND 2: the answer is document 01's
-  pub soft-by-the-rules : r ≡ softAnswer call (length c) (length w) (length a)
+  -- refused late means 10, 11, 13, 14 or 15
+  pub soft-refused-late : InSoftDomain call before → (refusal : Refusal) → answer ≡ Refused refusal → (10 ≤ refusal .number) × (refusal .number ≤ 15) × (refusal .number ≡ 12 → ⊥)
+  soft-refused-late domain x e = soft-late call (length (before .counts)) (length (before .weights)) (length (before .sums)) (admitted domain) x (sym (soft-core domain) ∙ e)
+
+  -- each exactly when (`soft-10` to `soft-15` of SoftNumbers.antt)
+  pub soft-refused-exactly : InSoftDomain call before → SoftLate call answer
+  soft-refused-exactly domain =
+      subst (SoftLate call) (sym (soft-core domain)) (soft-late-numbers call (length (before .counts)) (length (before .weights)) (length (before .sums)) (admitted domain))
+
+  soft-told : (found : Decoded) → answer ≡ Found found → InSoftDomain call before × (softCore call ≡ Found found)
+  unfolding softAnswer
+  soft-told d e = let f = found-only (softChecked call before) (softCore call) d (sym e ∙ done .answer) in (soft-accepts .0 (f .0), f .1)
+
+  pub soft-answer-in-range : (found : Decoded) → answer ≡ Found found → AnswerInRange found
+  soft-answer-in-range d e = let f = soft-told d e in soft-in-range call (length (before .counts)) (length (before .weights)) (length (before .sums)) (admitted (f .0)) d (f .1)
+
+  pub soft-no-influence : (before' after' : SoftRoom) (answer' : Answer) → SoftGave call before' after' answer'
+      → length (before' .counts) ≡ length (before .counts) → length (before' .weights) ≡ length (before .weights) → length (before' .sums) ≡ length (before .sums) → answer' ≡ answer
+  soft-no-influence before' after' answer' other p q r = other .answer ∙ (λ i. softAnswer call (p i) (q i) (r i)) ∙ sym (done .answer)
+
+  -- DEMAND 2
+  pub soft-by-the-rules : answer ≡ softAnswer call (length (before .counts)) (length (before .weights)) (length (before .sums))
   soft-by-the-rules = done .answer
 
-  -- which calls are accepted, from both sides: those in the domain (SoftDomain, crates/admission/specs/Domain.antt)
-  pub soft-accepts : (softChecked ≡ admission.Accepted → SoftDomain call (length c) (length w) (length a)) × (SoftDomain call (length c) (length w) (length a) → softChecked ≡ admission.Accepted)
-  soft-accepts = soft-domain call (length c) (length w) (length a)
+  -- DEMAND 3, found means true
+  pub soft-found : (found : Decoded) → answer ≡ Found found → InSoftDomain call before × SoftAnswered call found
+  soft-found d e = let f = soft-told d e in (f .0, soft-sound call (length (before .counts)) (length (before .weights)) (length (before .sums)) (admitted (f .0)) d (f .1))
 
-  -- refused late means 10, 11, 13, 14 or 15 (`soft-10` to `soft-15` of SoftNumbers.antt say exactly when), and the used room is zero (`soft-room-zero`)
-  pub soft-refused-late : softChecked ≡ admission.Accepted → (x : Refusal) → r ≡ Refused x → (why.noConfidence ≤ x .number) × (x .number ≤ why.softHardDisagree) × (x .number ≡ why.listsDisagree → ⊥)
-  unfolding softAnswer
-  soft-refused-late h x e = soft-late call (length c) (length w) (length a) (taken h) x (sym (ap (λ (y : Admission). whenAccepted y (softCore call)) h) ∙ sym (done .answer) ∙ e)
+  -- DEMAND 3, a true square is found. Of second place the margin takes the total alone, so any placing that has it will do
+  pub soft-finds-by-rows : InSoftDomain call before → noConfidence (call .hard .physical) ≡ false → noConfidence (call .hard .logical) ≡ false → (square second : Placing)
+      → SoftBestPlacing call square second → SoftClears call square second → Leads (call .hard .board) (call .hard .logical) (call .hard .transforms) (call .hard .error-limit) square
+      → (found : Decoded) × (answer ≡ Found found) × Names (call .hard .transforms) square (found .square)
+  soft-finds-by-rows domain k g square second b m l =
+      let f = soft-complete-by-rows call (length (before .counts)) (length (before .weights)) (length (before .sums)) (admitted domain) k g square second (b .0) (b .1) m l in
+      let s = soft-sound call (length (before .counts)) (length (before .weights)) (length (before .sums)) (admitted domain) (f .0) (f .1) in
+      (f .0, soft-core domain ∙ f .1, leader-named (call .hard .board) (call .hard .logical) (call .hard .transforms) (call .hard .error-limit) square (s .square) (f .0 .square) l (s .leads) (s .names))
 
-  -- a found answer is in range: its whole numbers, and no float is a NaN or an infinity
-  pub soft-answer-in-range : (d : Decoded) → r ≡ Found d → AnswerInRange d
-  unfolding softAnswer
-  soft-answer-in-range d e =
-      let f = found-only softChecked (softCore call) d (sym e ∙ done .answer) in
-      soft-in-range call (length c) (length w) (length a) (taken (f .0)) d (f .1)
+  -- the same of the two that soft selection keeps, by keys and cells
+  pub soft-finds : InSoftDomain call before → noConfidence (call .hard .physical) ≡ false → noConfidence (call .hard .logical) ≡ false → (square second : Placing)
+      → BestByLikelihood (call .hard .board) (call .hard .physical) (call .likelihoods) (call .hard .transforms) square second → SoftClears call square second
+      → Leads (call .hard .board) (call .hard .logical) (call .hard .transforms) (call .hard .error-limit) square → (found : Decoded) × (answer ≡ Found found) × Names (call .hard .transforms) square (found .square)
+  soft-finds domain k g square second b =
+      soft-finds-by-rows domain k g square second (best-by-rows (call .hard .board) (call .hard .physical) (call .likelihoods) (call .hard .transforms) (admitted domain .hard .board) square second b)
 
-  -- DEMAND 3, found means true: its own best placing clears the margin and leads on the logical list
-  pub soft-found : (d : Decoded) → r ≡ Found d → SoftAnswered call d
-  unfolding softAnswer
-  soft-found d e =
-      let f = found-only softChecked (softCore call) d (sym e ∙ done .answer) in
-      soft-sound call (length c) (length w) (length a) (taken (f .0)) d (f .1)
-
-  -- DEMAND 3, a true square is found, and it is the one that the answer names
-  pub soft-finds : softChecked ≡ admission.Accepted → noConfidence (call .hard .physical) ≡ false → noConfidence (call .hard .logical) ≡ false → (Q R : Placing) → BestByLikelihood (call .hard .board) (call .hard .physical) (call .likelihoods) (call .hard .transforms) Q R
-      → belowMargin (marginOf (call .hard .board) (call .hard .physical) (call .likelihoods) (call .hard .transforms) Q R) (call .soft-margin) ≡ false → Leads (call .hard .board) (call .hard .logical) (call .hard .transforms) (call .hard .error-limit) Q → (d : Decoded) × (r ≡ Found d) × Names (call .hard .transforms) Q (d .square)
-  unfolding softAnswer
-  soft-finds h k g Q R b m l =
-      let f = soft-complete call (length c) (length w) (length a) (taken h) k g Q R b m l in
-      let s = soft-sound call (length c) (length w) (length a) (taken h) (f .0) (f .1) in
-      (f .0, done .answer ∙ ap (λ (y : Admission). whenAccepted y (softCore call)) h ∙ f .1, leader-named (call .hard .board) (call .hard .logical) (call .hard .transforms) (call .hard .error-limit) Q (s .square) (f .0 .square) l (s .leads) (s .names))
-
-  -- the same with first and second place by rows and columns (FirstByLikelihood, SecondByLikelihood, crates/decode_soft/specs/SoftDemand.antt): of second place the
-  -- margin takes the total alone, so any placing that has it will do
-  pub soft-finds-by-rows : softChecked ≡ admission.Accepted → noConfidence (call .hard .physical) ≡ false → noConfidence (call .hard .logical) ≡ false → (Q R : Placing)
-      → FirstByLikelihood (call .hard .board) (call .hard .physical) (call .likelihoods) (call .hard .transforms) Q
-      → SecondByLikelihood (call .hard .board) (call .hard .physical) (call .likelihoods) (call .hard .transforms) Q R
-      → belowMargin (marginOf (call .hard .board) (call .hard .physical) (call .likelihoods) (call .hard .transforms) Q R) (call .soft-margin) ≡ false
-      → Leads (call .hard .board) (call .hard .logical) (call .hard .transforms) (call .hard .error-limit) Q → (d : Decoded) × (r ≡ Found d) × Names (call .hard .transforms) Q (d .square)
-  unfolding softAnswer
-  soft-finds-by-rows h k g Q R u v m l =
-      let f = soft-complete-by-rows call (length c) (length w) (length a) (taken h) k g Q R u v m l in
-      let s = soft-sound call (length c) (length w) (length a) (taken h) (f .0) (f .1) in
-      (f .0, done .answer ∙ ap (λ (y : Admission). whenAccepted y (softCore call)) h ∙ f .1, leader-named (call .hard .board) (call .hard .logical) (call .hard .transforms) (call .hard .error-limit) Q (s .square) (f .0 .square) l (s .leads) (s .names))
+  -- WHAT SOFT DECODE PROMISES
+  pub soft-promise : SoftPromise call before after answer
+  soft-promise = record {
+    early = record { accepts = soft-accepts; number = soft-early call (length (before .counts)) (length (before .weights)) (length (before .sums)); refuses = soft-refused-early };
+    room-zero = soft-room-zero;
+    refused-late = soft-refused-late;
+    refused-exactly = soft-refused-exactly;
+    answer-in-range = soft-answer-in-range;
+    no-influence = soft-no-influence;
+    by-the-rules = soft-by-the-rules;
+    found = soft-found;
+    finds = soft-finds-by-rows;
+  }
 
 -- ---- MATCH STATISTICS
-module _ (E : EdgeList) (t row col : ℕ) (B : Board) (r : StatsAnswer) (done : r ≡ statsAnswer E t row col B) where
+module _ (list : EdgeList) (transform row col : ℕ) (board : Board) (answer : StatsAnswer) (done : answer ≡ statsAnswer list transform row col board) where
   -- what the checks say of the call
   abbrev statsChecked : Admission
-  statsChecked = statsAdmission E t row col B
+  statsChecked = statsAdmission list transform row col board
 
   -- which calls are accepted, from both sides: those in the domain
-  pub stats-accepts : (statsChecked ≡ admission.Accepted → StatsDomain E t row col B) × (StatsDomain E t row col B → statsChecked ≡ admission.Accepted)
-  stats-accepts = stats-domain E t row col B
+  pub stats-accepts : (statsChecked ≡ admission.Accepted → StatsDomain list transform row col board) × (StatsDomain list transform row col board → statsChecked ≡ admission.Accepted)
+  stats-accepts = stats-domain list transform row col board
 
   -- DEMAND 1, refusals: the number of document 01
-  pub stats-refused : (x : Refusal) → statsChecked ≡ admission.Refused x → r ≡ stats.Refused x
+  pub stats-refused : (refusal : Refusal) → statsChecked ≡ admission.Refused refusal → answer ≡ stats.Refused refusal
   unfolding statsAnswer
-  stats-refused x h = done ∙ ap (λ (y : Admission). orCounted y (statsOf E t row col B)) h
+  stats-refused x h = done ∙ ap (λ (y : Admission). orCounted y (statsOf list transform row col board)) h
 
   -- DEMAND 2: every other call gives the statistics of document 01
-  pub stats-by-the-rules : statsChecked ≡ admission.Accepted → r ≡ stats.Counted (statsOf E t row col B)
+  pub stats-by-the-rules : StatsDomain list transform row col board → answer ≡ stats.Counted (statsOf list transform row col board)
   unfolding statsAnswer
-  stats-by-the-rules h = done ∙ ap (λ (y : Admission). orCounted y (statsOf E t row col B)) h
+  stats-by-the-rules domain = done ∙ ap (λ (y : Admission). orCounted y (statsOf list transform row col board)) (stats-accepts .1 domain)
 
   -- DEMAND 2, counted means: the hits are board's, edge by edge, of all the edges
-  pub stats-hits : (s : MatchStats) → r ≡ stats.Counted s → (s .hits ≡ hits B E t row col) × (s .edges ≡ size E)
+  pub stats-hits : (counted : MatchStats) → answer ≡ stats.Counted counted → (counted .hits ≡ hits board list transform row col) × (counted .edges ≡ size list)
   unfolding statsAnswer statsOf
   stats-hits s k = go statsChecked (sym k ∙ done)
     where
-      go : (a : Admission) → stats.Counted s ≡ orCounted a (statsOf E t row col B) → (s .hits ≡ hits B E t row col) × (s .edges ≡ size E)
-      go admission.Accepted q = let z : s ≡ statsOf E t row col B = cc in (ap (λ (x : MatchStats). x .hits) z, ap (λ (x : MatchStats). x .edges) z)
+      go : (a : Admission) → stats.Counted s ≡ orCounted a (statsOf list transform row col board) → (s .hits ≡ hits board list transform row col) × (s .edges ≡ size list)
+      go admission.Accepted q = let z : s ≡ statsOf list transform row col board = cc in (ap (λ (x : MatchStats). x .hits) z, ap (λ (x : MatchStats). x .edges) z)
       go (admission.Refused x) q = let z : _≡_ {A = ℕ} 0 1 = cc in absurd (omega arith)
+
+  -- WHAT MATCH STATISTICS PROMISE
+  pub stats-promise : StatsPromise list transform row col board answer
+  stats-promise = record {
+    early = record { accepts = stats-accepts; number = stats-early list transform row col board; refuses = stats-refused };
+    by-the-rules = stats-by-the-rules;
+    counted = stats-hits;
+  }

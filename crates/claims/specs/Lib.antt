@@ -1,3 +1,4 @@
+pub mod Promises
 pub mod Claims
 pub mod NumbersToTry
 pub mod FoundLaws

@@ -1,13 +1,13 @@
 -- THAT THERE ARE CASES. On a small board, of periods 4 and 5, one list and one placing that leads and agrees with the physical winner, and that is best by
 -- likelihood, clears a soft margin and leads: so no claim of demand 3 is true for want of a placing that meets its premises.
-use mathlib.Core.Path.{_≡_, refl, ap}
+use mathlib.Core.Path.{_≡_, refl}
 use mathlib.Core.Bool.{Bool, true, false, not, _&&_, _||_}
 use mathlib.Core.List.{List, [], _∷_}
-use mathlib.Core.Logic.{_≢_, ⊎-elim}
+use mathlib.Core.Logic.{_≢_}
 use Prim.Native.Nat.{ℕ, zero, suc, _%_, _≤_, _<_}
 use native.Mathlib.Omega.{arith}
 use lib.Dec.{eqb, ltb}
-use lib.ListN.{getD, length, replicate}
+use lib.ListN.{length, replicate}
 use lib.IntN.{ℤ, pos, negsuc, negℤ}
 use lib.Signed.{ltZ}
 use lib.Ieee.{fin, add, sub, div, ofInt, le, lt, eq, sum, round}
@@ -19,7 +19,7 @@ use Rattle.laws.specs.Remainder.{emod}
 use Rattle.laws.specs.Weights.{zeroF, oneF}
 use Rattle.board.specs.declared.edge.Placing.{Placing}
 use Rattle.board.specs.Transform.{matrices, mat, mapped, lookupOfEnds, joined, lookupOf}
-use Rattle.board.specs.Hits.{EdgeList, Board, edges, tables, size, look, predicted, hit, hits, hitsAt}
+use Rattle.board.specs.Hits.{EdgeList, Board, edges, tables, look, predicted, hit, hits}
 use Rattle.board.specs.Domain.{ListOk, Patterns, BoardOk}
 use Rattle.likelihood.specs.Likelihood.{halfUp, quantised, dequantised}
 use Rattle.sums.specs.Sums.{Likelihoods, likelihoods, score}
@@ -30,12 +30,12 @@ use Rattle.checks.specs.Checks.{far, inRange, lengthsDiffer, sizeBad, fieldBad,
 use Rattle.admission.specs.Accepted.{list-ok, bytes-ok}
 use Rattle.figures.specs.Figures.{rateOf, noConfidence, confidenceTo}
 use Rattle.scan.specs.Scan.{overLimit}
-use Rattle.hard.specs.RateLaws.{never-over-one}
 use Rattle.hard.specs.SelectTheorems.{hitsAtKey}
-use Rattle.demand.specs.Demand.{OnBoard, Same, Leads, AgreesPhysical}
-use Rattle.demand.specs.DemandLaws.{same-or-not, sole-leads}
-use Rattle.demand.specs.OneSelection.{Winner, some-winner, winner-most}
-use Rattle.decode_soft.specs.SoftDemand.{marginOf, BestByLikelihood}
+use Rattle.demand.specs.Demand.{OnBoard, Leads, AgreesPhysical}
+use Rattle.demand.specs.DemandLaws.{sole-leads}
+use Rattle.demand.specs.AgreesLaws.{most-agrees}
+use Rattle.decode_soft.specs.SoftDemand.{marginOf, FirstByLikelihood, SecondByLikelihood, BestByLikelihood}
+use Rattle.decode_soft.specs.SoftPlaces.{best-by-rows}
 
 -- ---- the case
 -- four horizontal and five vertical patterns, so 12 rows of 15 columns
@@ -117,32 +117,14 @@ leads = sole-leads board board-good transforms list zeroF place on-board (record
   ahead = λ q j h l n. let o = others-fewer q j h l n in omega (arith, place-hits);
 })
 
--- ---- the physical list: here the same edges. Its selection has a winner, and no placing has more hits than it has, so it is the placing
+-- ---- the physical list: here the same edges
 some-confidence : noConfidence list ≡ false
 unfolding noConfidence confidenceTo fold eq add sum round
 some-confidence = refl
 
-never-over : (P : Placing) → overLimit (size list) oneF (hitsAt board list transforms P) ≡ false
-never-over P = never-over-one (size list) (hitsAt board list transforms P) (omega arith) (omega arith)
-
-winner : Winner board list transforms oneF board-good list-good (omega arith)
-winner = some-winner board list transforms oneF board-good list-good (omega arith) some-confidence (record { one = place; on-board = on-board; within = never-over place })
-
-same-winner : Same (winner .winner .placing) place
-same-winner =
-    let m = winner-most board list transforms oneF board-good list-good (omega arith) winner in
-    ⊎-elim (λ s. s) (λ n. absurd (omega (arith, leads .ahead (winner .winner .placing) (m .0) n, m .1, m .2 place on-board (never-over place)))) (same-or-not (winner .winner .placing) place)
-
--- AND IT AGREES WITH THE WINNER OF THE PHYSICAL LIST
+-- AND IT AGREES WITH THE WINNER OF THE PHYSICAL LIST, for it has more hits there than every other
 pub agrees : AgreesPhysical board list transforms place
-agrees = record {
-  winner = winner .winner;
-  runner = winner .runner-up;
-  chosen = winner .selected;
-  transform = ap (λ (p : ℕ). getD transforms p 0) (same-winner .0);
-  row = same-winner .1;
-  col = same-winner .2;
-}
+agrees = most-agrees board list transforms board-good list-good (omega arith) (omega arith) some-confidence place on-board (λ Q o n. let l = leads .ahead Q o n in omega arith)
 
 -- ---- soft: a hit adds nothing, a miss takes away 1
 abbrev pub odds : Likelihoods
@@ -256,6 +238,10 @@ best = record {
   };
 }
 
+-- and so by rows and columns
+pub first-and-second : FirstByLikelihood board list odds transforms place × SecondByLikelihood board list odds transforms place second
+first-and-second = best-by-rows board list odds transforms board-good place second best
+
 -- IT CLEARS A SOFT MARGIN OF 1/8: (0 - (-1)) / 5 is not below it. On the logical list, here the same edges, it leads (`leads`)
 pub clears : belowMargin (marginOf board list odds transforms place second) (fin false 1 (negℤ (pos 3))) ≡ false
 unfolding score hit look predicted lookupOf joined mapped lookupOfEnds mat matrices emod fold quantised halfUp dequantised round lt sub div ofInt sum
@@ -263,4 +249,4 @@ clears = refl
 
 -- What was computed, by the checker over the definitions: the hits and the likelihood sum of each of the 2 * 180 placings, edge by edge, the rate, the total
 -- confidence and the margin; that list and board are in the domain. What is cited: that a lead by keys is a lead by rows and columns (`sole-leads`), and that a
--- selection with confidence has a winner that no placing exceeds in hits (`some-winner`, `winner-most`), so that no table and no weight need be computed.
+-- placing with more hits than every other agrees with the physical winner, whatever the weights (`most-agrees`), so that no table and no weight is computed.

@@ -1,20 +1,17 @@
 -- DEMAND 3, HARD. For accepted inputs with some confidence in each list, hard decode answers exactly when one placing of the logical list leads and agrees with
 -- the winner of the physical list; it gives that placing, and a runner-up that is another placing with hits no third exceeds. Hits are board's, edge by edge.
-use mathlib.Core.Path.{_≡_, refl, sym, ap, ap₂, subst, _∙_}
-use mathlib.Core.Bool.{Bool, true, false, _&&_}
-use mathlib.Core.List.{List}
-use Prim.Native.Nat.{ℕ, _+_, _*_, _≤_, _<_}
-use native.Mathlib.Omega.{arith}
+use mathlib.Core.Path.{_≡_, refl, sym, ap, subst, _∙_}
+use mathlib.Core.Bool.{Bool, true, false}
+use Prim.Native.Nat.{ℕ}
 use lib.Dec.{eqb}
-use lib.ListN.{getD, length}
+use lib.ListN.{getD}
 use lib.IntN.{pos}
-use lib.Ieee.{Float, binary32, ofInt}
+use lib.Ieee.{binary32, ofInt}
 use borrow.Author.Tests.{eq-eqb, eqb-true}
-use Rattle.laws.specs.Tests.{clash, and-true}
+use Rattle.laws.specs.Tests.{and-true}
 use Rattle.laws.specs.Weights.{oneF}
 use Rattle.board.specs.declared.edge.Placing.{Placing}
-use Rattle.board.specs.Hits.{EdgeList, Board, size, hitsAt}
-use Rattle.board.specs.Sides.{periodOf}
+use Rattle.board.specs.Hits.{size}
 use Rattle.admission.specs.Calls.{HardCall}
 use Rattle.admission.specs.Accepted.{HardAccepted}
 use Rattle.figures.specs.Gate.{passed}
@@ -25,29 +22,19 @@ use Rattle.scan.specs.declared.scan.Candidate.{Candidate}
 use Rattle.scan.specs.declared.scan.RunnerUp.{RunnerUp}
 use Rattle.hard.specs.declared.select.Selection.{Selection}
 use Rattle.hard.specs.declared.select.Selection.the-variants as sel
-use Rattle.refusals.specs.declared.Refusal.{Refusal}
 use Rattle.refusals.specs.Numbers.{numbered}
 use Rattle.refusals.specs.Numbers as why
 use Rattle.answer.specs.declared.Decoded.{Decoded}
-use Rattle.answer.specs.declared.Answer.{Answer}
-use Rattle.answer.specs.declared.Answer.the-variants.{Found, Refused}
+use Rattle.answer.specs.declared.Answer.the-variants.{Found}
 use Rattle.verdict.specs.Verdict.{refusedBy, agreed, decodedOf, pick, judged}
+use Rattle.decode_hard.specs.HardDemand.{HardAnswered}
 use Rattle.decode_hard.specs.Hard.{afterPhysical, afterLogical, hardCore}
 use Rattle.verdict.specs.VerdictTheorems.{never-both}
-use Rattle.demand.specs.Demand.{OnBoard, Same, Leads, RunsUp, Names, AgreesPhysical, Tells}
+use Rattle.demand.specs.Demand.{Leads, AgreesPhysical, Tells}
 use Rattle.demand.specs.DemandLaws.{keyOf, key-same, leads-sole}
 use Rattle.demand.specs.Winners.{runnerAt, winner-on, winner-leads, winner-hits, named, runner-hits, runs-up}
 
 module _ (call : HardCall) (m n : ℕ) (A : HardAccepted call m n) where
-  -- what a found hard answer says
-  pub record Answered (d : Decoded) : Type 0 where
-    pub square : Placing
-    pub runner-up : Placing
-    pub leads : Leads (call .board) (call .logical) (call .transforms) (call .error-limit) square
-    pub agrees : AgreesPhysical (call .board) (call .physical) (call .transforms) square
-    pub runs-up : RunsUp (call .board) (call .logical) (call .transforms) square runner-up
-    pub tells : Tells (call .board) (call .logical) (call .transforms) d square runner-up
-
   -- ---- found: then a placing leads and agrees, and the answer tells it
   module _ (d : Decoded) where
     module _ (x : Candidate) (r : RunnerUp) (y : Candidate) (o : RunnerUp) (e : selection (call .board) (call .logical) (call .transforms) (call .error-limit) ≡ sel.Selected x r) (f : selection (call .board) (call .physical) (call .transforms) oneF ≡ sel.Selected y o) where
@@ -57,7 +44,7 @@ module _ (call : HardCall) (m n : ℕ) (A : HardAccepted call m n) where
       abbrev s : ℕ
       s = getD (call .transforms) (y .placing .listed) 0
 
-      answered : agreed t x s y ≡ true → passed (size (call .logical)) (x .hits) (r .hits) ≡ true → Found (decodedOf t x r (size (call .logical))) ≡ Found d → Answered d
+      answered : agreed t x s y ≡ true → passed (size (call .logical)) (x .hits) (r .hits) ≡ true → Found (decodedOf t x r (size (call .logical))) ≡ Found d → HardAnswered call d
       unfolding agreed decodedOf
       answered a g k =
           let q : decodedOf t x r (size (call .logical)) ≡ d = cc in
@@ -79,28 +66,28 @@ module _ (call : HardCall) (m n : ℕ) (A : HardAccepted call m n) where
             });
           }
 
-      by-gate : (b : Bool) → passed (size (call .logical)) (x .hits) (r .hits) ≡ b → agreed t x s y ≡ true → pick b (Found (decodedOf t x r (size (call .logical)))) (refusedBy why.notFarAhead) ≡ Found d → Answered d
+      by-gate : (b : Bool) → passed (size (call .logical)) (x .hits) (r .hits) ≡ b → agreed t x s y ≡ true → pick b (Found (decodedOf t x r (size (call .logical)))) (refusedBy why.notFarAhead) ≡ Found d → HardAnswered call d
       by-gate true g a k = answered a g k
       by-gate false g a k = absurd (never-both d (numbered why.notFarAhead) k)
 
-      by-agreed : (b : Bool) → agreed t x s y ≡ b → pick b (pick (passed (size (call .logical)) (x .hits) (r .hits)) (Found (decodedOf t x r (size (call .logical)))) (refusedBy why.notFarAhead)) (refusedBy why.listsDisagree) ≡ Found d → Answered d
+      by-agreed : (b : Bool) → agreed t x s y ≡ b → pick b (pick (passed (size (call .logical)) (x .hits) (r .hits)) (Found (decodedOf t x r (size (call .logical)))) (refusedBy why.notFarAhead)) (refusedBy why.listsDisagree) ≡ Found d → HardAnswered call d
       by-agreed true a k = by-gate (passed (size (call .logical)) (x .hits) (r .hits)) refl a k
       by-agreed false a k = absurd (never-both d (numbered why.listsDisagree) k)
 
-      from-judged : judged t x r s y (size (call .logical)) ≡ Found d → Answered d
+      from-judged : judged t x r s y (size (call .logical)) ≡ Found d → HardAnswered call d
       unfolding judged
       from-judged h = by-agreed (agreed t x s y) refl h
 
-    from-physical : (x : Candidate) (r : RunnerUp) (q : Selection) → selection (call .board) (call .logical) (call .transforms) (call .error-limit) ≡ sel.Selected x r → selection (call .board) (call .physical) (call .transforms) oneF ≡ q → afterPhysical (call .logical) (call .transforms) x r q ≡ Found d → Answered d
+    from-physical : (x : Candidate) (r : RunnerUp) (q : Selection) → selection (call .board) (call .logical) (call .transforms) (call .error-limit) ≡ sel.Selected x r → selection (call .board) (call .physical) (call .transforms) oneF ≡ q → afterPhysical (call .logical) (call .transforms) x r q ≡ Found d → HardAnswered call d
     from-physical x r (sel.Refused k) e f h = absurd (never-both d k h)
     from-physical x r (sel.Selected y o) e f h = from-judged x r y o e f h
 
-    from-logical : (q : Selection) → selection (call .board) (call .logical) (call .transforms) (call .error-limit) ≡ q → afterLogical call q ≡ Found d → Answered d
+    from-logical : (q : Selection) → selection (call .board) (call .logical) (call .transforms) (call .error-limit) ≡ q → afterLogical call q ≡ Found d → HardAnswered call d
     from-logical (sel.Refused k) e h = absurd (never-both d k h)
     from-logical (sel.Selected x r) e h = from-physical x r (selection (call .board) (call .physical) (call .transforms) oneF) e refl h
 
     -- FOUND MEANS TRUE
-    pub hard-sound : hardCore call ≡ Found d → Answered d
+    pub hard-sound : hardCore call ≡ Found d → HardAnswered call d
     unfolding hardCore
     hard-sound h = from-logical (selection (call .board) (call .logical) (call .transforms) (call .error-limit)) refl h
 

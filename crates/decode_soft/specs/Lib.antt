@@ -4,4 +4,6 @@ pub mod SoftDemand
 pub mod SoftPlaces
 pub mod SoftTheorems
 pub mod SoftNumbers
+pub mod SoftLate
+pub mod SoftLateLaws
 pub mod SoftRange

@@ -6,4 +6,6 @@ pub mod Ready
 pub mod Answers
 pub mod Winners
 pub mod OneSelection
+pub mod Late
+pub mod AgreesLaws
 pub mod FoundRange

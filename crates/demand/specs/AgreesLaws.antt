@@ -1,0 +1,50 @@
+-- What it is to agree with the physical list's winner, in hits, edge by edge: no table and no weight occurs.
+use mathlib.Core.Path.{_≡_, ap}
+use mathlib.Core.Bool.{false}
+use mathlib.Core.List.{List}
+use mathlib.Core.Logic.{⊎-elim}
+use Prim.Native.Nat.{ℕ, _≤_, _<_}
+use native.Mathlib.Omega.{arith}
+use lib.ListN.{getD, length}
+use Rattle.laws.specs.Weights.{oneF}
+use Rattle.board.specs.declared.edge.Placing.{Placing}
+use Rattle.board.specs.Hits.{EdgeList, Board, size, hits, hitsAt}
+use Rattle.board.specs.Domain.{ListOk, BoardOk}
+use Rattle.figures.specs.Figures.{noConfidence}
+use Rattle.scan.specs.Scan.{overLimit}
+use Rattle.hard.specs.RateLaws.{never-over-one}
+use Rattle.demand.specs.Demand.{OnBoard, Same, AgreesPhysical}
+use Rattle.demand.specs.DemandLaws.{same-or-not}
+use Rattle.demand.specs.OneSelection.{Winner, some-winner, winner-most}
+
+module _ (B : Board) (E : EdgeList) (ts : List ℕ) (board : BoardOk B) (list : ListOk E) (few : length ts ≤ 8) (some : 0 < size E) where
+  -- with limit 1 every placing is within it
+  all-within : (P : Placing) → overLimit (size E) oneF (hitsAt B E ts P) ≡ false
+  all-within P = never-over-one (size E) (hitsAt B E ts P) some (list .few)
+
+  -- a placing that agrees with the winner has hits that no placing exceeds
+  pub agrees-most : (P : Placing) → AgreesPhysical B E ts P → (Q : Placing) → OnBoard B ts Q → hitsAt B E ts Q ≤ hitsAt B E ts P
+  agrees-most P a Q o =
+      let m = winner-most B E ts oneF board list few (record { winner = a .winner; runner-up = a .runner; selected = a .chosen }) in
+      let same : hitsAt B E ts (a .winner .placing) ≡ hitsAt B E ts P = λ i. hits B E (a .transform i) (a .row i) (a .col i) in
+      omega (arith, m .1, m .2 Q o (all-within Q))
+
+  -- a placing with more hits than every other agrees with the winner, whatever the weights
+  pub most-agrees : noConfidence E ≡ false → (P : Placing) → OnBoard B ts P → ((Q : Placing) → OnBoard B ts Q → (Same Q P → ⊥) → hitsAt B E ts Q < hitsAt B E ts P)
+      → AgreesPhysical B E ts P
+  most-agrees k P o h = record {
+    winner = won .winner;
+    runner = won .runner-up;
+    chosen = won .selected;
+    transform = ap (λ (p : ℕ). getD ts p 0) (same .0);
+    row = same .1;
+    col = same .2;
+  }
+    where
+      won : Winner B E ts oneF board list few
+      won = some-winner B E ts oneF board list few k (record { one = P; on-board = o; within = all-within P })
+
+      same : Same (won .winner .placing) P
+      same =
+          let m = winner-most B E ts oneF board list few won in
+          ⊎-elim (λ s. s) (λ n. absurd (omega (arith, h (won .winner .placing) (m .0) n, m .1, m .2 P o (all-within P)))) (same-or-not (won .winner .placing) P)

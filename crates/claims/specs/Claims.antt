@@ -24,7 +24,7 @@ use Rattle.checks.specs.Checks.{inRange, lengthsDiffer, sizeBad, confidenceBad,
 use Rattle.admission.specs.Refusals.{fieldsBad, tablesBad, roomShort, softRoomShort, softLengthsDiffer, softLikelihoodBad, softSettingsBad, hardAdmission, softAdmission, statsAdmission}
 use Rattle.admission.specs.Domain.{StatsDomain}
 use Rattle.admission.specs.DomainLaws.{hard-domain, soft-domain, stats-domain}
-use Rattle.admission.specs.Accepted.{HardAccepted, hard-accepted, SoftAccepted, soft-accepted}
+use Rattle.admission.specs.Accepted.{HardAccepted, hard-accepted, SoftAccepted, soft-accepted, stats-accepted}
 use Rattle.figures.specs.Figures.{noConfidence}
 use Rattle.answer.specs.declared.Decoded.{Decoded}
 use Rattle.answer.specs.declared.Answer.{Answer}
@@ -55,6 +55,7 @@ use Rattle.decode_soft.specs.SoftLateLaws.{soft-late-numbers}
 use Rattle.decode_soft.specs.SoftPlaces.{best-by-rows}
 use Rattle.decode_soft.specs.SoftTheorems.{soft-sound, soft-complete-by-rows}
 use Rattle.stats.specs.Stats.{statsAnswer, statsOf, orCounted}
+use Rattle.stats.specs.StatsRange.{StatsInRange, stats-in-range}
 use Rattle.claims.specs.Promises.{NumberAlone, OneToNine, RunnerUpAlways, Emptied, HardRoom, SoftRoom, hardChecked, InHardDomain, HardGave, HardPromise, softChecked, InSoftDomain, SoftGave, SoftBestPlacing, SoftClears, SoftPromise, StatsPromise}
 
 -- ---- EARLY REFUSALS
@@ -337,6 +338,15 @@ module _ (list : EdgeList) (transform row col : ℕ) (board : Board) (answer : S
   pub stats-by-the-rules : StatsDomain list transform row col board → answer ≡ stats.Counted (statsOf list transform row col board)
   unfolding statsAnswer
   stats-by-the-rules domain = done ∙ ap (λ (y : Admission). orCounted y (statsOf list transform row col board)) (stats-accepts .1 domain)
+
+  -- what is counted is in range: its whole numbers, and no float is a NaN or an infinity
+  pub stats-answer-in-range : (counted : MatchStats) → answer ≡ stats.Counted counted → StatsInRange counted
+  unfolding statsAnswer
+  stats-answer-in-range s k = go statsChecked refl (sym k ∙ done)
+    where
+      go : (a : Admission) → statsChecked ≡ a → stats.Counted s ≡ orCounted a (statsOf list transform row col board) → StatsInRange s
+      go admission.Accepted h q = let z : statsOf list transform row col board ≡ s = cc in subst StatsInRange z (stats-in-range list transform row col board (stats-accepted list transform row col board h .list))
+      go (admission.Refused x) h q = let z : _≡_ {A = ℕ} 0 1 = cc in absurd (omega arith)
 
   -- DEMAND 2, counted means: the hits are board's, edge by edge, of all the edges
   pub stats-hits : (counted : MatchStats) → answer ≡ stats.Counted counted → (counted .hits ≡ hits board list transform row col) × (counted .edges ≡ size list)

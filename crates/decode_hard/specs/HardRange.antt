@@ -14,13 +14,14 @@ use Rattle.admission.specs.Accepted.{HardAccepted}
 use Rattle.answer.specs.declared.Decoded.{Decoded}
 use Rattle.answer.specs.declared.Answer.the-variants.{Found}
 use Rattle.figures.specs.Figures.{rateOf, meanOf}
+use Rattle.figures.specs.RangeLaws.{rate-within, mean-within}
 use Rattle.scan.specs.declared.scan.Candidate.{Candidate}
 use Rattle.scan.specs.declared.scan.RunnerUp.{RunnerUp}
 use Rattle.hard.specs.declared.select.Selection.{Selection}
 use Rattle.hard.specs.declared.select.Selection.the-variants as sel
 use Rattle.hard.specs.Select.{selection}
 use Rattle.hard.specs.SelectTheorems.{selected-in-range}
-use Rattle.hard.specs.WeighedLaws.{rate-within, mean-within, winner-within}
+use Rattle.hard.specs.WeighedLaws.{winner-within}
 use Rattle.verdict.specs.Verdict.{decodedOf}
 use Rattle.verdict.specs.VerdictTheorems.{never-both, judged-is}
 use Rattle.demand.specs.FoundRange.{FloatsFinite, AnswerInRange, on-flat-board}
@@ -40,8 +41,8 @@ module _ (call : HardCall) (m n : ℕ) (A : HardAccepted call m n) (d : Decoded)
         let edges = size (call .logical) in
         record {
           weighted-score = within-finite (x .score) (2 * edges) (w .1);
-          error-rate = within-finite (rateOf edges (x .hits)) 1 (rate-within (call .board) (call .logical) (A .board) (A .logical) (x .hits) (A .some-logical));
-          mean-confidence = within-finite (meanOf (x .hits) (x .weight)) edges (mean-within (call .board) (call .logical) (A .board) (A .logical) (x .hits) (x .weight) (hits-in .0) (w .0));
+          error-rate = within-finite (rateOf edges (x .hits)) 1 (rate-within edges (x .hits) (A .some-logical) (A .logical .few));
+          mean-confidence = within-finite (meanOf (x .hits) (x .weight)) edges (mean-within (x .hits) edges (x .weight) (omega (arith, hits-in .0, A .logical .few)) (omega (arith, A .logical .few)) (w .0));
           best-score = within-finite (x .score) (2 * edges) (w .1);
           runner-up-score = within-finite (ofInt binary32 (pos (r .hits))) (r .hits) (whole-within (r .hits) (omega (arith, hits-in .1, A .logical .few)));
           margin = within-finite (ofInt binary32 (pos (x .hits - r .hits))) (x .hits - r .hits) (whole-within (x .hits - r .hits) (omega (arith, hits-in .0, A .logical .few)));

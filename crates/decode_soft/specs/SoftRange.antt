@@ -14,9 +14,10 @@ use Rattle.board.specs.Sides.{periodOf}
 use Rattle.board.specs.HitsLaws.{hits-le, side-some}
 use Rattle.tables.specs.TablesTheorems.{hCell, vCell}
 use Rattle.figures.specs.Figures.{rateOf, meanOf}
+use Rattle.figures.specs.RangeLaws.{rate-within, mean-within}
 use Rattle.hard.specs.SelectTheorems.{selected-in-range}
-use Rattle.hard.specs.WeighedLaws.{pair-within, rate-within, mean-within}
-use Rattle.soft.specs.TotalLaws.{score-small, total-within, share-within, margin-within}
+use Rattle.hard.specs.WeighedLaws.{pair-within}
+use Rattle.soft.specs.TotalLaws.{score-small, total-within, per-edge-within, margin-within}
 use Rattle.verdict.specs.Verdict.{softDecodedOf}
 use Rattle.admission.specs.Calls.{SoftCall}
 use Rattle.admission.specs.Accepted.{SoftAccepted}
@@ -52,9 +53,9 @@ soft-floats call m n k A d e =
     let r = f .runner in
     let runner = selected-in-range B (H .logical) ts (H .error-limit) (A .hard .board) (A .hard .logical) (A .hard .transforms .few) (f .winner) r (f .selected) .runner-up-hits in
     subst FloatsFinite (f .told) (record {
-      weighted-score = within-finite (div binary32 (total B E X ts P) (ofInt binary32 (pos edges))) (2 ^ 29) (share-within edges some few (total B E X ts P) one);
-      error-rate = within-finite (rateOf edges (fit .hits)) 1 (rate-within B E (A .hard .board) (A .hard .physical) (fit .hits) some);
-      mean-confidence = within-finite (meanOf (fit .hits) (fit .weight)) edges (mean-within B E (A .hard .board) (A .hard .physical) (fit .hits) (fit .weight) hits weight);
+      weighted-score = within-finite (div binary32 (total B E X ts P) (ofInt binary32 (pos edges))) (2 ^ 29) (per-edge-within edges some few (total B E X ts P) one);
+      error-rate = within-finite (rateOf edges (fit .hits)) 1 (rate-within edges (fit .hits) some few);
+      mean-confidence = within-finite (meanOf (fit .hits) (fit .weight)) edges (mean-within (fit .hits) edges (fit .weight) (omega (arith, hits, few)) (omega (arith, few)) weight);
       best-score = within-finite (total B E X ts P) (2 ^ 29) one;
       runner-up-score = within-finite (ofInt binary32 (pos (r .hits))) (r .hits) (whole-within (r .hits) (omega (arith, runner, A .hard .logical .few)));
       margin = within-finite (marginOf B E X ts P (f .second)) (2 ^ 29 + 2 ^ 29) (margin-within edges some few (withTotal B E X ts P) (withTotal B E X ts (f .second)) one two);

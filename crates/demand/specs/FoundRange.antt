@@ -4,10 +4,8 @@ use mathlib.Core.Path.{_≡_, subst}
 use mathlib.Core.List.{List}
 use Prim.Native.Nat.{ℕ, _≤_, _<_}
 use native.Mathlib.Omega.{arith}
-use lib.Dec.{T}
 use lib.ListN.{length}
-use lib.Ieee.{Float}
-use lib.Ieee.Scale.{finite}
+use Rattle.laws.specs.Weights.{Finite}
 use Rattle.board.specs.declared.edge.Placing.{Placing}
 use Rattle.board.specs.Hits.{Board}
 use Rattle.admission.specs.Accepted.{TransformsOk}
@@ -20,10 +18,6 @@ pub record OnFlatBoard (s : Square) : Type 0 where
   pub transform : s .transform < 8
   pub row : s .row < 501
   pub col : s .col < 501
-
--- no NaN and no infinity
-abbrev pub Finite : Float → Type 0
-Finite x = T (finite x)
 
 -- the floats of a found answer
 pub record FloatsFinite (d : Decoded) : Type 0 where

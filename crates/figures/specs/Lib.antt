@@ -1,3 +1,4 @@
 pub mod Figures
 pub mod FiguresLaws
 pub mod Gate
+pub mod RangeLaws

@@ -4,46 +4,22 @@ use mathlib.Core.Path.{_≡_, refl, sym, ap, _∙_}
 use mathlib.Core.Bool.{Bool, true, false, true≢false, _||_}
 use mathlib.Core.Logic.{_⊎_, inl, inr, ⊎-elim}
 use Prim.Native.Nat.{ℕ, _+_, _-_, _*_, _≤_, _<_}
-use native.Mathlib.Nat.{mul-one, mul-comm, mul-assoc, mul-left-comm, mul-le-mul-right, mul-pos, eq-zero-or-pos}
+use native.Mathlib.Nat.{mul-le-mul-right, mul-pos, eq-zero-or-pos}
 use native.Mathlib.Omega.{arith}
 use lib.Dec.{T, lit<}
-use lib.Ieee.{Float, nan, inf, fin, binary32, up, down, round, div, ofInt, lt, le, eq}
+use lib.Ieee.{Float, nan, inf, fin, binary32, up, down, round, lt, le, eq}
 use lib.Ieee.Fits.{down-pos}
 use lib.Ieee.Exact.{HasValue}
-use lib.Ieee.Back.{round-whole}
 use lib.Ieee.Order.{round-mono}
-use lib.Ieee.Positive.{num, den, through, first-pos}
-use lib.Ieee.Scale.{round-same, round-val, round-under, finite}
-use borrow.Author.Tests.{ltb-true, ltb-false, lt-ltb, le-ltb, ne-eqb}
+use lib.Ieee.Positive.{num, den, through}
+use lib.Ieee.Scale.{round-val, round-under, finite}
+use borrow.Author.Tests.{ltb-true, ltb-false, lt-ltb, le-ltb}
 use Rattle.laws.specs.Tests.{clash, not-so, compared, or-true}
 use Rattle.laws.specs.Weights.{zeroF, oneF, Weight, weightlike}
 use Rattle.laws.specs.WeightLaws.{confidence, lt-cross, eq-level}
 use Rattle.figures.specs.Figures.{rateOf}
+use Rattle.figures.specs.RangeLaws.{rate-is}
 use Rattle.scan.specs.Scan.{overLimit}
-
--- ---- a quotient of whole numbers is one rounding
-quotient : (x y : Float) (a b : ℕ) → HasValue x false a 1 → HasValue y false b 1 → 0 < b → div binary32 x y ≡ round binary32 false a b
-unfolding div
-quotient nan y a b h k p = absurd h
-quotient (inf s) y a b h k p = absurd h
-quotient (fin true m e) y a b h k p = absurd (true≢false (h .0))
-quotient (fin false m e) nan a b h k p = absurd k
-quotient (fin false m e) (inf t) a b h k p = absurd k
-quotient (fin false m e) (fin true n d) a b h k p = absurd (true≢false (k .0))
-quotient (fin false m e) (fin false n d) a b h k p =
-    let x : m * up e ≡ a * down e = sym (mul-one (m * up e)) ∙ h .1 in
-    let y : n * up d ≡ b * down d = sym (mul-one (n * up d)) ∙ k .1 in
-    let P : 0 < n * up d = rw y (mul-pos p (down-pos d)) in
-    rw (ne-eqb n 0 (λ z. nought n (first-pos n (up d) P) z))
-    (round-same binary32 false (m * up e * down d) (n * up d * down e) a b (mul-pos P (down-pos e)) p (rw (x, y) (simp (mul-assoc, mul-comm, mul-left-comm))))
-  where
-    nought : (n : ℕ) → 0 < n → n ≡ 0 → ⊥
-    nought n l z = omega arith
-
-pub rate-is : (edges hits : ℕ) → 0 < edges → edges ≤ 8192 → rateOf edges hits ≡ round binary32 false (edges - hits) edges
-unfolding rateOf ofInt
-rate-is edges hits p l =
-    quotient (round binary32 false (edges - hits) 1) (round binary32 false edges 1) (edges - hits) edges (round-whole binary32 false (edges - hits) (omega arith)) (round-whole binary32 false edges (omega arith)) p
 
 -- ---- a rounded fraction from 0 to 1 is a weight
 zero-round : round binary32 false 0 1 ≡ zeroF

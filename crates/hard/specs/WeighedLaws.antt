@@ -1,26 +1,23 @@
--- What a winner weighs: its weight is the rounded sum of the weights of two cells, and its score is that over the total confidence. So its figures are finite: weight,
--- rate and mean are at most the number of edges, and the score is at most twice that, however small the confidences are.
+-- What a winner weighs: its weight is the rounded sum of the weights of two cells, and its score is that over the total confidence. So both are finite: the weight is
+-- at most the number of edges, and the score at most twice that, however small the confidences are.
 use mathlib.Core.Path.{_≡_, refl, sym, ap, subst, _∙_}
-use mathlib.Core.Bool.{Bool, true, false, cond}
+use mathlib.Core.Bool.{true, false}
 use mathlib.Core.List.{List}
 use mathlib.Core.Logic.{_⊎_, ⊎-elim}
-use Prim.Native.Nat.{ℕ, zero, suc, _+_, _-_, _*_, _≤_, _<_, zero-le}
-use native.Mathlib.Nat.{le-trans}
+use Prim.Native.Nat.{ℕ, _+_, _-_, _*_, _≤_, _<_}
 use native.Mathlib.Omega.{arith}
-use lib.Dec.{eqb, lit≤}
 use lib.ListN.{getD, length}
-use lib.Ieee.{Float, nan, binary32, add, div, round, ofInt}
+use lib.Ieee.{Float, nan, binary32, add, div}
 use lib.Ieee.Back.{round-whole}
-use borrow.Author.Tests.{eqb-false}
 use Rattle.laws.specs.Grid.{origins}
-use Rattle.laws.specs.Weights.{zeroF, Upto, Within}
+use Rattle.laws.specs.Weights.{Upto, Within}
 use Rattle.laws.specs.WeightLaws.{Bounds, by-counts}
-use Rattle.laws.specs.WithinLaws.{upto-within, within-more, round-within, div-within}
-use Rattle.laws.specs.ShareLaws.{unit, by-shares, share-within}
+use Rattle.laws.specs.WithinLaws.{upto-within, within-more}
+use Rattle.laws.specs.ShareLaws.{magnitude-of, by-shares, share-within}
 use Rattle.board.specs.Hits.{EdgeList, Board, size}
 use Rattle.board.specs.Sides.{periodOf}
 use Rattle.board.specs.Domain.{ListOk, BoardOk}
-use Rattle.figures.specs.Figures.{rateOf, meanOf, confidenceTo, totalConfidence, noConfidence}
+use Rattle.figures.specs.Figures.{confidenceTo, totalConfidence, noConfidence}
 use Rattle.cells.specs.Cells.{countsOf, weightsOf}
 use Rattle.tables.specs.TablesTheorems.{counts-few, weights-bounded}
 use Rattle.best.specs.CellTables.{CellTables, Period, TablesOk, wAt}
@@ -31,7 +28,6 @@ use Rattle.direct.specs.Direct.{originCandidate}
 use Rattle.hard.specs.Transform.{selected}
 use Rattle.hard.specs.TransformLaws.{best-ok}
 use Rattle.hard.specs.KeptLaws.{MostOf, Offers, Listed, kept-most}
-use Rattle.hard.specs.RateLaws.{rate-is}
 use Rattle.hard.specs.OneList.{choice}
 use Rattle.hard.specs.Select.{tablesOf, scanOf, selection}
 use Rattle.hard.specs.SelectLaws.{tables-ok}
@@ -120,31 +116,10 @@ module _ (B : Board) (E : EdgeList) (board : BoardOk B) (list : ListOk E) where
     unfolding noConfidence confidenceTo
     pair-share k =
         let s : length (E .confidences) ≡ size E = list .confidences in
-        let u = unit (λ i. getD (E .confidences) i nan) (length (E .confidences)) (omega (arith, list .few)) (λ i l. list .confidence i (omega arith)) k in
+        let u = magnitude-of (λ i. getD (E .confidences) i nan) (length (E .confidences)) (omega (arith, list .few)) (λ i l. list .confidence i (omega arith)) k in
         within-more (div binary32 pair (totalConfidence E)) (2 * number) (2 * size E) (omega (arith, few))
         (share-within pair (totalConfidence E) number (u .q) (round-whole binary32 false (2 * number) (omega (arith, few, list .few)))
         (pair-bounded _ _ (by-shares (u .q) (u .small)) (λ i l. u .each i (omega arith))) (u .reaches))
-
-  -- ---- the figures
-  -- the rate
-  pub rate-within : (hits : ℕ) → 0 < size E → Within (rateOf (size E) hits) 1
-  rate-within hits some =
-      rw (rate-is (size E) hits some (list .few)) (round-within false 1 (size E - hits) (size E) some (round-whole binary32 false 1 (lit≤ tt)) (omega arith))
-
-  -- the mean of a weight
-  pub mean-within : (hits : ℕ) (weight : Float) → hits ≤ size E → Within weight (size E) → Within (meanOf hits weight) (size E)
-  unfolding meanOf ofInt
-  mean-within hits weight l h = go (eqb hits 0) refl
-    where
-      some : (n : ℕ) → (n ≡ 0 → ⊥) → 0 < n
-      some zero h = absurd (h refl)
-      some (suc n) h = omega arith
-
-      go : (b : Bool) → eqb hits 0 ≡ b → Within (cond b zeroF (div binary32 weight (round binary32 false hits 1))) (size E)
-      go true e = le-trans (omega arith) zero-le
-      go false e =
-          let n = eqb-false hits 0 e in
-          div-within weight (round binary32 false hits 1) (size E) hits (round-whole binary32 false (size E) (omega (arith, list .few))) h (some hits n) (round-whole binary32 false hits (omega (arith, list .few)))
 
   -- THE WINNER'S FIGURES ARE FINITE: its weight is at most the number of edges, and its score at most twice that
   pub winner-within : (ts : List ℕ) (limit : Float) (w : Candidate) (r : RunnerUp) → selection B E ts limit ≡ Selected w r → Within (w .weight) (size E) × Within (w .score) (2 * size E)

@@ -1,5 +1,5 @@
 -- A weight over the list's total confidence is finite, however small the confidences: the weight is a sum of some of them, each is at most the total, and sums
--- of what is at most a power of two keep that power as their unit. So the share of n confidences is at most 2 n.
+-- of what is at most a power of two count in that power. So the share of n confidences is at most 2 n.
 use mathlib.Core.Path.{_≡_, refl, sym, ap, subst, _∙_}
 use mathlib.Core.Bool.{true, false, cond, true≢false, _&&_}
 use mathlib.Core.Logic.{_⊎_, ⊎-elim}
@@ -137,9 +137,9 @@ module _ (w : ℕ → Float) (c : ℕ) (C : 0 < c) (l : Held 1 c) where
       let t = add-below (fold (add binary32) zeroF n all w) (w n) (fold _+_ 0 n all one) 1 c C l (sum-upto all w one n (λ j k. ok j (omega arith)) (le-trans (count-le all n) (omega arith))) (ok n (omega arith)) b in
       ⊎-elim (λ e. subst (λ (j : ℕ). WeightOver (w j) 1 c) (sym e) (t .1)) (λ k. each-below n (omega arith) (λ j m. ok j (omega arith)) (t .0) i k) (split i n h)
 
--- ---- the unit of a total that is not 0
+-- ---- the magnitude of a total that is not 0
 -- a power of two that no confidence exceeds, and of which the total is more than half (or the power is 1)
-pub record Unit (total : Float) (n : ℕ) (w : ℕ → Float) : Type 0 where
+pub record Magnitude (total : Float) (n : ℕ) (w : ℕ → Float) : Type 0 where
   pub q : ℕ
   pub small : q ≤ 149
   pub each : (i : ℕ) → i < n → WeightOver (w i) 1 (2 ^ q)
@@ -156,7 +156,7 @@ module _ (w : ℕ → Float) (n : ℕ) (few : n ≤ 2 ^ 24) (ok : (i : ℕ) → 
   total = fold (add binary32) zeroF n all w
 
   module _ (m : ℕ) (e : ℤ) (is : fold (add binary32) zeroF n all w ≡ fin false m e) where
-    search : (k : ℕ) → k ≤ 149 → down e ≤ m * up e * 2 ^ k → Unit (fin false m e) n w
+    search : (k : ℕ) → k ≤ 149 → down e ≤ m * up e * 2 ^ k → Magnitude (fin false m e) n w
     search zero l h = record {
       q = 0;
       small = omega arith;
@@ -173,8 +173,8 @@ module _ (w : ℕ → Float) (n : ℕ) (few : n ≤ 2 ^ 24) (ok : (i : ℕ) → 
         (λ g. search k (omega arith) g)
         (compared (m * up e * 2 ^ k) (down e))
 
-  -- the total of confidences has a unit, where it is not 0
-  find : (x : Float) → fold (add binary32) zeroF n all w ≡ x → Upto x (fold _+_ 0 n all one) → T (fits binary32 x) → eq x zeroF ≡ false → Unit x n w
+  -- the total of confidences has one, where it is not 0
+  find : (x : Float) → fold (add binary32) zeroF n all w ≡ x → Upto x (fold _+_ 0 n all one) → T (fits binary32 x) → eq x zeroF ≡ false → Magnitude x n w
   unfolding eq fits
   find nan is u f z = absurd u
   find (inf s) is u f z = absurd u
@@ -186,8 +186,8 @@ module _ (w : ℕ → Float) (n : ℕ) (few : n ≤ 2 ^ 24) (ok : (i : ℕ) → 
       let one-up : 1 ≤ suc m * up e = mul-pos (zero-lt-suc m) (up-pos e) in
       search (suc m) e is 149 (omega arith) (le-trans b (le-trans (le-of-eq (sym (one-mul (2 ^ 149)))) (mul-le-mul-right (2 ^ 149) one-up)))
 
-  pub unit : eq (fold (add binary32) zeroF n all w) zeroF ≡ false → Unit (fold (add binary32) zeroF n all w) n w
-  unit z = find (fold (add binary32) zeroF n all w) refl (sum-upto all w one n ok (le-trans (count-le all n) few)) (sum-fits all w n) z
+  pub magnitude-of : eq (fold (add binary32) zeroF n all w) zeroF ≡ false → Magnitude (fold (add binary32) zeroF n all w) n w
+  magnitude-of z = find (fold (add binary32) zeroF n all w) refl (sum-upto all w one n ok (le-trans (count-le all n) few)) (sum-fits all w n) z
 
 -- ---- the share
 -- a weight bounded in counts of 2 ^ -q, over a total that is at least half of 2 ^ -q

@@ -5,6 +5,7 @@ use Prim.Native.Nat.{ℕ, _*_, _≤_}
 use lib.Dec.{T}
 use lib.IntN.{pos}
 use lib.Ieee.{Float, nan, inf, fin, binary32, up, down, lt, fits}
+use lib.Ieee.Scale.{finite}
 
 -- 0 and 1
 abbrev pub zeroF : Float
@@ -40,6 +41,10 @@ WeightOver nan a c = ⊥
 WeightOver (inf s) a c = ⊥
 WeightOver (fin true m e) a c = m ≡ 0
 WeightOver (fin false m e) a c = m * up e * c ≤ a * down e
+
+-- no NaN and no infinity
+abbrev pub Finite : Float → Type 0
+Finite x = T (finite x)
 
 -- finite, and at most a in size, whatever the sign
 abbrev pub Within : Float → ℕ → Type 0

@@ -4,20 +4,19 @@ use mathlib.Core.Bool.{Bool, true, false, _&&_, cond, Bool·beq}
 use Prim.Native.Nat.{ℕ, zero, suc, _+_, _-_, _*_, _^_, _≤_, _<_}
 use native.Mathlib.Nat.{le-trans, le-of-eq, mul-one, mul-comm, mul-assoc, mul-left-comm, mul-le-mul-left, mul-le-mul-right, mul-pos}
 use native.Mathlib.Omega.{arith}
-use lib.Dec.{T, ltb, lit<}
+use lib.Dec.{ltb, lit<}
 use lib.IntN.{pos}
 use lib.Ieee.{Float, nan, inf, fin, Format, binary32, prec, low, emax, up, down, odd, units, round, sum, add, sub, neg, div, ofInt, unlike}
 use lib.Ieee.Fits.{round-is, down-pos}
 use lib.Ieee.Exact.{HasValue}
 use lib.Ieee.Back.{round-whole}
 use lib.Ieee.Positive.{first-pos}
-use lib.Ieee.Scale.{finite}
 use borrow.Author.Tests.{ne-eqb}
-use Rattle.laws.specs.Weights.{Upto, Within}
+use Rattle.laws.specs.Weights.{Upto, Finite, Within}
 use Rattle.laws.specs.WeightLaws.{Held, round-over, cross, over-upto}
 
 -- what is within a bound is no NaN and no infinity
-pub within-finite : (x : Float) (a : ℕ) → Within x a → T (finite x)
+pub within-finite : (x : Float) (a : ℕ) → Within x a → Finite x
 within-finite nan a h = absurd h
 within-finite (inf s) a h = absurd h
 within-finite (fin s m e) a h = tt

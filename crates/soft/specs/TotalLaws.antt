@@ -98,8 +98,8 @@ module _ (edges : ℕ) (some : 0 < edges) (few : edges ≤ 8192) where
   whole = round-whole binary32 false edges (omega arith)
 
   -- a total over the edges
-  pub share-within : (x : Float) → Within x (2 ^ 29) → Within (div binary32 x (ofInt binary32 (pos edges))) (2 ^ 29)
-  share-within x h = div-within x (ofInt binary32 (pos edges)) (2 ^ 29) edges held-29 h some whole
+  pub per-edge-within : (x : Float) → Within x (2 ^ 29) → Within (div binary32 x (ofInt binary32 (pos edges))) (2 ^ 29)
+  per-edge-within x h = div-within x (ofInt binary32 (pos edges)) (2 ^ 29) edges held-29 h some whole
 
   -- and the margin of two
   pub margin-within : (first second : SoftCandidate) → Within (first .total) (2 ^ 29) → Within (second .total) (2 ^ 29) → Within (softMargin first second edges) (2 ^ 29 + 2 ^ 29)

@@ -17,14 +17,16 @@ use Rattle.laws.specs.WeightLaws.{confidence}
 use Rattle.board.specs.Hits.{EdgeList, Board, size}
 use Rattle.board.specs.Domain.{ListOk, Patterns, BoardOk}
 use Rattle.likelihood.specs.Likelihood.{acceptable}
-use Rattle.refusals.specs.declared.Admission.{Admission}
-use Rattle.refusals.specs.declared.Admission.the-variants.{Accepted, Refused}
-use Rattle.refusals.specs.Numbers.{numbered}
+use Rattle.refusals.specs.declared.Admission.the-variants.{Accepted}
+use Rattle.refusals.specs.declared.ListName.{ListName}
+use Rattle.refusals.specs.declared.ListName.the-variants as list
 use Rattle.refusals.specs.Numbers as why
 use Rattle.room.specs.Room.{flatTables, flatSums, tablesRoom, sumsRoom, flat-room}
-use Rattle.checks.specs.Checks.{far, farAt, badCoordinate, badByte, inRange, marginTop, badConfidence, badLikelihood, firstBadCoordinate, firstBadByte, firstBadConfidence, firstBadLikelihood, lengthsDiffer, sizeBad, fieldBad, confidenceBad, likelihoodsDiffer, likelihoodBad, transformsBad, tableBad, originBad}
+use Rattle.checks.specs.Checks.{far, farAt, badCoordinate, badByte, inRange, marginTop, badConfidence, badLikelihood, firstBadCoordinate, firstBadByte, firstBadConfidence, firstBadLikelihood, lengthsDiffer, sizeBad, likelihoodsDiffer, transformsBad, tableBad, originBad}
+use Rattle.findings.specs.Findings.{joined, roomFindings, listFindings, likelihoodFindings, settingsFindings}
+use Rattle.findings.specs.FindingsLaws.{Clean, clean-of, clean-parts, clean-joined, if-accepted, at-accepted}
 use Rattle.admission.specs.Calls.{HardCall, SoftCall}
-use Rattle.admission.specs.Refusals.{fieldsBad, tablesBad, roomShort, softRoomShort, softLengthsDiffer, softLikelihoodBad, hardAdmission, softAdmission, statsAdmission}
+use Rattle.admission.specs.Refusals.{tablesBad, roomShort, softRoomShort, bothLists, softLikelihoods, softSettingsBad, hardAdmission, softAdmission, statsAdmission}
 
 -- ---- lists without a bad place
 none-bad : (p : ℕ → Bool) (n k : ℕ) → ltb k n ≡ false → k ≡ Rattle.laws.specs.First.first p n → (i : ℕ) → i < n → p i ≡ false
@@ -48,30 +50,66 @@ unfolding inRange
 is-confidence x h = let a = and-true (le zeroF x) (le x oneF) h in confidence x (is-true (le zeroF x) (a .0)) (is-true (le x oneF) (a .1))
 
 -- ---- one list
-pub list-ok : (least : ℕ) (E : EdgeList) → lengthsDiffer E ≡ false → sizeBad least (size E) ≡ false → fieldsBad E ≡ false → confidenceBad (E .confidences) ≡ false → ListOk E
-unfolding lengthsDiffer sizeBad fieldBad confidenceBad firstBadCoordinate firstBadConfidence
-list-ok least E d z f w =
+-- none of its tests holds
+pub record ListTests (least : ℕ) (E : EdgeList) : Type 0 where
+  pub lengths : lengthsDiffer E ≡ false
+  pub sizes : sizeBad least (size E) ≡ false
+  pub coordinates : ltb (firstBadCoordinate (E .rows) (E .cols)) (size E) ≡ false
+  pub orientations : ltb (firstBadByte 1 (E .orientations)) (length (E .orientations)) ≡ false
+  pub bits : ltb (firstBadByte 1 (E .bits)) (length (E .bits)) ≡ false
+  pub confidences : ltb (firstBadConfidence (E .confidences)) (length (E .confidences)) ≡ false
+
+-- nothing is found in it exactly then
+pub list-tests : (least : ℕ) (l : ListName) (E : EdgeList) → Clean (listFindings least l E) → ListTests least E
+unfolding listFindings
+list-tests least l E k = record {
+  lengths = if-accepted (lengthsDiffer E) why.lengthsDiffer (k .lengths);
+  sizes = if-accepted (sizeBad least (size E)) why.listSize (k .size);
+  coordinates = at-accepted why.badCoordinate l (firstBadCoordinate (E .rows) (E .cols)) (size E) (k .coordinate);
+  orientations = at-accepted why.badOrientation l (firstBadByte 1 (E .orientations)) (length (E .orientations)) (k .orientation);
+  bits = at-accepted why.badBit l (firstBadByte 1 (E .bits)) (length (E .bits)) (k .bit);
+  confidences = at-accepted why.badConfidence l (firstBadConfidence (E .confidences)) (length (E .confidences)) (k .confidence);
+}
+
+pub list-clean : (least : ℕ) (l : ListName) (E : EdgeList) → ListTests least E → Clean (listFindings least l E)
+unfolding listFindings
+list-clean least l E t = record {
+  room = refl;
+  lengths = rw (t .lengths);
+  size = rw (t .sizes);
+  coordinate = rw (t .coordinates);
+  orientation = rw (t .orientations);
+  bit = rw (t .bits);
+  confidence = rw (t .confidences);
+  likelihood = refl;
+  transform = refl;
+  table = refl;
+  setting = refl;
+}
+
+pub list-ok : (least : ℕ) (E : EdgeList) → ListTests least E → ListOk E
+unfolding lengthsDiffer sizeBad firstBadCoordinate firstBadConfidence
+list-ok least E t =
     let n = size E in
-    let e1 = and-true (eqb n (length (E .cols))) _ (not-false _ d) in
+    let e1 = and-true (eqb n (length (E .cols))) _ (not-false _ (t .lengths)) in
     let e2 = and-true (eqb n (length (E .orientations))) _ (e1 .1) in
     let e3 = and-true (eqb n (length (E .bits))) _ (e2 .1) in
-    let cols : length (E .cols) ≡ n = sym (eqb-true _ _ (e1 .0)) in
     let bits : length (E .bits) ≡ n = sym (eqb-true _ _ (e3 .0)) in
     let confidences : length (E .confidences) ≡ n = sym (eqb-true _ _ (e3 .1)) in
-    let f1 = or-false (ltb (firstBadCoordinate (E .rows) (E .cols)) n) _ f in
-    let f2 = or-false (ltb (firstBadByte 1 (E .orientations)) (length (E .orientations))) _ (f1 .1) in
     let coordinate : (i : ℕ) → i < n → (farAt (E .rows) i ≡ false) × (farAt (E .cols) i ≡ false) =
-    λ i l. or-false (farAt (E .rows) i) (farAt (E .cols) i) (none-bad (badCoordinate (E .rows) (E .cols)) n _ (f1 .0) refl i l) in
+    λ i l. or-false (farAt (E .rows) i) (farAt (E .cols) i) (none-bad (badCoordinate (E .rows) (E .cols)) n _ (t .coordinates) refl i l) in
     record {
-      few = ltb-false _ _ (or-false (ltb n least) _ z .1);
-      cols = cols;
+      few = ltb-false _ _ (or-false (ltb n least) _ (t .sizes) .1);
+      cols = sym (eqb-true _ _ (e1 .0));
       orientations = sym (eqb-true _ _ (e2 .0));
       bits = bits;
       confidences = confidences;
       near-row = λ i l. near (getD (E .rows) i (pos 0)) (coordinate i l .0);
       near-col = λ i l. near (getD (E .cols) i (pos 0)) (coordinate i l .1);
-      bit = λ i l. let m : i < length (E .bits) = omega arith in let b = bytes-ok 1 (E .bits) (f2 .1) i m in omega arith;
-      confidence = λ i l. let m : i < length (E .confidences) = omega arith in is-confidence (getD (E .confidences) i nan) (not-false _ (none-bad (badConfidence (E .confidences)) (length (E .confidences)) _ w refl i m));
+      bit = λ i l. let m : i < length (E .bits) = omega arith in let b = bytes-ok 1 (E .bits) (t .bits) i m in omega arith;
+      confidence = λ i l.
+          let m : i < length (E .confidences) = omega arith in
+          is-confidence (getD (E .confidences) i nan) (not-false _ (none-bad (badConfidence (E .confidences)) (length (E .confidences)) _ (t .confidences) refl i m));
     }
 
 -- it has as many edges as it must
@@ -117,11 +155,6 @@ period-167 ps h = eqb-true _ _ (not-false _ (or-false (not (eqb (length ps) 167)
 pub board-ok : (B : Board) → tablesBad B ≡ false → BoardOk B
 board-ok B h = let a = or-false (tableBad (B .h)) (tableBad (B .v)) h in record { h = patterns-ok (B .h) (a .0); v = patterns-ok (B .v) (a .1) }
 
--- ---- chains of tests: accepted means that no test holds
-rest : (t : Bool) (k : ℕ) (r : Admission) → cond t (Refused (numbered k)) r ≡ Accepted → (t ≡ false) × (r ≡ Accepted)
-rest true k r h = let z : _≡_ {A = ℕ} 0 1 = cc in absurd (omega arith)
-rest false k r h = (refl, h)
-
 -- match statistics
 pub record StatsAccepted (E : EdgeList) (t row col : ℕ) (B : Board) : Type 0 where
   pub list : ListOk E
@@ -131,25 +164,21 @@ pub record StatsAccepted (E : EdgeList) (t row col : ℕ) (B : Board) : Type 0 w
 
 -- none of its tests holds
 pub record StatsTests (E : EdgeList) (t row col : ℕ) (B : Board) : Type 0 where
-  pub lengths : lengthsDiffer E ≡ false
-  pub sizes : sizeBad 0 (size E) ≡ false
-  pub fields : fieldsBad E ≡ false
-  pub confidences : confidenceBad (E .confidences) ≡ false
+  pub list : ListTests 0 E
   pub transform : ltb 7 t ≡ false
   pub tables : tablesBad B ≡ false
   pub origin : originBad row col ≡ false
 
 pub stats-tests-of : (E : EdgeList) (t row col : ℕ) (B : Board) → statsAdmission E t row col B ≡ Accepted → StatsTests E t row col B
-unfolding statsAdmission
+unfolding statsAdmission settingsFindings
 stats-tests-of E t row col B h =
-    let a2 = rest _ why.lengthsDiffer _ h in
-    let a3 = rest _ why.listSize _ (a2 .1) in
-    let a4 = rest _ why.edgeOutOfRange _ (a3 .1) in
-    let a5 = rest _ why.badConfidence _ (a4 .1) in
-    let a7 = rest _ why.badTransform _ (a5 .1) in
-    let a8 = rest _ why.badTable _ (a7 .1) in
-    let a9 = rest _ why.badSetting _ (a8 .1) in
-    record { lengths = a2 .0; sizes = a3 .0; fields = a4 .0; confidences = a5 .0; transform = a7 .0; tables = a8 .0; origin = a9 .0 }
+    let k = clean-parts (listFindings 0 list.Only E) (settingsFindings (ltb 7 t) (tablesBad B) (originBad row col)) (clean-of _ h) in
+    record {
+      list = list-tests 0 list.Only E (k .0);
+      transform = if-accepted (ltb 7 t) why.badTransform (k .1 .transform);
+      tables = if-accepted (tablesBad B) why.badTable (k .1 .table);
+      origin = if-accepted (originBad row col) why.badSetting (k .1 .setting);
+    }
 
 pub stats-accepted : (E : EdgeList) (t row col : ℕ) (B : Board) → statsAdmission E t row col B ≡ Accepted → StatsAccepted E t row col B
 unfolding originBad
@@ -157,7 +186,7 @@ stats-accepted E t row col B h =
     let k = stats-tests-of E t row col B h in
     let o = or-false (ltb 500 row) (ltb 500 col) (k .origin) in
     record {
-      list = list-ok 0 E (k .lengths) (k .sizes) (k .fields) (k .confidences);
+      list = list-ok 0 E (k .list);
       transform = let l = ltb-false 7 t (k .transform) in omega arith;
       board = board-ok B (k .tables);
       origin = (ltb-false _ _ (o .0), ltb-false _ _ (o .1));
@@ -178,44 +207,51 @@ pub record HardAccepted (call : HardCall) (counts weights : ℕ) : Type 0 where
 -- none of its tests holds
 pub record HardTests (call : HardCall) (m n : ℕ) : Type 0 where
   pub room : roomShort m n ≡ false
-  pub lengths : (lengthsDiffer (call .logical) || lengthsDiffer (call .physical)) ≡ false
-  pub sizes : (sizeBad 1 (size (call .logical)) || sizeBad 1 (size (call .physical))) ≡ false
-  pub fields : (fieldsBad (call .logical) || fieldsBad (call .physical)) ≡ false
-  pub confidences : (confidenceBad (call .logical .confidences) || confidenceBad (call .physical .confidences)) ≡ false
+  pub logical : ListTests 1 (call .logical)
+  pub physical : ListTests 1 (call .physical)
   pub transforms : transformsBad (call .transforms) ≡ false
   pub tables : tablesBad (call .board) ≡ false
   pub limit : not (inRange oneF (call .error-limit)) ≡ false
 
+-- of both lists
+both-tests : (call : HardCall) → Clean (bothLists call) → ListTests 1 (call .logical) × ListTests 1 (call .physical)
+both-tests call k =
+    let b = clean-parts (listFindings 1 list.Logical (call .logical)) (listFindings 1 list.Physical (call .physical)) k in
+    (list-tests 1 list.Logical (call .logical) (b .0), list-tests 1 list.Physical (call .physical) (b .1))
+
+pub both-clean : (call : HardCall) → ListTests 1 (call .logical) → ListTests 1 (call .physical) → Clean (bothLists call)
+both-clean call l p =
+    clean-joined (listFindings 1 list.Logical (call .logical)) (listFindings 1 list.Physical (call .physical)) (list-clean 1 list.Logical (call .logical) l) (list-clean 1 list.Physical (call .physical) p)
+
 pub hard-tests-of : (call : HardCall) (m n : ℕ) → hardAdmission call m n ≡ Accepted → HardTests call m n
-unfolding hardAdmission
+unfolding hardAdmission roomFindings settingsFindings
 hard-tests-of call m n h =
-    let a1 = rest _ why.roomTooShort _ h in
-    let a2 = rest _ why.lengthsDiffer _ (a1 .1) in
-    let a3 = rest _ why.listSize _ (a2 .1) in
-    let a4 = rest _ why.edgeOutOfRange _ (a3 .1) in
-    let a5 = rest _ why.badConfidence _ (a4 .1) in
-    let a7 = rest _ why.badTransform _ (a5 .1) in
-    let a8 = rest _ why.badTable _ (a7 .1) in
-    let a9 = rest _ why.badSetting _ (a8 .1) in
-    record { room = a1 .0; lengths = a2 .0; sizes = a3 .0; fields = a4 .0; confidences = a5 .0; transforms = a7 .0; tables = a8 .0; limit = a9 .0 }
+    let s = settingsFindings (transformsBad (call .transforms)) (tablesBad (call .board)) (not (inRange oneF (call .error-limit))) in
+    let a = clean-parts (roomFindings (roomShort m n)) (joined (bothLists call) s) (clean-of _ h) in
+    let b = clean-parts (bothLists call) s (a .1) in
+    let lists = both-tests call (b .0) in
+    record {
+      room = if-accepted (roomShort m n) why.roomTooShort (a .0 .room);
+      logical = lists .0;
+      physical = lists .1;
+      transforms = if-accepted (transformsBad (call .transforms)) why.badTransform (b .1 .transform);
+      tables = if-accepted (tablesBad (call .board)) why.badTable (b .1 .table);
+      limit = if-accepted (not (inRange oneF (call .error-limit))) why.badSetting (b .1 .setting);
+    }
 
 hard-passed : (call : HardCall) (m n : ℕ) → HardTests call m n → HardAccepted call m n
 unfolding roomShort
 hard-passed call m n k =
     let r = or-false (ltb m flatTables) (ltb n flatTables) (k .room) in
-    let d = or-false (lengthsDiffer (call .logical)) (lengthsDiffer (call .physical)) (k .lengths) in
-    let z = or-false (sizeBad 1 (size (call .logical))) (sizeBad 1 (size (call .physical))) (k .sizes) in
-    let f = or-false (fieldsBad (call .logical)) (fieldsBad (call .physical)) (k .fields) in
-    let w = or-false (confidenceBad (call .logical .confidences)) (confidenceBad (call .physical .confidences)) (k .confidences) in
     let t = or-false (tableBad (call .board .h)) (tableBad (call .board .v)) (k .tables) in
     let periods : (length (call .board .h) ≡ 167) × (length (call .board .v) ≡ 167) = (period-167 (call .board .h) (t .0), period-167 (call .board .v) (t .1)) in
     let u = flat-room (call .board) periods .0 in
     record {
       room = (le-trans (le-of-eq u) (ltb-false _ _ (r .0)), le-trans (le-of-eq u) (ltb-false _ _ (r .1)));
-      logical = list-ok 1 (call .logical) (d .0) (z .0) (f .0) (w .0);
-      some-logical = size-ok 1 (size (call .logical)) (z .0);
-      physical = list-ok 1 (call .physical) (d .1) (z .1) (f .1) (w .1);
-      some-physical = size-ok 1 (size (call .physical)) (z .1);
+      logical = list-ok 1 (call .logical) (k .logical);
+      some-logical = size-ok 1 (size (call .logical)) (k .logical .sizes);
+      physical = list-ok 1 (call .physical) (k .physical);
+      some-physical = size-ok 1 (size (call .physical)) (k .physical .sizes);
       transforms = transforms-ok (call .transforms) (k .transforms);
       board = board-ok (call .board) (k .tables);
       periods = periods;
@@ -238,35 +274,37 @@ pub record SoftAccepted (call : SoftCall) (counts weights sums : ℕ) : Type 0 w
 pub record SoftTests (call : SoftCall) (m n k : ℕ) : Type 0 where
   pub hard : HardTests (call .hard) m n
   pub sums-room : ltb k flatSums ≡ false
-  pub lengths : softLengthsDiffer call ≡ false
-  pub likelihoods : softLikelihoodBad call ≡ false
+  pub lengths : likelihoodsDiffer (size (call .hard .physical)) (call .likelihoods .matches) (call .likelihoods .mismatches) ≡ false
+  pub likelihoods : ltb (firstBadLikelihood (call .likelihoods .matches) (call .likelihoods .mismatches)) (length (call .likelihoods .matches)) ≡ false
   pub margin : not (inRange marginTop (call .soft-margin)) ≡ false
 
 pub soft-tests-of : (call : SoftCall) (m n k : ℕ) → softAdmission call m n k ≡ Accepted → SoftTests call m n k
-unfolding softAdmission softRoomShort
+unfolding softAdmission softRoomShort roomFindings likelihoodFindings settingsFindings
 soft-tests-of call m n k h =
-    let a1 = rest _ why.roomTooShort _ h in
-    let a2 = rest _ why.lengthsDiffer _ (a1 .1) in
-    let a3 = rest _ why.listSize _ (a2 .1) in
-    let a4 = rest _ why.edgeOutOfRange _ (a3 .1) in
-    let a5 = rest _ why.badConfidence _ (a4 .1) in
-    let a6 = rest _ why.badLikelihood _ (a5 .1) in
-    let a7 = rest _ why.badTransform _ (a6 .1) in
-    let a8 = rest _ why.badTable _ (a7 .1) in
-    let a9 = rest _ why.badSetting _ (a8 .1) in
-    let s = or-false (roomShort m n) (ltb k flatSums) (a1 .0) in
-    let e = or-false (lengthsDiffer (call .hard .logical) || lengthsDiffer (call .hard .physical)) (softLengthsDiffer call) (a2 .0) in
-    let g = or-false (not (inRange oneF (call .hard .error-limit))) (not (inRange marginTop (call .soft-margin))) (a9 .0) in
+    let s = settingsFindings (transformsBad (call .hard .transforms)) (tablesBad (call .hard .board)) (softSettingsBad call) in
+    let a = clean-parts (roomFindings (softRoomShort m n k)) (joined (joined (bothLists (call .hard)) (softLikelihoods call)) s) (clean-of _ h) in
+    let b = clean-parts (joined (bothLists (call .hard)) (softLikelihoods call)) s (a .1) in
+    let c = clean-parts (bothLists (call .hard)) (softLikelihoods call) (b .0) in
+    let lists = both-tests (call .hard) (c .0) in
+    let r = or-false (roomShort m n) (ltb k flatSums) (if-accepted (softRoomShort m n k) why.roomTooShort (a .0 .room)) in
+    let g = or-false (not (inRange oneF (call .hard .error-limit))) (not (inRange marginTop (call .soft-margin))) (if-accepted (softSettingsBad call) why.badSetting (b .1 .setting)) in
     record {
-      hard = record { room = s .0; lengths = e .0; sizes = a3 .0; fields = a4 .0; confidences = a5 .0; transforms = a7 .0; tables = a8 .0; limit = g .0 };
-      sums-room = s .1;
-      lengths = e .1;
-      likelihoods = a6 .0;
+      hard = record {
+        room = r .0;
+        logical = lists .0;
+        physical = lists .1;
+        transforms = if-accepted (transformsBad (call .hard .transforms)) why.badTransform (b .1 .transform);
+        tables = if-accepted (tablesBad (call .hard .board)) why.badTable (b .1 .table);
+        limit = g .0;
+      };
+      sums-room = r .1;
+      lengths = if-accepted (likelihoodsDiffer (size (call .hard .physical)) (call .likelihoods .matches) (call .likelihoods .mismatches)) why.lengthsDiffer (c .1 .lengths);
+      likelihoods = at-accepted why.badLikelihood list.Physical (firstBadLikelihood (call .likelihoods .matches) (call .likelihoods .mismatches)) (length (call .likelihoods .matches)) (c .1 .likelihood);
       margin = g .1;
     }
 
 pub soft-accepted : (call : SoftCall) (m n k : ℕ) → softAdmission call m n k ≡ Accepted → SoftAccepted call m n k
-unfolding likelihoodsDiffer likelihoodBad firstBadLikelihood
+unfolding likelihoodsDiffer firstBadLikelihood
 soft-accepted call m n k h =
     let ms = call .likelihoods .matches in
     let us = call .likelihoods .mismatches in

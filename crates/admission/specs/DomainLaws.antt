@@ -20,13 +20,15 @@ use Rattle.laws.specs.WeightLaws.{confidence}
 use Rattle.board.specs.Hits.{EdgeList, Board, size}
 use Rattle.likelihood.specs.Likelihood.{acceptable}
 use Rattle.likelihood.specs.LikelihoodLaws.{Within, acceptable-within, within-acceptable}
-use Rattle.refusals.specs.declared.Admission.{Admission}
-use Rattle.refusals.specs.declared.Admission.the-variants.{Accepted, Refused}
+use Rattle.refusals.specs.declared.Admission.the-variants.{Accepted}
+use Rattle.refusals.specs.declared.ListName.the-variants as list
 use Rattle.room.specs.Room.{flatTables, flatSums}
-use Rattle.checks.specs.Checks.{far, farAt, badCoordinate, badByte, inRange, marginTop, badConfidence, badLikelihood, firstBadCoordinate, firstBadByte, firstBadConfidence, firstBadLikelihood, lengthsDiffer, sizeBad, fieldBad, confidenceBad, likelihoodsDiffer, likelihoodBad, transformsBad, tableBad, originBad}
+use Rattle.checks.specs.Checks.{far, farAt, badCoordinate, badByte, inRange, marginTop, badConfidence, badLikelihood, firstBadCoordinate, firstBadByte, firstBadConfidence, firstBadLikelihood, lengthsDiffer, sizeBad, likelihoodsDiffer, transformsBad, tableBad, originBad}
+use Rattle.findings.specs.Findings.{joined, roomFindings, listFindings, likelihoodFindings, settingsFindings}
+use Rattle.findings.specs.FindingsLaws.{Clean, of-clean, clean-joined}
 use Rattle.admission.specs.Calls.{HardCall, SoftCall}
-use Rattle.admission.specs.Refusals.{fieldsBad, tablesBad, roomShort, softRoomShort, hardAdmission, softAdmission, statsAdmission}
-use Rattle.admission.specs.Accepted.{bytes-ok, list-ok, size-ok, transforms-ok, patterns-ok, period-167, HardTests, hard-tests-of, SoftTests, soft-tests-of, soft-accepted, StatsTests, stats-tests-of, stats-accepted}
+use Rattle.admission.specs.Refusals.{tablesBad, roomShort, softRoomShort, bothLists, softLikelihoods, softSettingsBad, hardAdmission, softAdmission, statsAdmission}
+use Rattle.admission.specs.Accepted.{ListTests, list-clean, both-clean, bytes-ok, list-ok, size-ok, transforms-ok, patterns-ok, period-167, HardTests, hard-tests-of, SoftTests, soft-tests-of, soft-accepted, StatsTests, stats-tests-of, stats-accepted}
 use Rattle.admission.specs.Domain.{ListDomain, TransformsDomain, TableDomain, BoardDomain, HardDomain, SoftDomain, StatsDomain}
 
 -- ---- tests and facts
@@ -96,13 +98,11 @@ range-in k (fin false m e) h =
 
 -- ---- one list
 module _ (least : ℕ) (E : EdgeList) where
-  pub list-domain : lengthsDiffer E ≡ false → sizeBad least (size E) ≡ false → fieldsBad E ≡ false → confidenceBad (E .confidences) ≡ false → ListDomain least E
-  unfolding fieldBad
-  list-domain d z f w =
-      let k = list-ok least E d z f w in
-      let g = or-false (ltb (firstBadByte 1 (E .orientations)) (length (E .orientations))) _ (or-false (ltb (firstBadCoordinate (E .rows) (E .cols)) (size E)) _ f .1) in
+  pub list-domain : ListTests least E → ListDomain least E
+  list-domain t =
+      let k = list-ok least E t in
       record {
-        some = size-ok least (size E) z;
+        some = size-ok least (size E) (t .sizes);
         few = k .few;
         cols = k .cols;
         orientations = k .orientations;
@@ -110,31 +110,21 @@ module _ (least : ℕ) (E : EdgeList) where
         confidences = k .confidences;
         row = k .near-row;
         col = k .near-col;
-        orientation = λ i l. bytes-ok 1 (E .orientations) (g .0) i (omega (arith, k .orientations, l));
+        orientation = λ i l. bytes-ok 1 (E .orientations) (t .orientations) i (omega (arith, k .orientations, l));
         bit = λ i l. let b = k .bit i l in omega arith;
         confidence = k .confidence;
       }
 
-  module _ (D : ListDomain least E) where
-    pub same-lengths : lengthsDiffer E ≡ false
-    unfolding lengthsDiffer
-    same-lengths =
-        not-not _ (and-both _ _ (eq-eqb _ _ (sym (D .cols))) (and-both _ _ (eq-eqb _ _ (sym (D .orientations))) (and-both _ _ (eq-eqb _ _ (sym (D .bits))) (eq-eqb _ _ (sym (D .confidences))))))
-
-    pub size-good : sizeBad least (size E) ≡ false
-    unfolding sizeBad
-    size-good = or-none _ _ (le-ltb (size E) least (D .some)) (le-ltb 8192 (size E) (D .few))
-
-    pub fields-good : fieldsBad E ≡ false
-    unfolding fieldBad firstBadCoordinate
-    fields-good =
-        or-none _ _ (none-first (badCoordinate (E .rows) (E .cols)) (size E) (λ i l. or-none _ _ (not-far (getD (E .rows) i (pos 0)) (D .row i l)) (not-far (getD (E .cols) i (pos 0)) (D .col i l))))
-        (or-none _ _ (bytes-small 1 (E .orientations) (λ i l. D .orientation i (omega (arith, D .orientations, l)))) (bytes-small 1 (E .bits) (λ i l. D .bit i (omega (arith, D .bits, l)))))
-
-    pub confidences-good : confidenceBad (E .confidences) ≡ false
-    unfolding confidenceBad firstBadConfidence
-    confidences-good =
-        none-first (badConfidence (E .confidences)) (length (E .confidences)) (λ i l. not-not _ (range-in 0 (getD (E .confidences) i nan) (D .confidence i (omega (arith, D .confidences, l)))))
+  pub list-tested : ListDomain least E → ListTests least E
+  unfolding lengthsDiffer sizeBad firstBadCoordinate firstBadConfidence
+  list-tested D = record {
+    lengths = not-not _ (and-both _ _ (eq-eqb _ _ (sym (D .cols))) (and-both _ _ (eq-eqb _ _ (sym (D .orientations))) (and-both _ _ (eq-eqb _ _ (sym (D .bits))) (eq-eqb _ _ (sym (D .confidences))))));
+    sizes = or-none _ _ (le-ltb (size E) least (D .some)) (le-ltb 8192 (size E) (D .few));
+    coordinates = none-first (badCoordinate (E .rows) (E .cols)) (size E) (λ i l. or-none _ _ (not-far (getD (E .rows) i (pos 0)) (D .row i l)) (not-far (getD (E .cols) i (pos 0)) (D .col i l)));
+    orientations = bytes-small 1 (E .orientations) (λ i l. D .orientation i (omega (arith, D .orientations, l)));
+    bits = bytes-small 1 (E .bits) (λ i l. D .bit i (omega (arith, D .bits, l)));
+    confidences = none-first (badConfidence (E .confidences)) (length (E .confidences)) (λ i l. not-not _ (range-in 0 (getD (E .confidences) i nan) (D .confidence i (omega (arith, D .confidences, l)))));
+  }
 
 -- ---- transforms and tables
 pub transforms-domain : (ts : List ℕ) → transformsBad ts ≡ false → TransformsDomain ts
@@ -157,21 +147,66 @@ board-domain B h = let a = or-false (tableBad (B .h)) (tableBad (B .v)) h in rec
 pub board-good : (B : Board) → BoardDomain B → tablesBad B ≡ false
 board-good B D = or-none _ _ (table-good (B .h) (D .h)) (table-good (B .v) (D .v))
 
+-- ---- parts in which nothing is found
+room-clean : (short : Bool) → short ≡ false → Clean (roomFindings short)
+unfolding roomFindings
+room-clean short h = record {
+  room = rw h;
+  lengths = refl;
+  size = refl;
+  coordinate = refl;
+  orientation = refl;
+  bit = refl;
+  confidence = refl;
+  likelihood = refl;
+  transform = refl;
+  table = refl;
+  setting = refl;
+}
+
+settings-clean : (a b c : Bool) → a ≡ false → b ≡ false → c ≡ false → Clean (settingsFindings a b c)
+unfolding settingsFindings
+settings-clean a b c p q r = record {
+  room = refl;
+  lengths = refl;
+  size = refl;
+  coordinate = refl;
+  orientation = refl;
+  bit = refl;
+  confidence = refl;
+  likelihood = refl;
+  transform = rw p;
+  table = rw q;
+  setting = rw r;
+}
+
+likelihoods-clean : (n : ℕ) (ms us : List Float) → likelihoodsDiffer n ms us ≡ false → sizeBad 0 (length ms) ≡ false → ltb (firstBadLikelihood ms us) (length ms) ≡ false → Clean (likelihoodFindings n ms us)
+unfolding likelihoodFindings
+likelihoods-clean n ms us p q r = record {
+  room = refl;
+  lengths = rw p;
+  size = rw q;
+  coordinate = refl;
+  orientation = refl;
+  bit = refl;
+  confidence = refl;
+  likelihood = rw r;
+  transform = refl;
+  table = refl;
+  setting = refl;
+}
+
 -- ---- hard decode
 module _ (call : HardCall) (m n : ℕ) where
   hard-in : HardTests call m n → HardDomain call m n
   unfolding roomShort
   hard-in k =
       let r = or-false (ltb m flatTables) (ltb n flatTables) (k .room) in
-      let d = or-false (lengthsDiffer (call .logical)) (lengthsDiffer (call .physical)) (k .lengths) in
-      let z = or-false (sizeBad 1 (size (call .logical))) (sizeBad 1 (size (call .physical))) (k .sizes) in
-      let f = or-false (fieldsBad (call .logical)) (fieldsBad (call .physical)) (k .fields) in
-      let w = or-false (confidenceBad (call .logical .confidences)) (confidenceBad (call .physical .confidences)) (k .confidences) in
       record {
         counts-room = ltb-false m flatTables (r .0);
         weights-room = ltb-false n flatTables (r .1);
-        logical = list-domain 1 (call .logical) (d .0) (z .0) (f .0) (w .0);
-        physical = list-domain 1 (call .physical) (d .1) (z .1) (f .1) (w .1);
+        logical = list-domain 1 (call .logical) (k .logical);
+        physical = list-domain 1 (call .physical) (k .physical);
         transforms = transforms-domain (call .transforms) (k .transforms);
         board = board-domain (call .board) (k .tables);
         error-limit = range-taken 0 (call .error-limit) (not-false _ (k .limit));
@@ -179,24 +214,25 @@ module _ (call : HardCall) (m n : ℕ) where
 
   hard-tested : HardDomain call m n → HardTests call m n
   unfolding roomShort
-  hard-tested D =
-      let l = D .logical in
-      let p = D .physical in
-      record {
-        room = or-none _ _ (le-ltb m flatTables (D .counts-room)) (le-ltb n flatTables (D .weights-room));
-        lengths = or-none _ _ (same-lengths 1 (call .logical) l) (same-lengths 1 (call .physical) p);
-        sizes = or-none _ _ (size-good 1 (call .logical) l) (size-good 1 (call .physical) p);
-        fields = or-none _ _ (fields-good 1 (call .logical) l) (fields-good 1 (call .physical) p);
-        confidences = or-none _ _ (confidences-good 1 (call .logical) l) (confidences-good 1 (call .physical) p);
-        transforms = transforms-good (call .transforms) (D .transforms);
-        tables = board-good (call .board) (D .board);
-        limit = not-not _ (range-in 0 (call .error-limit) (D .error-limit));
-      }
+  hard-tested D = record {
+    room = or-none _ _ (le-ltb m flatTables (D .counts-room)) (le-ltb n flatTables (D .weights-room));
+    logical = list-tested 1 (call .logical) (D .logical);
+    physical = list-tested 1 (call .physical) (D .physical);
+    transforms = transforms-good (call .transforms) (D .transforms);
+    tables = board-good (call .board) (D .board);
+    limit = not-not _ (range-in 0 (call .error-limit) (D .error-limit));
+  }
 
   -- HARD: accepted exactly when the call is in its domain
   pub hard-domain : (hardAdmission call m n ≡ Accepted → HardDomain call m n) × (HardDomain call m n → hardAdmission call m n ≡ Accepted)
   unfolding hardAdmission
-  hard-domain = ((λ h. hard-in (hard-tests-of call m n h)), λ D. let k = hard-tested D in rw (k .room, k .lengths, k .sizes, k .fields, k .confidences, k .transforms, k .tables, k .limit))
+  hard-domain = (
+    (λ h. hard-in (hard-tests-of call m n h)),
+    λ D.
+        let k = hard-tested D in
+        let s = settingsFindings (transformsBad (call .transforms)) (tablesBad (call .board)) (not (inRange oneF (call .error-limit))) in
+        of-clean _ (clean-joined (roomFindings (roomShort m n)) (joined (bothLists call) s) (room-clean (roomShort m n) (k .room)) (clean-joined (bothLists call) s (both-clean call (k .logical) (k .physical)) (settings-clean _ _ _ (k .transforms) (k .tables) (k .limit)))),
+  )
 
 -- ---- soft decode
 module _ (call : SoftCall) (m n k : ℕ) where
@@ -221,7 +257,7 @@ module _ (call : SoftCall) (m n k : ℕ) where
       }
 
   soft-tested : SoftDomain call m n k → SoftTests call m n k
-  unfolding likelihoodsDiffer likelihoodBad firstBadLikelihood
+  unfolding likelihoodsDiffer firstBadLikelihood
   soft-tested D = record {
     hard = hard-tested (call .hard) m n (D .hard);
     sums-room = le-ltb k flatSums (D .sums-room);
@@ -232,6 +268,10 @@ module _ (call : SoftCall) (m n k : ℕ) where
     margin = not-not _ (range-in 16 (call .soft-margin) (D .soft-margin));
   }
 
+  few-likelihoods : SoftDomain call m n k → sizeBad 0 (length ms) ≡ false
+  unfolding sizeBad
+  few-likelihoods D = or-none _ _ (le-ltb (length ms) 0 (omega arith)) (le-ltb 8192 (length ms) (omega (arith, D .matches, D .hard .physical .few)))
+
   -- SOFT: the same
   pub soft-domain : (softAdmission call m n k ≡ Accepted → SoftDomain call m n k) × (SoftDomain call m n k → softAdmission call m n k ≡ Accepted)
   unfolding softAdmission softRoomShort
@@ -240,7 +280,11 @@ module _ (call : SoftCall) (m n k : ℕ) where
     λ D.
         let t = soft-tested D in
         let h = t .hard in
-        rw (h .room, t .sums-room, h .lengths, t .lengths, h .sizes, h .fields, h .confidences, t .likelihoods, h .transforms, h .tables, h .limit, t .margin),
+        let s = settingsFindings (transformsBad (call .hard .transforms)) (tablesBad (call .hard .board)) (softSettingsBad call) in
+        of-clean _ (clean-joined (roomFindings (softRoomShort m n k)) (joined (joined (bothLists (call .hard)) (softLikelihoods call)) s) (room-clean (softRoomShort m n k) (or-none _ _ (h .room) (t .sums-room)))
+        (clean-joined (joined (bothLists (call .hard)) (softLikelihoods call)) s
+        (clean-joined (bothLists (call .hard)) (softLikelihoods call) (both-clean (call .hard) (h .logical) (h .physical)) (likelihoods-clean (size (call .hard .physical)) ms us (t .lengths) (few-likelihoods D) (t .likelihoods)))
+        (settings-clean _ _ _ (h .transforms) (h .tables) (or-none _ _ (h .limit) (t .margin))))),
   )
 
 -- ---- match statistics
@@ -251,17 +295,8 @@ module _ (E : EdgeList) (t row col : ℕ) (B : Board) where
   stats-domain = (
     stats-in,
     λ D.
-        let l = D .list in
-        rw (
-          same-lengths 0 E l,
-          size-good 0 E l,
-          fields-good 0 E l,
-          confidences-good 0 E l,
-          le-ltb 7 t (D .transform),
-          board-good B (D .board),
-          le-ltb 500 row (D .origin-row),
-          le-ltb 500 col (D .origin-col),
-        ),
+        of-clean _ (clean-joined (listFindings 0 list.Only E) (settingsFindings (ltb 7 t) (tablesBad B) (originBad row col)) (list-clean 0 list.Only E (list-tested 0 E (D .list)))
+        (settings-clean _ _ _ (le-ltb 7 t (D .transform)) (board-good B (D .board)) (or-none _ _ (le-ltb 500 row (D .origin-row)) (le-ltb 500 col (D .origin-col))))),
   )
     where
       stats-in : statsAdmission E t row col B ≡ Accepted → StatsDomain E t row col B
@@ -269,7 +304,7 @@ module _ (E : EdgeList) (t row col : ℕ) (B : Board) where
           let k = stats-tests-of E t row col B h in
           let a = stats-accepted E t row col B h in
           record {
-            list = list-domain 0 E (k .lengths) (k .sizes) (k .fields) (k .confidences);
+            list = list-domain 0 E (k .list);
             transform = ltb-false 7 t (k .transform);
             board = board-domain B (k .tables);
             origin-row = a .origin .0;

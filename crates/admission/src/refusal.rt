@@ -1,25 +1,19 @@
-// Whether a call is taken on: refusals 1 to 9, the first that applies over all lists, or accepted.
+// Whether a call is taken on: the early refusals 1 to 9, 16 and 17, the first in their order over all lists, or accepted.
 ghost use mathlib.Core.Path.{_≡_};
 ghost use mathlib.Core.Bool.{_||_, not};
 ghost use Rattle.laws.specs.Weights.{oneF};
 ghost use Rattle.board.specs.Hits.{edges, tables};
 ghost use Rattle.likelihood.specs.Likelihood.{likelihoods};
-ghost use Rattle.checks.specs.Checks.{inRange, marginTop, likelihoodsDiffer, originBad};
+ghost use Rattle.checks.specs.Checks.{inRange, marginTop, originBad};
 ghost use Rattle.admission.specs.Calls.{hardCall, softCall};
-ghost use Rattle.admission.specs.Refusals.{refusedIf, roomShort, softRoomShort, tablesBad, listAdmission, likelihoodAdmission, settingsAdmission, hardAdmission, softAdmission, statsAdmission};
+ghost use Rattle.admission.specs.Refusals.{roomShort, softRoomShort, tablesBad, hardAdmission, softAdmission, statsAdmission};
+use findings::likelihood_admission;
+use findings::list_admission;
+use findings::refused_if;
+use findings::settings_admission;
 use refusals::Admission;
-use refusals::Refusal;
+use refusals::ListName;
 use refusals::first_of;
-
-// Refused by the given number where it applies, else accepted.
-fn refused_if(bad: bool, number: u32) -> Admission
-    ensures { λ r. ⌜ r ≡ refusedIf bad number ⌝ }
-{
-    if bad {
-        return Admission::Refused(Refusal { number });
-    }
-    Admission::Accepted
-}
 
 // Whether the room of a hard call is too short: 3,006 u32 and 3,006 f32 are needed.
 fn room_short(counts: usize, weights: usize) -> bool
@@ -42,80 +36,6 @@ fn tables_bad(h: &[u8], v: &[u8]) -> bool
     checks::check::table_bad(h) || checks::check::table_bad(v)
 }
 
-// Numbers 2 to 5 of one list that must have at least `least` edges.
-fn list_admission(
-    least: usize,
-    rows: &[i32],
-    cols: &[i32],
-    orientations: &[u8],
-    bits: &[u8],
-    confidences: &[f32],
-) -> Admission
-    ensures { λ r. ⌜ r ≡ listAdmission least (edges (now (rows .entry)) (now (cols .entry)) (now (orientations .entry)) (now (bits .entry)) (now (confidences .entry))) ⌝ }
-{
-    if checks::check::lengths_differ(rows, cols, orientations, bits, confidences) {
-        return Admission::Refused(Refusal {
-            number: refusals::LENGTHS_DIFFER,
-        });
-    }
-    if checks::check::size_bad(least, rows.len()) {
-        return Admission::Refused(Refusal {
-            number: refusals::LIST_SIZE,
-        });
-    }
-    if checks::check::field_bad(rows, cols, orientations, bits) {
-        return Admission::Refused(Refusal {
-            number: refusals::EDGE_OUT_OF_RANGE,
-        });
-    }
-    refused_if(
-        checks::check::confidence_bad(confidences),
-        refusals::BAD_CONFIDENCE,
-    )
-}
-
-// Whether the likelihood slices of a list of n edges differ from it in length.
-fn likelihoods_differ(n: usize, matches: &[f32], mismatches: &[f32]) -> bool
-    ensures { λ r. ⌜ r ≡ likelihoodsDiffer n (now (matches .entry)) (now (mismatches .entry)) ⌝ }
-{
-    if n == matches.len() {
-        return n != mismatches.len();
-    }
-    true
-}
-
-// Numbers 2 and 6 of the likelihoods of a list of n edges.
-fn likelihood_admission(n: usize, matches: &[f32], mismatches: &[f32]) -> Admission
-    ensures { λ r. ⌜ r ≡ likelihoodAdmission n (now (matches .entry)) (now (mismatches .entry)) ⌝ }
-{
-    if likelihoods_differ(n, matches, mismatches) {
-        return Admission::Refused(Refusal {
-            number: refusals::LENGTHS_DIFFER,
-        });
-    }
-    refused_if(
-        checks::check::first_bad_likelihood(matches, mismatches) < matches.len(),
-        refusals::BAD_LIKELIHOOD,
-    )
-}
-
-// Numbers 7 to 9: transforms, tables, and what else the call was given.
-fn settings_admission(transforms: bool, tables: bool, rest: bool) -> Admission
-    ensures { λ r. ⌜ r ≡ settingsAdmission transforms tables rest ⌝ }
-{
-    if transforms {
-        return Admission::Refused(Refusal {
-            number: refusals::BAD_TRANSFORM,
-        });
-    }
-    if tables {
-        return Admission::Refused(Refusal {
-            number: refusals::BAD_TABLE,
-        });
-    }
-    refused_if(rest, refusals::BAD_SETTING)
-}
-
 // Whether an origin given to match statistics is off the board.
 fn origin_bad(row: u32, col: u32) -> bool
     ensures { λ r. ⌜ r ≡ originBad row col ⌝ }
@@ -123,7 +43,7 @@ fn origin_bad(row: u32, col: u32) -> bool
     500 < row || 500 < col
 }
 
-// Numbers 1 to 9 of a hard call: the first over both lists, or accepted. The last two are the lengths of the lent room.
+// The early refusals of a hard call: the first over both lists, or accepted. The last two are the lengths of the lent room.
 pub fn hard_admission(
     lrows: &[i32],
     lcols: &[i32],
@@ -149,8 +69,8 @@ pub fn hard_admission(
         (now (transforms .entry)) (tables (now (h .entry)) (now (v .entry))) «error_limit») counts weights ⌝ }
 {
     let room = refused_if(room_short(counts, weights), refusals::ROOM_TOO_SHORT);
-    let logical = list_admission(1, lrows, lcols, lorientations, lbits, lconfidences);
-    let physical = list_admission(1, prows, pcols, porientations, pbits, pconfidences);
+    let logical = list_admission(1, ListName::Logical, lrows, lcols, lorientations, lbits, lconfidences);
+    let physical = list_admission(1, ListName::Physical, prows, pcols, porientations, pbits, pconfidences);
     let settings = settings_admission(
         checks::check::transforms_bad(transforms),
         tables_bad(h, v),
@@ -169,7 +89,7 @@ fn limits_bad(error_limit: f32, soft_margin: f32) -> bool
     true
 }
 
-// Numbers 1 to 9 of a soft call: the physical list has two likelihood slices besides, and the soft margin is checked with the limit.
+// The early refusals of a soft call: the physical list has two likelihood slices besides, and the soft margin is checked with the limit.
 pub fn soft_admission(
     lrows: &[i32],
     lcols: &[i32],
@@ -203,8 +123,8 @@ pub fn soft_admission(
         soft_room_short(counts, weights, sums),
         refusals::ROOM_TOO_SHORT,
     );
-    let logical = list_admission(1, lrows, lcols, lorientations, lbits, lconfidences);
-    let physical = list_admission(1, prows, pcols, porientations, pbits, pconfidences);
+    let logical = list_admission(1, ListName::Logical, lrows, lcols, lorientations, lbits, lconfidences);
+    let physical = list_admission(1, ListName::Physical, prows, pcols, porientations, pbits, pconfidences);
     let likelihoods = likelihood_admission(prows.len(), matches, mismatches);
     let settings = settings_admission(
         checks::check::transforms_bad(transforms),
@@ -217,7 +137,7 @@ pub fn soft_admission(
     )
 }
 
-// Numbers 2 to 5 and 7 to 9 of match statistics, which take an empty list and no room.
+// The early refusals of match statistics, which take an empty list and no room.
 pub fn stats_admission(
     rows: &[i32],
     cols: &[i32],
@@ -234,7 +154,7 @@ pub fn stats_admission(
         (edges (now (rows .entry)) (now (cols .entry)) (now (orientations .entry)) (now (bits .entry)) (now (confidences .entry)))
         transform row col (tables (now (h .entry)) (now (v .entry))) ⌝ }
 {
-    let list = list_admission(0, rows, cols, orientations, bits, confidences);
+    let list = list_admission(0, ListName::Only, rows, cols, orientations, bits, confidences);
     let settings = settings_admission(7 < transform, tables_bad(h, v), origin_bad(row, col));
     first_of(list, settings)
 }

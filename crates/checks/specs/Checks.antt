@@ -70,22 +70,9 @@ lengthsDiffer E =
 unfoldable pub sizeBad : ℕ → ℕ → Bool
 sizeBad least n = ltb n least || ltb 8192 n
 
--- "coordinate, orientation code or bit outside its range"
-unfoldable pub fieldBad : List ℤ → List ℤ → List ℕ → List ℕ → Bool
-fieldBad rows cols orientations bits =
-    ltb (firstBadCoordinate rows cols) (length rows) || (ltb (firstBadByte 1 orientations) (length orientations) || ltb (firstBadByte 1 bits) (length bits))
-
--- "confidence NaN, below 0 or above 1"
-unfoldable pub confidenceBad : List Float → Bool
-confidenceBad xs = ltb (firstBadConfidence xs) (length xs)
-
 -- the likelihood slices of a list of n edges differ from it in length
 unfoldable pub likelihoodsDiffer : ℕ → List Float → List Float → Bool
 likelihoodsDiffer n ms us = not (eqb n (length ms) && eqb n (length us))
-
--- "a likelihood NaN, infinite or out of range"
-unfoldable pub likelihoodBad : List Float → List Float → Bool
-likelihoodBad ms us = ltb (firstBadLikelihood ms us) (length ms)
 
 -- "transform count or number out of range": 1 to 8 transform numbers, each 0 to 7
 unfoldable pub transformsBad : List ℕ → Bool

@@ -1,8 +1,8 @@
-// The checks behind refusals 1 to 9. Each takes every input. A check of a list answers where: the first bad index, or the length.
+// The checks behind the early refusals. Each takes every input. A check of a list answers where: the first bad index, or the length.
 ghost use mathlib.Core.Path.{_≡_};
 ghost use mathlib.Core.Bool.{_||_, not};
 ghost use Rattle.board.specs.Hits.{edges};
-ghost use Rattle.checks.specs.Checks.{far, farAt, badCoordinate, badLikelihood, inRange, unlikelyAt, firstBadCoordinate, firstBadByte, firstBadConfidence, firstBadLikelihood, lengthsDiffer, sizeBad, fieldBad, confidenceBad, transformsBad, tableBad};
+ghost use Rattle.checks.specs.Checks.{far, farAt, badCoordinate, badLikelihood, inRange, unlikelyAt, firstBadCoordinate, firstBadByte, firstBadConfidence, firstBadLikelihood, lengthsDiffer, sizeBad, transformsBad, tableBad};
 
 // The least and the largest row and column.
 const LEAST: i32 = -1000000;
@@ -148,26 +148,6 @@ pub fn size_bad(least: usize, n: usize) -> bool
     ensures { λ r. ⌜ r ≡ sizeBad least n ⌝ }
 {
     n < least || MAX_EDGES < n
-}
-
-// Whether a coordinate, an orientation code or a bit of the list is out of range.
-pub fn field_bad(rows: &[i32], cols: &[i32], orientations: &[u8], bits: &[u8]) -> bool
-    ensures { λ r. ⌜ r ≡ fieldBad (now (rows .entry)) (now (cols .entry)) (now (orientations .entry)) (now (bits .entry)) ⌝ }
-{
-    if first_bad_coordinate(rows, cols) < rows.len() {
-        return true;
-    }
-    if first_bad_byte(orientations, 1) < orientations.len() {
-        return true;
-    }
-    first_bad_byte(bits, 1) < bits.len()
-}
-
-// Whether a confidence of the list is out of range.
-pub fn confidence_bad(confidences: &[f32]) -> bool
-    ensures { λ r. ⌜ r ≡ confidenceBad (now (confidences .entry)) ⌝ }
-{
-    first_bad_confidence(confidences) < confidences.len()
 }
 
 // Whether there are no transforms, more than eight, or one above 7.

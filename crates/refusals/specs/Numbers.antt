@@ -1,6 +1,8 @@
--- Document 01, 'Refusal numbers': the table, one name for each number. They are the names of the C header, and of the constants in the code.
+-- Document 01, 'Refusal numbers': the table, one name for each number, as request C-11 amends it. They are the names of the C header, and of the constants in the code.
 use Prim.Native.Nat.{ℕ}
 use Rattle.refusals.specs.declared.Refusal.{Refusal}
+use Rattle.refusals.specs.declared.ListName.{ListName}
+use Rattle.refusals.specs.declared.Place.the-variants.{Nowhere, At}
 
 -- "room too short"
 abbrev pub roomTooShort : ℕ
@@ -14,9 +16,16 @@ lengthsDiffer = 2
 abbrev pub listSize : ℕ
 listSize = 3
 
--- "coordinate, orientation code or bit outside its range"
-abbrev pub edgeOutOfRange : ℕ
-edgeOutOfRange = 4
+-- "coordinate .. outside its range", C-11: "4 now means coordinate only"
+abbrev pub badCoordinate : ℕ
+badCoordinate = 4
+
+-- C-11: "16 orientation and 17 bit come between 4 and 5 and leave the room untouched"
+abbrev pub badOrientation : ℕ
+badOrientation = 16
+
+abbrev pub badBit : ℕ
+badBit = 17
 
 -- "confidence NaN, below 0 or above 1"
 abbrev pub badConfidence : ℕ
@@ -62,6 +71,10 @@ softMargin = 14
 abbrev pub softHardDisagree : ℕ
 softHardDisagree = 15
 
--- the refusal with a number
+-- a refusal that is about no edge: its number, and no place
 abbrev pub numbered : ℕ → Refusal
-numbered n = record { number = n }
+numbered n = record { number = n; place = Nowhere }
+
+-- C-11: "let each refusal about an edge field carry the list and the position of the first bad edge of that kind"
+abbrev pub edgeRefusal : ℕ → ListName → ℕ → Refusal
+edgeRefusal n list i = record { number = n; place = At (record { list = list; position = i }) }

@@ -2,7 +2,7 @@ use mathlib.Core.Path.{_≡_, sym, ap, ap₂, _∙_}
 use mathlib.Core.Bool.{Bool, not}
 use Rattle.refusals.specs.Order.{earlier}
 use Rattle.refusals.specs.Numbers as why
-use Rattle.admission.specs.Refusals.{refusedIf, settingsAdmission}
+use Rattle.findings.specs.Findings.{refusedIf, firstFound, settingsFindings}
 use Rattle.admission.specs.RefusalLaws.{soft-parts}
 use borrow.Author.Needs.{needs}
 use Rattle.admission.proofs.refusal.soft_admission.Statement.{statement}
@@ -53,7 +53,7 @@ returns c =
     ∙ ap₂ earlier (c .before .before .before .before .before .before .before .before .before .before .before .refused-if .ensures ∙ ap (λ (b : Bool). refusedIf b why.roomTooShort) (c .before .before .before .before .before .before .before .before .before .before .before .before .soft-room-short .ensures))
     (c .before .first-of3 .ensures
     ∙ ap₂ earlier (c .before .before .first-of2 .ensures ∙ ap₂ earlier (c .before .before .before .first-of .ensures ∙ ap₂ earlier (c .before .before .before .before .before .before .before .before .before .before .list-admission .ensures) (c .before .before .before .before .before .before .before .before .before .list-admission2 .ensures)) (c .before .before .before .before .before .before .before .before .likelihood-admission .ensures))
-    (c .before .before .before .before .settings-admission .ensures ∙ (λ i. settingsAdmission (c .before .before .before .before .before .before .before .transforms-bad .ensures i) (c .before .before .before .before .before .before .tables-bad .ensures i) (c .before .before .before .before .before .limits-bad .ensures i))))
+    (c .before .before .before .before .settings-admission .ensures ∙ (λ i. firstFound (settingsFindings (c .before .before .before .before .before .before .before .transforms-bad .ensures i) (c .before .before .before .before .before .before .tables-bad .ensures i) (c .before .before .before .before .before .limits-bad .ensures i)))))
     ∙ soft-parts _ _ _ _
 
 pub soft-admission-spec : {M : Type 1} → statement M

@@ -1,7 +1,8 @@
+-- Each test of a length is the definition's own.
 use borrow.Author.Tests.{eq-eqb, ne-eqb, lt-ltb, le-ltb}
 use Rattle.checks.specs.Checks.{likelihoodsDiffer}
-use Rattle.admission.proofs.refusal.likelihoods_differ.Statement.{statement}
-use Rattle.admission.proofs.refusal.likelihoods_differ.Tie as tie
+use Rattle.findings.proofs.likelihoods_differ.Statement.{statement}
+use Rattle.findings.proofs.likelihoods_differ.Tie as tie
 
 returns : tie.Need-returns
 unfolding likelihoodsDiffer

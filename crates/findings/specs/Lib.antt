@@ -1,0 +1,3 @@
+pub mod Findings
+pub mod FindingsLaws
+pub mod Joined

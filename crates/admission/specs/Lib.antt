@@ -4,3 +4,6 @@ pub mod Domain
 pub mod DomainLaws
 pub mod RefusalLaws
 pub mod Refusals
+pub mod PlaceTheorems
+pub mod Document01
+pub mod Document01Laws

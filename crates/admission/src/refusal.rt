@@ -69,8 +69,24 @@ pub fn hard_admission(
         (now (transforms .entry)) (tables (now (h .entry)) (now (v .entry))) «error_limit») counts weights ⌝ }
 {
     let room = refused_if(room_short(counts, weights), refusals::ROOM_TOO_SHORT);
-    let logical = list_admission(1, ListName::Logical, lrows, lcols, lorientations, lbits, lconfidences);
-    let physical = list_admission(1, ListName::Physical, prows, pcols, porientations, pbits, pconfidences);
+    let logical = list_admission(
+        1,
+        ListName::Logical,
+        lrows,
+        lcols,
+        lorientations,
+        lbits,
+        lconfidences,
+    );
+    let physical = list_admission(
+        1,
+        ListName::Physical,
+        prows,
+        pcols,
+        porientations,
+        pbits,
+        pconfidences,
+    );
     let settings = settings_admission(
         checks::check::transforms_bad(transforms),
         tables_bad(h, v),
@@ -123,8 +139,24 @@ pub fn soft_admission(
         soft_room_short(counts, weights, sums),
         refusals::ROOM_TOO_SHORT,
     );
-    let logical = list_admission(1, ListName::Logical, lrows, lcols, lorientations, lbits, lconfidences);
-    let physical = list_admission(1, ListName::Physical, prows, pcols, porientations, pbits, pconfidences);
+    let logical = list_admission(
+        1,
+        ListName::Logical,
+        lrows,
+        lcols,
+        lorientations,
+        lbits,
+        lconfidences,
+    );
+    let physical = list_admission(
+        1,
+        ListName::Physical,
+        prows,
+        pcols,
+        porientations,
+        pbits,
+        pconfidences,
+    );
     let likelihoods = likelihood_admission(prows.len(), matches, mismatches);
     let settings = settings_admission(
         checks::check::transforms_bad(transforms),
@@ -154,7 +186,15 @@ pub fn stats_admission(
         (edges (now (rows .entry)) (now (cols .entry)) (now (orientations .entry)) (now (bits .entry)) (now (confidences .entry)))
         transform row col (tables (now (h .entry)) (now (v .entry))) ⌝ }
 {
-    let list = list_admission(0, ListName::Only, rows, cols, orientations, bits, confidences);
+    let list = list_admission(
+        0,
+        ListName::Only,
+        rows,
+        cols,
+        orientations,
+        bits,
+        confidences,
+    );
     let settings = settings_admission(7 < transform, tables_bad(h, v), origin_bad(row, col));
     first_of(list, settings)
 }

@@ -4,6 +4,7 @@ ghost use Rattle.board.specs.Hits.{edges, tables};
 ghost use Rattle.hard.specs.Select.{SelectReady};
 ghost use Rattle.decide.specs.Decide.{gated, DecideDone};
 use hard::select::Selection;
+use refusals::Place;
 use refusals::Refusal;
 use scan::scan::Candidate;
 use scan::scan::RunnerUp;
@@ -26,6 +27,7 @@ fn ask_gate(selection: Selection, edges: u32) -> Outcome
             }
             Outcome::Refused(Refusal {
                 number: refusals::NOT_FAR_AHEAD,
+                place: Place::Nowhere,
             })
         }
     }

@@ -1,3 +1,5 @@
 pub mod Findings
 pub mod FindingsLaws
 pub mod Joined
+pub mod Places
+pub mod PlacesLaws

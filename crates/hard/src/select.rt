@@ -7,6 +7,7 @@ ghost use Rattle.hard.specs.Transform.{foldTransform};
 ghost use Rattle.hard.specs.Select.{SelectReady, SelectDone};
 ghost use Rattle.hard.specs.SelectLaws.{roomCells, RoomReady, ScanDone};
 use laws::Periods;
+use refusals::Place;
 use refusals::Refusal;
 use scan::scan::Asked;
 use scan::scan::Candidate;
@@ -117,6 +118,7 @@ pub fn select<'a>(
     if confidence == 0.0 {
         return Selection::Refused(Refusal {
             number: refusals::NO_CONFIDENCE,
+            place: Place::Nowhere,
         });
     }
     let scan = scan_transforms(
@@ -136,6 +138,7 @@ pub fn select<'a>(
     match scan::record::finish(scan) {
         Choice::Nothing => Selection::Refused(Refusal {
             number: refusals::NONE_WITHIN_LIMIT,
+            place: Place::Nowhere,
         }),
         Choice::Chosen { winner, runner_up } => Selection::Selected(winner, runner_up),
     }

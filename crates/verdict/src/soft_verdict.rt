@@ -7,6 +7,7 @@ use answer::Square;
 use figures::Fit;
 use margin::slots::SoftCandidate;
 use refusals::Admission;
+use refusals::Place;
 use refusals::Refusal;
 use scan::scan::Candidate;
 use scan::scan::RunnerUp;
@@ -37,12 +38,14 @@ pub fn soft_verdict(
                 }
                 return Admission::Refused(Refusal {
                     number: refusals::NOT_FAR_AHEAD,
+                    place: Place::Nowhere,
                 });
             }
         }
     }
     Admission::Refused(Refusal {
         number: refusals::SOFT_HARD_DISAGREE,
+        place: Place::Nowhere,
     })
 }
 

@@ -5,6 +5,7 @@ ghost use Rattle.verdict.specs.Verdict.{refusedBy, agreed, decodedOf, ju
 use answer::Answer;
 use answer::Decoded;
 use answer::Square;
+use refusals::Place;
 use refusals::Refusal;
 use scan::scan::Candidate;
 use scan::scan::RunnerUp;
@@ -13,7 +14,10 @@ use scan::scan::RunnerUp;
 pub fn refuse(number: u32) -> Answer
     ensures { λ r. ⌜ r ≡ refusedBy number ⌝ }
 {
-    Answer::Refused(Refusal { number })
+    Answer::Refused(Refusal {
+        number,
+        place: Place::Nowhere,
+    })
 }
 
 // Whether two winners agree in transform and origin.

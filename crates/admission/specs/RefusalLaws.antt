@@ -8,6 +8,7 @@ use lib.ListN.{length}
 use lib.Ieee.{Float}
 use Rattle.laws.specs.Weights.{oneF}
 use Rattle.board.specs.Hits.{EdgeList, Board, size}
+use Rattle.refusals.specs.declared.Refusal.{Refusal}
 use Rattle.refusals.specs.declared.Admission.{Admission}
 use Rattle.refusals.specs.declared.Admission.the-variants.{Accepted, Refused}
 use Rattle.refusals.specs.declared.ListName.{ListName}
@@ -18,7 +19,7 @@ use Rattle.refusals.specs.Order.{earlier}
 use Rattle.checks.specs.Checks.{inRange, transformsBad, originBad}
 use Rattle.findings.specs.Findings.{refusedIf, refusedAt, Findings, firstFound, joined, roomFindings, listFindings, likelihoodFindings, settingsFindings}
 use Rattle.findings.specs.FindingsLaws.{room-found}
-use Rattle.findings.specs.Joined.{Kind, Sorted, sorted-joined, first-joined, if-kind, at-kind, sorted-room, sorted-list, sorted-likelihoods, sorted-settings}
+use Rattle.findings.specs.Joined.{Sorted, sorted-joined, first-joined, found-early, sorted-room, sorted-list, sorted-likelihoods, sorted-settings}
 use Rattle.admission.specs.Calls.{HardCall, SoftCall}
 use Rattle.admission.specs.Refusals.{tablesBad, roomShort, softRoomShort, bothLists, softLikelihoods, softSettingsBad, hardAdmission, softAdmission, statsAdmission}
 
@@ -59,3 +60,26 @@ soft-parts call m n k =
 pub stats-parts : (E : EdgeList) (t row col : ℕ) (B : Board) → earlier (firstFound (listFindings 0 list.Only E)) (firstFound (settingsFindings (ltb 7 t) (tablesBad B) (originBad row col))) ≡ statsAdmission E t row col B
 unfolding statsAdmission
 stats-parts E t row col B = first-joined (listFindings 0 list.Only E) (settingsFindings (ltb 7 t) (tablesBad B) (originBad row col)) (sorted-list 0 list.Only E) (sorted-settings (ltb 7 t) (tablesBad B) (originBad row col))
+
+-- ---- refused early means by one of 1 to 9, 16 and 17
+pub hard-early : (call : HardCall) (m n : ℕ) (r : Refusal) → hardAdmission call m n ≡ Refused r → why.Early (r .number)
+unfolding hardAdmission
+hard-early call m n r =
+    let s = settingsFindings (transformsBad (call .transforms)) (tablesBad (call .board)) (not (inRange oneF (call .error-limit))) in
+    let k = sorted-settings (transformsBad (call .transforms)) (tablesBad (call .board)) (not (inRange oneF (call .error-limit))) in
+    found-early (joined (roomFindings (roomShort m n)) (joined (bothLists call) s)) r (sorted-joined (roomFindings (roomShort m n)) (joined (bothLists call) s) (sorted-room (roomShort m n)) (sorted-joined (bothLists call) s (sorted-both call) k))
+
+pub soft-early : (call : SoftCall) (m n k : ℕ) (r : Refusal) → softAdmission call m n k ≡ Refused r → why.Early (r .number)
+unfolding softAdmission
+soft-early call m n k r =
+    let s = settingsFindings (transformsBad (call .hard .transforms)) (tablesBad (call .hard .board)) (softSettingsBad call) in
+    let t = sorted-settings (transformsBad (call .hard .transforms)) (tablesBad (call .hard .board)) (softSettingsBad call) in
+    let l = joined (bothLists (call .hard)) (softLikelihoods call) in
+    let b = sorted-joined (bothLists (call .hard)) (softLikelihoods call) (sorted-both (call .hard)) (sorted-likelihoods (size (call .hard .physical)) (call .likelihoods .matches) (call .likelihoods .mismatches)) in
+    found-early (joined (roomFindings (softRoomShort m n k)) (joined l s)) r (sorted-joined (roomFindings (softRoomShort m n k)) (joined l s) (sorted-room (softRoomShort m n k)) (sorted-joined l s b t))
+
+pub stats-early : (E : EdgeList) (t row col : ℕ) (B : Board) (r : Refusal) → statsAdmission E t row col B ≡ Refused r → why.Early (r .number)
+unfolding statsAdmission
+stats-early E t row col B r =
+    let s = settingsFindings (ltb 7 t) (tablesBad B) (originBad row col) in
+    found-early (joined (listFindings 0 list.Only E) s) r (sorted-joined (listFindings 0 list.Only E) s (sorted-list 0 list.Only E) (sorted-settings (ltb 7 t) (tablesBad B) (originBad row col)))

@@ -1,31 +1,37 @@
 -- Narrowing a transform number to a byte changes no answer.
-use mathlib.Core.Path.{_≡_, refl, ap, _∙_}
+use mathlib.Core.Path.{_≡_, refl, sym, ap, _∙_}
 use mathlib.Core.Bool.{Bool, true, false, cond}
 use Prim.Native.Nat.{ℕ}
 use lib.Dec.{ltb}
-use Rattle.board.specs.Hits.{EdgeList, Board, size}
-use Rattle.checks.specs.Checks.{lengthsDiffer, sizeBad, confidenceBad}
-use Rattle.refusals.specs.declared.Admission.the-variants.{Refused}
-use Rattle.refusals.specs.Numbers.{numbered}
-use Rattle.refusals.specs.Numbers as why
-use Rattle.admission.specs.Refusals.{fieldsBad, statsAdmission}
+use Rattle.laws.specs.Tests.{clash}
+use Rattle.board.specs.Hits.{EdgeList, Board}
+use Rattle.checks.specs.Checks.{originBad}
+use Rattle.refusals.specs.declared.Admission.{Admission}
+use Rattle.refusals.specs.declared.Admission.the-variants.{Accepted, Refused}
+use Rattle.refusals.specs.declared.ListName.the-variants as list
+use Rattle.findings.specs.Findings.{firstFound, joined, listFindings, settingsFindings}
+use Rattle.admission.specs.Refusals.{tablesBad, statsAdmission}
+use Rattle.admission.specs.Accepted.{stats-tests-of}
 use Rattle.answer.specs.declared.MatchStats.{MatchStats}
 use Rattle.answer.specs.declared.StatsAnswer.{StatsAnswer}
 use Rattle.stats.specs.Stats.{statsAnswer, statsOf, orCounted}
 use Rattle.flat.specs.Flat.{narrow}
 
+-- the checks ask only whether it is above 7
+same-admission : (E : EdgeList) (t s row col : ℕ) (B : Board) → ltb 7 t ≡ ltb 7 s → statsAdmission E t row col B ≡ statsAdmission E s row col B
+unfolding statsAdmission
+same-admission E t s row col B e = ap (λ (b : Bool). firstFound (joined (listFindings 0 list.Only E) (settingsFindings b (tablesBad B) (originBad row col)))) e
+
 -- a transform number above 7 is refused whatever it is, so statistics of the narrowed number are those of the number
-same-refusal : (a b c d : Bool) (s u : MatchStats) → let r = cond a (Refused (numbered why.lengthsDiffer)) (cond b (Refused (numbered why.listSize)) (cond c (Refused (numbered why.edgeOutOfRange)) (cond d (Refused (numbered why.badConfidence)) (Refused (numbered why.badTransform))))) in
-    orCounted r s ≡ orCounted r u
-same-refusal true b c d s u = refl
-same-refusal false true c d s u = refl
-same-refusal false false true d s u = refl
-same-refusal false false false true s u = refl
-same-refusal false false false false s u = refl
+same-refusal : (a : Admission) (s u : MatchStats) → (a ≡ Accepted → ⊥) → orCounted a s ≡ orCounted a u
+same-refusal Accepted s u h = absurd (h refl)
+same-refusal (Refused r) s u h = refl
 
 narrow-above : (E : EdgeList) (t row col : ℕ) (B : Board) → ltb 7 t ≡ true → statsAnswer E (narrow t) row col B ≡ statsAnswer E t row col B
-unfolding narrow statsAnswer statsAdmission
-narrow-above E t row col B e = rw e (same-refusal (lengthsDiffer E) (sizeBad 0 (size E)) (fieldsBad E) (confidenceBad (E .confidences)) (statsOf E 255 row col B) (statsOf E t row col B))
+unfolding narrow statsAnswer
+narrow-above E t row col B e =
+    rw e
+    (ap (λ (a : Admission). orCounted a (statsOf E 255 row col B)) (same-admission E 255 t row col B (sym e)) ∙ same-refusal (statsAdmission E t row col B) (statsOf E 255 row col B) (statsOf E t row col B) (λ h. clash e (stats-tests-of E t row col B h .transform)))
 
 narrow-below : (E : EdgeList) (t row col : ℕ) (B : Board) → ltb 7 t ≡ false → statsAnswer E (narrow t) row col B ≡ statsAnswer E t row col B
 unfolding narrow

@@ -1,6 +1,7 @@
 -- The first of two refusals, by rank, is what is found in two parts together: so that each part may be judged by itself, and the parts put together in any depth.
 use mathlib.Core.Path.{_≡_, refl, sym, ap, ap₂, subst, _∙_}
 use mathlib.Core.Bool.{Bool, true, false, cond, _&&_}
+use mathlib.Core.Logic.{_⊎_, inl, inr}
 use mathlib.Core.List.{List, [], _∷_}
 use Prim.Native.Nat.{ℕ, _≤_, _<_}
 use native.Mathlib.Omega.{arith}
@@ -158,3 +159,31 @@ sorted-likelihoods n ms us =
 pub sorted-settings : (a b c : Bool) → Sorted (settingsFindings a b c)
 unfolding settingsFindings
 sorted-settings a b c = sorted-by (settingsFindings a b c) tt tt tt tt tt tt tt tt (if-kind a why.badTransform) (if-kind b why.badTable) (if-kind c why.badSetting)
+
+-- ---- an early refusal has one of the numbers of the order
+abbrev In : ℕ → List ℕ → Type 0
+In n [] = ⊥
+In n (k ∷ ks) = (n ≡ k) ⊎ In n ks
+
+of-kinds : (ks : List ℕ) (xs : List Admission) (r : Refusal) → Kinds ks xs → firstOf xs ≡ Refused r → In (r .number) ks
+unfolding firstOf orElse
+of-kinds [] [] r p e = no-refusal r e
+of-kinds (k ∷ ks) (Accepted ∷ xs) r p e = inr (of-kinds ks xs r (p .1) e)
+of-kinds (k ∷ ks) (Refused s ∷ xs) r p e = let z : s ≡ r = cc in inl (ap (λ (x : Refusal). x .number) (sym z) ∙ p .0)
+
+early-in : (n : ℕ) → In n order → why.Early n
+early-in n (inl e) = inl (omega arith, omega arith)
+early-in n (inr (inl e)) = inl (omega arith, omega arith)
+early-in n (inr (inr (inl e))) = inl (omega arith, omega arith)
+early-in n (inr (inr (inr (inl e)))) = inl (omega arith, omega arith)
+early-in n (inr (inr (inr (inr (inl e))))) = inr (inl e)
+early-in n (inr (inr (inr (inr (inr (inl e)))))) = inr (inr e)
+early-in n (inr (inr (inr (inr (inr (inr (inl e))))))) = inl (omega arith, omega arith)
+early-in n (inr (inr (inr (inr (inr (inr (inr (inl e)))))))) = inl (omega arith, omega arith)
+early-in n (inr (inr (inr (inr (inr (inr (inr (inr (inl e))))))))) = inl (omega arith, omega arith)
+early-in n (inr (inr (inr (inr (inr (inr (inr (inr (inr (inl e)))))))))) = inl (omega arith, omega arith)
+early-in n (inr (inr (inr (inr (inr (inr (inr (inr (inr (inr (inl e))))))))))) = inl (omega arith, omega arith)
+
+pub found-early : (f : Findings) (r : Refusal) → Sorted f → firstFound f ≡ Refused r → why.Early (r .number)
+unfolding firstFound
+found-early f r p e = early-in (r .number) (of-kinds order (inOrder f) r p e)

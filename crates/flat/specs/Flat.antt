@@ -1,8 +1,13 @@
--- The answers as structs of plain numbers. As asked of the boundary (docs/CONTRACTS.md): "On a refusal every other field is 0xFFFFFFFF or NaN: no square, no zeros, nothing of an earlier call."
+-- The answers as structs of plain numbers. As asked of the boundary (docs/CONTRACTS.md): "On a refusal every other field is 0xFFFFFFFF or NaN: no square, no zeros, nothing of an earlier call." C-11 adds the place of a refusal.
 use mathlib.Core.Bool.{cond}
 use Prim.Native.Nat.{ℕ}
 use lib.Dec.{ltb}
 use lib.Ieee.{Float, nan}
+use Rattle.refusals.specs.declared.Refusal.{Refusal}
+use Rattle.refusals.specs.declared.Place.{Place}
+use Rattle.refusals.specs.declared.Place.the-variants.{Nowhere, At}
+use Rattle.refusals.specs.declared.ListName.{ListName}
+use Rattle.refusals.specs.declared.ListName.the-variants.{Logical, Physical, Only}
 use Rattle.answer.specs.declared.Decoded.{Decoded}
 use Rattle.answer.specs.declared.Answer.{Answer}
 use Rattle.answer.specs.declared.Answer.the-variants.{Found, Refused}
@@ -20,10 +25,27 @@ nothing = 4294967295
 abbrev pub notRefused : ℕ
 notRefused = 0
 
--- a found answer: not refused, and each field of the answer at its place
+-- C-11, "carry the list and the position": the lists by number; none is 0
+abbrev pub listNumber : ListName → ℕ
+listNumber Logical = 1
+listNumber Physical = 2
+listNumber Only = 3
+
+-- "At the C boundary the two new fields are SAMBUREXT_NOTHING where there is no place"
+abbrev pub flatList : Place → ℕ
+flatList Nowhere = nothing
+flatList (At p) = listNumber (p .list)
+
+abbrev pub flatPosition : Place → ℕ
+flatPosition Nowhere = nothing
+flatPosition (At p) = p .position
+
+-- a found answer: not refused, about no edge, and each field of the answer at its place
 abbrev pub flatFound : Decoded → FlatAnswer
 flatFound d = record {
   refusal = notRefused;
+  list = nothing;
+  position = nothing;
   transform = d .square .transform;
   row = d .square .row;
   col = d .square .col;
@@ -40,10 +62,12 @@ flatFound d = record {
   «runner_up_col» = d .«runner_up» .col;
 }
 
--- a refusal: its number, 0xFFFFFFFF for every other whole number, and x for every float
-abbrev pub refusedWith : ℕ → Float → FlatAnswer
-refusedWith n x = record {
+-- a refusal: its number, the list and the position of its edge, 0xFFFFFFFF for every other whole number, and x for every float
+abbrev pub refusedWith : ℕ → ℕ → ℕ → Float → FlatAnswer
+refusedWith n l i x = record {
   refusal = n;
+  list = l;
+  position = i;
   transform = nothing;
   row = nothing;
   col = nothing;
@@ -61,28 +85,28 @@ refusedWith n x = record {
 }
 
 -- and x is NaN
-abbrev pub flatRefused : ℕ → FlatAnswer
-flatRefused n = refusedWith n nan
+abbrev pub flatRefused : Refusal → FlatAnswer
+flatRefused r = refusedWith (r .number) (flatList (r .place)) (flatPosition (r .place)) nan
 
 -- the answer of a decoder
 abbrev pub flat : Answer → FlatAnswer
 flat (Found d) = flatFound d
-flat (Refused r) = flatRefused (r .number)
+flat (Refused r) = flatRefused r
 
 -- counted statistics, and refused ones
 abbrev pub flatCounted : MatchStats → FlatStats
-flatCounted s = record { refusal = notRefused; edges = s .edges; hits = s .hits; «error_rate» = s .«error_rate»; «mean_confidence» = s .«mean_confidence» }
+flatCounted s = record { refusal = notRefused; list = nothing; position = nothing; edges = s .edges; hits = s .hits; «error_rate» = s .«error_rate»; «mean_confidence» = s .«mean_confidence» }
 
-abbrev pub uncountedWith : ℕ → Float → FlatStats
-uncountedWith n x = record { refusal = n; edges = nothing; hits = nothing; «error_rate» = x; «mean_confidence» = x }
+abbrev pub uncountedWith : ℕ → ℕ → ℕ → Float → FlatStats
+uncountedWith n l i x = record { refusal = n; list = l; position = i; edges = nothing; hits = nothing; «error_rate» = x; «mean_confidence» = x }
 
-abbrev pub flatUncounted : ℕ → FlatStats
-flatUncounted n = uncountedWith n nan
+abbrev pub flatUncounted : Refusal → FlatStats
+flatUncounted r = uncountedWith (r .number) (flatList (r .place)) (flatPosition (r .place)) nan
 
 -- the answer of match statistics
 abbrev pub flatStats : StatsAnswer → FlatStats
 flatStats (stats.Counted s) = flatCounted s
-flatStats (stats.Refused r) = flatUncounted (r .number)
+flatStats (stats.Refused r) = flatUncounted r
 
 -- a transform number as a byte: above 7 it is 255
 unfoldable pub narrow : ℕ → ℕ

@@ -5,11 +5,14 @@ use crate::flat::NOT_REFUSED;
 use crate::flat::NOTHING;
 use answer::MatchStats;
 use answer::StatsAnswer;
+use refusals::Refusal;
 
 // The answer of match statistics: refusal is NOT_REFUSED when counted.
 #[repr(C)]
 pub struct FlatStats {
     pub refusal: u32,
+    pub list: u32,
+    pub position: u32,
     pub edges: u32,
     pub hits: u32,
     pub error_rate: f32,
@@ -22,6 +25,8 @@ fn counted(s: MatchStats) -> FlatStats
 {
     FlatStats {
         refusal: NOT_REFUSED,
+        list: NOTHING,
+        position: NOTHING,
         edges: s.edges,
         hits: s.hits,
         error_rate: s.error_rate,
@@ -29,13 +34,18 @@ fn counted(s: MatchStats) -> FlatStats
     }
 }
 
-// Statistics that were refused: the number alone.
-fn uncounted(number: u32) -> FlatStats
-    ensures { λ r. ⌜ r ≡ flatUncounted number ⌝ }
+// Statistics that were refused: the number and the place alone.
+fn uncounted(refusal: Refusal) -> FlatStats
+    ensures { λ r. ⌜ r ≡ flatUncounted refusal ⌝ }
 {
+    let place = refusal.place;
+    let list = crate::flat::list_of(place);
+    let position = crate::flat::position_of(place);
     let none = crate::flat::no_number();
     FlatStats {
-        refusal: number,
+        refusal: refusal.number,
+        list,
+        position,
         edges: NOTHING,
         hits: NOTHING,
         error_rate: none,
@@ -49,6 +59,6 @@ pub fn flattened_stats(answer: StatsAnswer) -> FlatStats
 {
     match answer {
         StatsAnswer::Counted(s) => counted(s),
-        StatsAnswer::Refused(refusal) => uncounted(refusal.number),
+        StatsAnswer::Refused(refusal) => uncounted(refusal),
     }
 }

@@ -1,5 +1,7 @@
 -- Document 01, 'Refusal numbers': the table, one name for each number, as request C-11 amends it. They are the names of the C header, and of the constants in the code.
-use Prim.Native.Nat.{ℕ}
+use mathlib.Core.Path.{_≡_}
+use mathlib.Core.Logic.{_⊎_}
+use Prim.Native.Nat.{ℕ, _≤_}
 use Rattle.refusals.specs.declared.Refusal.{Refusal}
 use Rattle.refusals.specs.declared.ListName.{ListName}
 use Rattle.refusals.specs.declared.Place.the-variants.{Nowhere, At}
@@ -78,3 +80,7 @@ numbered n = record { number = n; place = Nowhere }
 -- C-11: "let each refusal about an edge field carry the list and the position of the first bad edge of that kind"
 abbrev pub edgeRefusal : ℕ → ListName → ℕ → Refusal
 edgeRefusal n list i = record { number = n; place = At (record { list = list; position = i }) }
+
+-- an early refusal, before any work is done: 1 to 9, 16 or 17
+abbrev pub Early : ℕ → Type 0
+Early n = ((roomTooShort ≤ n) × (n ≤ badSetting)) ⊎ ((n ≡ badOrientation) ⊎ (n ≡ badBit))

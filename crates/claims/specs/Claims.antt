@@ -14,14 +14,17 @@ use Rattle.laws.specs.Cleared.{cleared-written}
 use Rattle.board.specs.declared.edge.Placing.{Placing}
 use Rattle.board.specs.Hits.{EdgeList, Board, size, hits, hitsAt}
 use Rattle.refusals.specs.declared.Refusal.{Refusal}
+use Rattle.refusals.specs.declared.Place.the-variants.{Nowhere}
 use Rattle.refusals.specs.declared.Admission.{Admission}
 use Rattle.refusals.specs.declared.Admission.the-variants as admission
 use Rattle.refusals.specs.Numbers.{numbered}
 use Rattle.refusals.specs.Numbers as why
 use Rattle.room.specs.Room.{tablesRoom, sumsRoom, flat-room}
 use Rattle.admission.specs.Calls.{HardCall, SoftCall}
-use Rattle.checks.specs.Checks.{inRange, lengthsDiffer, sizeBad, confidenceBad, transformsBad, originBad}
-use Rattle.admission.specs.Refusals.{fieldsBad, tablesBad, roomShort, softRoomShort, softLengthsDiffer, softLikelihoodBad, softSettingsBad, hardAdmission, softAdmission, statsAdmission}
+use Rattle.admission.specs.Refusals.{hardAdmission, softAdmission, statsAdmission}
+use Rattle.admission.specs.RefusalLaws as refusals
+use Rattle.admission.specs.PlaceTheorems.{hard-place, soft-place, stats-place}
+use Rattle.admission.specs.Document01Laws.{hard-document-01, soft-document-01, stats-document-01}
 use Rattle.admission.specs.Domain.{StatsDomain}
 use Rattle.admission.specs.DomainLaws.{hard-domain, soft-domain, stats-domain}
 use Rattle.admission.specs.Accepted.{HardAccepted, hard-accepted, SoftAccepted, soft-accepted, stats-accepted}
@@ -56,54 +59,20 @@ use Rattle.decode_soft.specs.SoftPlaces.{best-by-rows}
 use Rattle.decode_soft.specs.SoftTheorems.{soft-sound, soft-complete-by-rows}
 use Rattle.stats.specs.Stats.{statsAnswer, statsOf, orCounted}
 use Rattle.stats.specs.StatsRange.{StatsInRange, stats-in-range}
-use Rattle.claims.specs.Promises.{NumberAlone, OneToNine, RunnerUpAlways, Emptied, HardRoom, SoftRoom, hardChecked, InHardDomain, HardGave, HardPromise, softChecked, InSoftDomain, SoftGave, SoftBestPlacing, SoftClears, SoftPromise, StatsPromise}
+use Rattle.claims.specs.Promises.{NumberAndPlace, EarlyNumber, RunnerUpAlways, Emptied, HardRoom, SoftRoom, hardChecked, InHardDomain, HardGave, HardPromise, softChecked, InSoftDomain, SoftGave, SoftBestPlacing, SoftClears, SoftPromise, StatsPromise}
 
 -- ---- EARLY REFUSALS
-pub refusal-is-number : NumberAlone
-refusal-is-number one other e = λ i. record { number = e i }
+pub refusal-is-number-and-place : NumberAndPlace
+refusal-is-number-and-place one other e f = λ i. record { number = e i; place = f i }
 
-early-none : OneToNine admission.Accepted
-early-none r e = let z : _≡_ {A = ℕ} 0 1 = cc in absurd (omega arith)
+pub hard-early : (call : HardCall) (m n : ℕ) → EarlyNumber (hardAdmission call m n)
+hard-early = refusals.hard-early
 
-early-if : (b : Bool) (k : ℕ) (x : Admission) → 1 ≤ k → k ≤ 9 → OneToNine x → OneToNine (cond b (admission.Refused (numbered k)) x)
-early-if true k x h l e r q = let z : numbered k ≡ r = cc in let y : k ≡ r .number = ap (λ (w : Refusal). w .number) z in (omega arith, omega arith)
-early-if false k x h l e r q = e r q
+pub soft-early : (call : SoftCall) (m n k : ℕ) → EarlyNumber (softAdmission call m n k)
+soft-early = refusals.soft-early
 
-pub hard-early : (call : HardCall) (m n : ℕ) → OneToNine (hardAdmission call m n)
-unfolding hardAdmission
-hard-early call m n =
-    early-if (roomShort m n) why.roomTooShort _ (omega arith) (omega arith)
-    (early-if (lengthsDiffer (call .logical) || lengthsDiffer (call .physical)) why.lengthsDiffer _ (omega arith) (omega arith)
-    (early-if (sizeBad 1 (size (call .logical)) || sizeBad 1 (size (call .physical))) why.listSize _ (omega arith) (omega arith)
-    (early-if (fieldsBad (call .logical) || fieldsBad (call .physical)) why.edgeOutOfRange _ (omega arith) (omega arith)
-    (early-if (confidenceBad (call .logical .confidences) || confidenceBad (call .physical .confidences)) why.badConfidence _ (omega arith) (omega arith)
-    (early-if (transformsBad (call .transforms)) why.badTransform _ (omega arith) (omega arith)
-    (early-if (tablesBad (call .board)) why.badTable _ (omega arith) (omega arith)
-    (early-if (not (inRange oneF (call .error-limit))) why.badSetting _ (omega arith) (omega arith) early-none)))))))
-
-pub soft-early : (call : SoftCall) (m n k : ℕ) → OneToNine (softAdmission call m n k)
-unfolding softAdmission
-soft-early call m n k =
-    early-if (softRoomShort m n k) why.roomTooShort _ (omega arith) (omega arith)
-    (early-if ((lengthsDiffer (call .hard .logical) || lengthsDiffer (call .hard .physical)) || softLengthsDiffer call) why.lengthsDiffer _ (omega arith) (omega arith)
-    (early-if (sizeBad 1 (size (call .hard .logical)) || sizeBad 1 (size (call .hard .physical))) why.listSize _ (omega arith) (omega arith)
-    (early-if (fieldsBad (call .hard .logical) || fieldsBad (call .hard .physical)) why.edgeOutOfRange _ (omega arith) (omega arith)
-    (early-if (confidenceBad (call .hard .logical .confidences) || confidenceBad (call .hard .physical .confidences)) why.badConfidence _ (omega arith) (omega arith)
-    (early-if (softLikelihoodBad call) why.badLikelihood _ (omega arith) (omega arith)
-    (early-if (transformsBad (call .hard .transforms)) why.badTransform _ (omega arith) (omega arith)
-    (early-if (tablesBad (call .hard .board)) why.badTable _ (omega arith) (omega arith)
-    (early-if (softSettingsBad call) why.badSetting _ (omega arith) (omega arith) early-none))))))))
-
-pub stats-early : (E : EdgeList) (t row col : ℕ) (B : Board) → OneToNine (statsAdmission E t row col B)
-unfolding statsAdmission
-stats-early E t row col B =
-    early-if (lengthsDiffer E) why.lengthsDiffer _ (omega arith) (omega arith)
-    (early-if (sizeBad 0 (size E)) why.listSize _ (omega arith) (omega arith)
-    (early-if (fieldsBad E) why.edgeOutOfRange _ (omega arith) (omega arith)
-    (early-if (confidenceBad (E .confidences)) why.badConfidence _ (omega arith) (omega arith)
-    (early-if (ltb 7 t) why.badTransform _ (omega arith) (omega arith)
-    (early-if (tablesBad B) why.badTable _ (omega arith) (omega arith)
-    (early-if (originBad row col) why.badSetting _ (omega arith) (omega arith) early-none))))))
+pub stats-early : (list : EdgeList) (transform row col : ℕ) (board : Board) → EarlyNumber (statsAdmission list transform row col board)
+stats-early = refusals.stats-early
 
 -- ---- RUNNER-UP
 pub runner-up-exists : RunnerUpAlways
@@ -116,7 +85,7 @@ found-only (admission.Refused r) x d e = let z : _≡_ {A = ℕ} 0 1 = cc in abs
 
 -- ---- ROOM
 module _ {A : Type 0} (d zero : A) (n : ℕ) (a : Admission) (old : List A) where
-  -- "After refusals 1 to 9 the lent room is untouched"
+  -- "After refusals 1 to 9 the lent room is untouched", nor after 16 and 17
   left-untouched : (x : Refusal) → a ≡ admission.Refused x → left zero n a old ≡ old
   unfolding left
   left-untouched x h = ap (λ (y : Admission). left zero n y old) h
@@ -164,7 +133,7 @@ module _ (call : HardCall) (before after : HardRoom) (answer : Answer) (done : H
       )
 
   -- refused late means 10 to 13
-  pub hard-refused-late : InHardDomain call before → (refusal : Refusal) → answer ≡ Refused refusal → (10 ≤ refusal .number) × (refusal .number ≤ 13)
+  pub hard-refused-late : InHardDomain call before → (refusal : Refusal) → answer ≡ Refused refusal → (10 ≤ refusal .number) × (refusal .number ≤ 13) × (refusal .place ≡ Nowhere)
   hard-refused-late domain x e = hard-late call (length (before .counts)) (length (before .weights)) (taken domain) x (sym (core domain) ∙ e)
 
   -- each exactly when (`hard-10` to `hard-13` of HardNumbers.antt)
@@ -211,7 +180,7 @@ module _ (call : HardCall) (before after : HardRoom) (answer : Answer) (done : H
   -- WHAT HARD DECODE PROMISES
   pub hard-promise : HardPromise call before after answer
   hard-promise = record {
-    early = record { accepts = hard-accepts; number = hard-early call (length (before .counts)) (length (before .weights)); refuses = hard-refused-early };
+    early = record { accepts = hard-accepts; number = hard-early call (length (before .counts)) (length (before .weights)); place = hard-place call (length (before .counts)) (length (before .weights)); old-number = hard-document-01 call (length (before .counts)) (length (before .weights)); refuses = hard-refused-early };
     room-zero = hard-room-zero;
     refused-late = hard-refused-late;
     refused-exactly = hard-refused-exactly;
@@ -262,7 +231,7 @@ module _ (call : SoftCall) (before after : SoftRoom) (answer : Answer) (done : S
       )
 
   -- refused late means 10, 11, 13, 14 or 15
-  pub soft-refused-late : InSoftDomain call before → (refusal : Refusal) → answer ≡ Refused refusal → (10 ≤ refusal .number) × (refusal .number ≤ 15) × (refusal .number ≡ 12 → ⊥)
+  pub soft-refused-late : InSoftDomain call before → (refusal : Refusal) → answer ≡ Refused refusal → ((10 ≤ refusal .number) × (refusal .number ≤ 15) × (refusal .number ≡ 12 → ⊥)) × (refusal .place ≡ Nowhere)
   soft-refused-late domain x e = soft-late call (length (before .counts)) (length (before .weights)) (length (before .sums)) (admitted domain) x (sym (soft-core domain) ∙ e)
 
   -- each exactly when (`soft-10` to `soft-15` of SoftNumbers.antt)
@@ -308,7 +277,7 @@ module _ (call : SoftCall) (before after : SoftRoom) (answer : Answer) (done : S
   -- WHAT SOFT DECODE PROMISES
   pub soft-promise : SoftPromise call before after answer
   soft-promise = record {
-    early = record { accepts = soft-accepts; number = soft-early call (length (before .counts)) (length (before .weights)) (length (before .sums)); refuses = soft-refused-early };
+    early = record { accepts = soft-accepts; number = soft-early call (length (before .counts)) (length (before .weights)) (length (before .sums)); place = soft-place call (length (before .counts)) (length (before .weights)) (length (before .sums)); old-number = soft-document-01 call (length (before .counts)) (length (before .weights)) (length (before .sums)); refuses = soft-refused-early };
     room-zero = soft-room-zero;
     refused-late = soft-refused-late;
     refused-exactly = soft-refused-exactly;
@@ -360,7 +329,7 @@ module _ (list : EdgeList) (transform row col : ℕ) (board : Board) (answer : S
   -- WHAT MATCH STATISTICS PROMISE
   pub stats-promise : StatsPromise list transform row col board answer
   stats-promise = record {
-    early = record { accepts = stats-accepts; number = stats-early list transform row col board; refuses = stats-refused };
+    early = record { accepts = stats-accepts; number = stats-early list transform row col board; place = stats-place list transform row col board; old-number = stats-document-01 list transform row col board; refuses = stats-refused };
     by-the-rules = stats-by-the-rules;
     counted = stats-hits;
   }

@@ -1,6 +1,7 @@
 -- The number tells found from refused: where it is 0 the public library found or counted (and `flat` makes it 0 there). A refusal never has the number 0.
 use mathlib.Core.Path.{_≡_, refl, sym, ap, subst, _∙_}
 use mathlib.Core.Bool.{Bool, true, false, not, cond, _&&_, _||_}
+use mathlib.Core.Logic.{inl, inr}
 use mathlib.Core.List.{List}
 use Prim.Native.Nat.{ℕ}
 use native.Mathlib.Omega.{arith}
@@ -74,14 +75,19 @@ not-accepted : (r : Refusal) → admission.Accepted ≡ admission.Refused r → 
 not-accepted r h = let z : _≡_ {A = ℕ} 0 1 = cc in omega arith
 
 -- the checks refuse by such numbers alone
+early-not-zero : (n : ℕ) → why.Early n → n ≡ notRefused → ⊥
+early-not-zero n (inl h) z = omega (arith, h .0)
+early-not-zero n (inr (inl e)) z = omega arith
+early-not-zero n (inr (inr e)) z = omega arith
+
 hard-numbered : (call : HardCall) (m n : ℕ) → Numbered (hardAdmission call m n)
-hard-numbered call m n r h z = omega (arith, hard-early call m n r h .0)
+hard-numbered call m n r h z = early-not-zero (r .number) (hard-early call m n r h) z
 
 soft-numbered : (call : SoftCall) (m n k : ℕ) → Numbered (softAdmission call m n k)
-soft-numbered call m n k r h z = omega (arith, soft-early call m n k r h .0)
+soft-numbered call m n k r h z = early-not-zero (r .number) (soft-early call m n k r h) z
 
 stats-numbered : (E : EdgeList) (t row col : ℕ) (B : Board) → Numbered (statsAdmission E t row col B)
-stats-numbered E t row col B r h z = omega (arith, stats-early E t row col B r h .0)
+stats-numbered E t row col B r h z = early-not-zero (r .number) (stats-early E t row col B r h) z
 
 -- found where it is accepted, else refused by such a number
 zero-or : (a : Admission) (x : Answer) → Numbered a → ZeroFound x → ZeroFound (whenAccepted a x)

@@ -9,11 +9,12 @@
 --   agrees      has the transform and the origin of the physical list's winner (Demand.antt): `agrees-most` and `most-agrees` below say what that is in hits
 --   first       of all placings by likelihood, edge by edge; second: of all others (decode_soft/specs/SoftDemand.antt)
 --   answered    what a found answer says (decode_hard/specs/HardDemand.antt, SoftDemand.antt); a square is a transform's number, a row and a column
---   domain      the calls that are accepted, as plain facts (admission/specs/Domain.antt); checked: by which of 1 to 9 a call is refused (Refusals.antt)
+--   domain      the calls that are accepted, as plain facts (admission/specs/Domain.antt); checked: by which early number a call is refused, and where (Refusals.antt)
 --   late        refusals 10 to 15, each exactly when (decode_hard/specs/HardLate.antt, decode_soft/specs/SoftLate.antt)
 --   room        what the caller lends; its first places are used, and the rest is surplus
 use mathlib.Core.Path.{_≡_}
-use mathlib.Core.Bool.{false}
+use mathlib.Core.Bool.{Bool, false}
+use mathlib.Core.Logic.{_⊎_}
 use mathlib.Core.List.{List}
 use Prim.Native.Nat.{ℕ, _≤_, _<_}
 use lib.ListN.{getD, length}
@@ -24,11 +25,16 @@ use Rattle.board.specs.declared.edge.Placing.{Placing}
 use Rattle.board.specs.Hits.{EdgeList, Board, size, hits, hitsAt}
 use Rattle.board.specs.Domain.{BoardOk, ListOk}
 use Rattle.refusals.specs.declared.Refusal.{Refusal}
+use Rattle.refusals.specs.declared.Place.the-variants.{Nowhere}
+use Rattle.refusals.specs.declared.ListName.{ListName}
 use Rattle.refusals.specs.declared.Admission.{Admission}
 use Rattle.refusals.specs.declared.Admission.the-variants as admission
+use Rattle.findings.specs.Places.{PlaceRight}
 use Rattle.admission.specs.Calls.{HardCall, SoftCall}
 use Rattle.admission.specs.Refusals.{hardAdmission, softAdmission, statsAdmission}
 use Rattle.admission.specs.Domain.{HardDomain, SoftDomain, StatsDomain}
+use Rattle.admission.specs.PlaceTheorems.{hardCount, hardBad, softBad, statsCount, statsBad}
+use Rattle.admission.specs.Document01.{admission01, hardNumbers01, softNumbers01, statsNumbers01}
 use Rattle.figures.specs.Figures.{noConfidence}
 use Rattle.scan.specs.declared.scan.Candidate.{Candidate}
 use Rattle.scan.specs.declared.scan.RunnerUp.{RunnerUp}
@@ -52,18 +58,21 @@ use Rattle.decode_soft.specs.SoftLate.{SoftLate}
 use Rattle.stats.specs.Stats.{statsOf}
 
 -- ---- EARLY REFUSALS, of every entry point
--- "A refusal carries no square": it is its number and nothing else
-abbrev pub NumberAlone : Type 0
-NumberAlone = (one other : Refusal) → one .number ≡ other .number → one ≡ other
+-- "A refusal carries no square": it is its number and its place, and nothing else
+abbrev pub NumberAndPlace : Type 0
+NumberAndPlace = (one other : Refusal) → one .number ≡ other .number → one .place ≡ other .place → one ≡ other
 
--- a call that is refused before any work is done is refused by one of 1 to 9
-abbrev pub OneToNine : Admission → Type 0
-OneToNine checked = (refusal : Refusal) → checked ≡ admission.Refused refusal → (1 ≤ refusal .number) × (refusal .number ≤ 9)
+-- a call that is refused before any work is done is refused by one of 1 to 9, 16 and 17
+abbrev pub EarlyNumber : Admission → Type 0
+EarlyNumber checked = (refusal : Refusal) → checked ≡ admission.Refused refusal → ((1 ≤ refusal .number) × (refusal .number ≤ 9)) ⊎ ((refusal .number ≡ 16) ⊎ (refusal .number ≡ 17))
 
--- a call is accepted exactly in its domain; else it is refused by one of 1 to 9, and the call `refused` as is said for each entry point
-pub record Early (checked : Admission) (domain : Type 0) (refused : Refusal → Type 0) : Type 0 where
+-- a call is accepted exactly in its domain; else it is refused by one of these numbers, and the call `refused` as is said for each entry point. A refusal about an edge names the first
+-- bad edge of its kind, the logical list first, and every other names none (findings/specs/Places.antt); where 16 and 17 are read as 4, the number is that of document 01's table
+pub record Early (checked : Admission) (domain : Type 0) (count : ListName → ℕ) (bad : ℕ → ListName → ℕ → Bool) (document-01 : Admission) (refused : Refusal → Type 0) : Type 0 where
   pub accepts : (checked ≡ admission.Accepted → domain) × (domain → checked ≡ admission.Accepted)
-  pub number : OneToNine checked
+  pub number : EarlyNumber checked
+  pub place : (refusal : Refusal) → checked ≡ admission.Refused refusal → PlaceRight count bad refusal
+  pub old-number : admission01 checked ≡ document-01
   pub refuses : (refusal : Refusal) → checked ≡ admission.Refused refusal → refused refusal
 
 -- ---- RUNNER-UP
@@ -105,12 +114,13 @@ abbrev pub HardGave : HardCall → HardRoom → HardRoom → Answer → Type 0
 HardGave call before after answer = HardDone call (before .counts) (after .counts) (before .weights) (after .weights) answer
 
 pub record HardPromise (call : HardCall) (before after : HardRoom) (answer : Answer) : Type 0 where
-  -- DEMAND 1: it "refuses with the number document 01 gives"; "After refusals 1 to 9 the lent room is untouched"
-  pub early : Early (hardChecked call before) (InHardDomain call before) (λ refusal. (answer ≡ Refused refusal) × (after .counts ≡ before .counts) × (after .weights ≡ before .weights))
+  -- DEMAND 1: it "refuses with the number document 01 gives"; "After refusals 1 to 9 the lent room is untouched", nor after 16 and 17
+  pub early : Early (hardChecked call before) (InHardDomain call before) (hardCount call) (hardBad call) (hardNumbers01 call (length (before .counts)) (length (before .weights)))
+      (λ refusal. (answer ≡ Refused refusal) × (after .counts ≡ before .counts) × (after .weights ≡ before .weights))
   -- "after every other call the used room is zero"
   pub room-zero : InHardDomain call before → Emptied 0 0 3006 (before .counts) (after .counts) × Emptied nan zeroF 3006 (before .weights) (after .weights)
-  -- then it is refused by 10 to 13, if at all
-  pub refused-late : InHardDomain call before → (refusal : Refusal) → answer ≡ Refused refusal → (10 ≤ refusal .number) × (refusal .number ≤ 13)
+  -- then it is refused by 10 to 13, if at all, and about no edge
+  pub refused-late : InHardDomain call before → (refusal : Refusal) → answer ≡ Refused refusal → (10 ≤ refusal .number) × (refusal .number ≤ 13) × (refusal .place ≡ Nowhere)
   -- each of them exactly when
   pub refused-exactly : InHardDomain call before → HardLate call answer
   -- a found answer is in range: its whole numbers, and no float is a NaN or an infinity
@@ -155,12 +165,13 @@ SoftClears call square second = belowMargin (marginOf (call .hard .board) (call 
 
 pub record SoftPromise (call : SoftCall) (before after : SoftRoom) (answer : Answer) : Type 0 where
   -- DEMAND 1, as of hard decode
-  pub early : Early (softChecked call before) (InSoftDomain call before)
+  pub early : Early (softChecked call before) (InSoftDomain call before) (hardCount (call .hard)) (softBad call) (softNumbers01 call (length (before .counts)) (length (before .weights)) (length (before .sums)))
       (λ refusal. (answer ≡ Refused refusal) × (after .counts ≡ before .counts) × (after .weights ≡ before .weights) × (after .sums ≡ before .sums))
   pub room-zero : InSoftDomain call before
       → Emptied 0 0 3006 (before .counts) (after .counts) × Emptied nan zeroF 3006 (before .weights) (after .weights) × Emptied (pos 0) (pos 0) 5010 (before .sums) (after .sums)
-  -- then it is refused by 10, 11, 13, 14 or 15, if at all
-  pub refused-late : InSoftDomain call before → (refusal : Refusal) → answer ≡ Refused refusal → (10 ≤ refusal .number) × (refusal .number ≤ 15) × (refusal .number ≡ 12 → ⊥)
+  -- then it is refused by 10, 11, 13, 14 or 15, if at all, and about no edge
+  pub refused-late : InSoftDomain call before → (refusal : Refusal) → answer ≡ Refused refusal
+      → ((10 ≤ refusal .number) × (refusal .number ≤ 15) × (refusal .number ≡ 12 → ⊥)) × (refusal .place ≡ Nowhere)
   pub refused-exactly : InSoftDomain call before → SoftLate call answer
   pub answer-in-range : (found : Decoded) → answer ≡ Found found → AnswerInRange found
   pub no-influence : (before' after' : SoftRoom) (answer' : Answer) → SoftGave call before' after' answer'
@@ -177,7 +188,8 @@ pub record SoftPromise (call : SoftCall) (before after : SoftRoom) (answer : Ans
 -- ---- MATCH STATISTICS, of a list at one square
 pub record StatsPromise (list : EdgeList) (transform row col : ℕ) (board : Board) (answer : StatsAnswer) : Type 0 where
   -- DEMAND 1
-  pub early : Early (statsAdmission list transform row col board) (StatsDomain list transform row col board) (λ refusal. answer ≡ stats.Refused refusal)
+  pub early : Early (statsAdmission list transform row col board) (StatsDomain list transform row col board) (statsCount list) (statsBad list) (statsNumbers01 list transform row col board)
+      (λ refusal. answer ≡ stats.Refused refusal)
   -- DEMAND 2: every other call gives the statistics of document 01
   pub by-the-rules : StatsDomain list transform row col board → answer ≡ stats.Counted (statsOf list transform row col board)
   -- counted means: the hits are board's, edge by edge, of all the edges

@@ -26,7 +26,7 @@ use Rattle.sums.specs.Sums.{Likelihoods, likelihoods, score}
 use Rattle.margin.specs.Margin.{belowMargin}
 use Rattle.soft.specs.BestPlacing.{OwnBest}
 use Rattle.soft.specs.SelectLaws.{scoreAtKey}
-use Rattle.checks.specs.Checks.{far, inRange, lengthsDiffer, sizeBad, fieldBad, confidenceBad, firstBadCoordinate, firstBadByte, firstBadConfidence}
+use Rattle.checks.specs.Checks.{far, inRange, lengthsDiffer, sizeBad, firstBadCoordinate, firstBadByte, firstBadConfidence}
 use Rattle.admission.specs.Accepted.{list-ok, bytes-ok}
 use Rattle.figures.specs.Figures.{rateOf, noConfidence, confidenceTo}
 use Rattle.scan.specs.Scan.{overLimit}
@@ -91,8 +91,8 @@ others-fewer (suc (suc p)) k h l n = absurd (omega arith)
 
 -- ---- the list and the board are in the domain
 list-good : ListOk list
-unfolding lengthsDiffer sizeBad fieldBad firstBadCoordinate firstBadByte far confidenceBad firstBadConfidence inRange first firstFrom le
-list-good = list-ok 1 list refl refl refl refl
+unfolding lengthsDiffer sizeBad firstBadCoordinate firstBadByte far firstBadConfidence inRange first firstFrom le
+list-good = list-ok 1 list (record { lengths = refl; sizes = refl; coordinates = refl; orientations = refl; bits = refl; confidences = refl })
 
 few-patterns : (ps : List ℕ) → 3 < length ps → length ps ≤ 500 → length ps % 3 ≢ 0 → ltb (firstBadByte 7 ps) (length ps) ≡ false → Patterns ps
 few-patterns ps a b c d = record { some = a; few = b; free = c; small = λ i l. let m = bytes-ok 7 ps d i l in omega arith }

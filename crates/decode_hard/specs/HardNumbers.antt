@@ -15,6 +15,7 @@ use Rattle.admission.specs.Accepted.{HardAccepted}
 use Rattle.figures.specs.Figures.{noConfidence}
 use Rattle.figures.specs.Gate.{passed}
 use Rattle.refusals.specs.declared.Refusal.{Refusal}
+use Rattle.refusals.specs.declared.Place.the-variants.{Nowhere}
 use Rattle.refusals.specs.Numbers.{numbered}
 use Rattle.refusals.specs.Numbers as why
 use Rattle.scan.specs.Scan.{overLimit}
@@ -116,14 +117,14 @@ module _ (call : HardCall) (m n : ℕ) (A : HardAccepted call m n) where
   unfolding hardCore
   hard-ends = by-logical (selection (call .board) (call .logical) (call .transforms) (call .error-limit)) refl (ended (call .board) (call .logical) (call .transforms) (call .error-limit) (A .board) (A .logical) L-few)
 
-  -- refused late means 10 to 13
-  pub hard-late : (r : Refusal) → hardCore call ≡ Refused r → (why.noConfidence ≤ r .number) × (r .number ≤ why.notFarAhead)
+  -- refused late means 10 to 13, and about no edge
+  pub hard-late : (r : Refusal) → hardCore call ≡ Refused r → (why.noConfidence ≤ r .number) × (r .number ≤ why.notFarAhead) × (r .place ≡ Nowhere)
   hard-late r e = go (hardCore call) hard-ends e
     where
-      numbers : (n : ℕ) → why.noConfidence ≤ n → n ≤ why.notFarAhead → refusedBy n ≡ Refused r → (why.noConfidence ≤ r .number) × (r .number ≤ why.notFarAhead)
-      numbers n h k q = let z : numbered n ≡ r = cc in let y : n ≡ r .number = ap (λ (x : Refusal). x .number) z in (omega arith, omega arith)
+      numbers : (n : ℕ) → why.noConfidence ≤ n → n ≤ why.notFarAhead → refusedBy n ≡ Refused r → (why.noConfidence ≤ r .number) × (r .number ≤ why.notFarAhead) × (r .place ≡ Nowhere)
+      numbers n h k q = let z : numbered n ≡ r = cc in let y : n ≡ r .number = ap (λ (x : Refusal). x .number) z in (omega arith, omega arith, sym (ap (λ (x : Refusal). x .place) z))
 
-      go : (a : Answer) → HardEnd a → a ≡ Refused r → (why.noConfidence ≤ r .number) × (r .number ≤ why.notFarAhead)
+      go : (a : Answer) → HardEnd a → a ≡ Refused r → (why.noConfidence ≤ r .number) × (r .number ≤ why.notFarAhead) × (r .place ≡ Nowhere)
       go a (no-logical-confidence h) q = numbers why.noConfidence (omega arith) (omega arith) q
       go a (none-within h k) q = numbers why.noneWithinLimit (omega arith) (omega arith) q
       go a (no-physical-confidence h k l) q = numbers why.noConfidence (omega arith) (omega arith) q

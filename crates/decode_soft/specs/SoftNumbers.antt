@@ -16,6 +16,7 @@ use Rattle.figures.specs.Figures.{noConfidence}
 use Rattle.figures.specs.Gate.{passed}
 use Rattle.refusals.specs.declared.Refusal.{Refusal}
 use Rattle.refusals.specs.declared.Admission.the-variants as admission
+use Rattle.refusals.specs.declared.Place.the-variants.{Nowhere}
 use Rattle.refusals.specs.Numbers.{numbered}
 use Rattle.refusals.specs.Numbers as why
 use Rattle.hard.specs.Select.{selection}
@@ -135,13 +136,13 @@ module _ (call : SoftCall) (m n o : ℕ) (A : SoftAccepted call m n o) where
   abbrev Late : ℕ → Type 0
   Late k = (why.noConfidence ≤ k) × (k ≤ why.softHardDisagree) × (k ≡ why.listsDisagree → ⊥)
 
-  pub soft-late : (r : Refusal) → softCore call ≡ Refused r → Late (r .number)
+  pub soft-late : (r : Refusal) → softCore call ≡ Refused r → Late (r .number) × (r .place ≡ Nowhere)
   soft-late r e = go (softCore call) soft-ends e
     where
-      numbers : (k : ℕ) → Late k → refusedBy k ≡ Refused r → Late (r .number)
-      numbers k h q = let z : numbered k ≡ r = cc in subst Late (ap (λ (x : Refusal). x .number) z) h
+      numbers : (k : ℕ) → Late k → refusedBy k ≡ Refused r → Late (r .number) × (r .place ≡ Nowhere)
+      numbers k h q = let z : numbered k ≡ r = cc in (subst Late (ap (λ (x : Refusal). x .number) z) h, sym (ap (λ (x : Refusal). x .place) z))
 
-      go : (a : Answer) → SoftEnd a → a ≡ Refused r → Late (r .number)
+      go : (a : Answer) → SoftEnd a → a ≡ Refused r → Late (r .number) × (r .place ≡ Nowhere)
       go a (no-physical-confidence h) q = numbers why.noConfidence (omega arith, omega arith, λ z. omega arith) q
       go a (margin-below h k) q = numbers why.softMargin (omega arith, omega arith, λ z. omega arith) q
       go a (no-logical-confidence h k l) q = numbers why.noConfidence (omega arith, omega arith, λ z. omega arith) q

@@ -139,7 +139,7 @@ fn soft_logical<'a>(
             let s = transforms[other];
             let verdict = soft_verdict(t, best, s, w, runner, lrows.len() as u32);
             match verdict {
-                Admission::Refused(refusal) => Answer::Refused(refusal),
+                Admission::Refused(verdict) => Answer::Refused(verdict),
                 Admission::Accepted => {
                     let own = fit_of(
                         prows,

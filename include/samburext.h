@@ -12,8 +12,11 @@
  * Edge lists. A list of n edges is five columns of n elements: rows and columns from -1,000,000 to 1,000,000, orientations
  * (0 horizontal, 1 vertical), bits (0 or 1), confidences (0 to 1). A list has 1 to 8,192 edges; match statistics also take 0.
  *
- * Refusals. `refusal` is 0 when found. On a refusal every other field is SAMBUREXT_NOTHING or NaN: there is no square in it.
- * After refusals 1 to 9 the room is untouched; after every other call its used part is zero. A surplus never changes.
+ * Refusals. `refusal` is 0 when found. On a refusal every field but `refusal`, `list` and `position` is SAMBUREXT_NOTHING or NaN:
+ * there is no square in it. Refusals 4, 16, 17, 5 and 6 are about an edge: `list` is a number of samburext_list, and `position` is the
+ * place of the first bad edge of that kind in that list, counting from 0; where both lists have one, the logical list's. `list` and
+ * `position` are both SAMBUREXT_NOTHING after every other refusal, which is about no edge, and in a found answer.
+ * After refusals 1 to 9, 16 and 17 the room is untouched; after every other call its used part is zero. A surplus never changes.
  */
 #ifndef SAMBUREXT_H
 #define SAMBUREXT_H
@@ -34,17 +37,20 @@ extern "C" {
 #define SAMBUREXT_MAX_EDGES 8192      /* edges of a list */
 #define SAMBUREXT_MAX_TRANSFORMS 8    /* transform numbers in search order, each 0 to 7 */
 #define SAMBUREXT_BOARD_SQUARES 501   /* rows and columns of an origin go from 0 to one less */
-#define SAMBUREXT_NOTHING 0xFFFFFFFFu /* every whole number of a refusal but its number */
+#define SAMBUREXT_NOTHING 0xFFFFFFFFu /* a whole number that an answer does not have */
 
-/* Why a call was refused: the lowest number of 1 to 9 that applies, else one of 10 to 15. */
+/* Why a call was refused: of 1, 2, 3, 4, 16, 17, 5, 6, 7, 8, 9 the first in this order that applies, over all lists, else one of
+   10 to 15. In earlier versions 4 stood for 16 and 17 too: a program that tests for 4 must now also know these two. */
 enum samburext_refusal {
     SAMBUREXT_FOUND = 0,                /* not refused */
     SAMBUREXT_ROOM_TOO_SHORT = 1,       /* a room slice is too short */
     SAMBUREXT_LENGTHS_DIFFER = 2,       /* the columns of one list differ in length */
     SAMBUREXT_LIST_SIZE = 3,            /* a list is empty or has more than 8,192 edges */
-    SAMBUREXT_EDGE_OUT_OF_RANGE = 4,    /* a row, column, orientation or bit is out of range */
-    SAMBUREXT_BAD_CONFIDENCE = 5,       /* a confidence is no number from 0 to 1 */
-    SAMBUREXT_BAD_LIKELIHOOD = 6,       /* a log likelihood is no finite number from -65,536 to 65,536 */
+    SAMBUREXT_BAD_COORDINATE = 4,       /* a row or column is out of range; says which edge */
+    SAMBUREXT_BAD_ORIENTATION = 16,     /* an orientation is not 0 or 1; comes after 4; says which edge */
+    SAMBUREXT_BAD_BIT = 17,             /* a bit is not 0 or 1; comes after 16 and before 5; says which edge */
+    SAMBUREXT_BAD_CONFIDENCE = 5,       /* a confidence is no number from 0 to 1; says which edge */
+    SAMBUREXT_BAD_LIKELIHOOD = 6,       /* a log likelihood is no finite number from -65,536 to 65,536; says which edge */
     SAMBUREXT_BAD_TRANSFORM = 7,        /* no transforms, more than eight, or one above 7 */
     SAMBUREXT_BAD_TABLE = 8,            /* a pattern table has not 167 bytes from 0 to 7 */
     SAMBUREXT_BAD_SETTING = 9,          /* error limit, soft margin or given origin out of range */
@@ -56,9 +62,18 @@ enum samburext_refusal {
     SAMBUREXT_SOFT_HARD_DISAGREE = 15   /* the soft and the hard winner differ */
 };
 
+/* The lists by number. A call with one list has the only one. */
+enum samburext_list {
+    SAMBUREXT_LOGICAL_LIST = 1,  /* the logical list of hard and soft decode */
+    SAMBUREXT_PHYSICAL_LIST = 2, /* their physical list, with its likelihoods */
+    SAMBUREXT_ONLY_LIST = 3      /* the list of match statistics */
+};
+
 /* The answer of hard and soft decode. */
 typedef struct samburext_answer {
     uint32_t refusal;             /* 0 when found, else a number of samburext_refusal */
+    uint32_t list;                /* the list of the edge that the refusal is about: a number of samburext_list, or SAMBUREXT_NOTHING */
+    uint32_t position;            /* the place of that edge in its list, counting from 0, or SAMBUREXT_NOTHING */
     uint32_t transform;           /* the transform's number, 0 to 7 */
     uint32_t row;                 /* the origin's row on the board, 0 to 500 */
     uint32_t col;                 /* the origin's column, 0 to 500 */
@@ -78,6 +93,8 @@ typedef struct samburext_answer {
 /* The answer of match statistics. */
 typedef struct samburext_stats {
     uint32_t refusal;      /* 0 when counted, else a number of samburext_refusal */
+    uint32_t list;         /* SAMBUREXT_ONLY_LIST where the refusal is about an edge, or SAMBUREXT_NOTHING */
+    uint32_t position;     /* the place of that edge in the list, counting from 0, or SAMBUREXT_NOTHING */
     uint32_t edges;        /* edges of the list */
     uint32_t hits;         /* edges whose bit is the one that the board predicts there */
     float error_rate;      /* misses over edges; 1 for no edges */

@@ -10,7 +10,7 @@
 compile_error!("the comparison is of release builds: cargo run --release");
 
 use oracle::{Case, Edge, Found, Likelihood, Random, Ready, Soft, Square};
-use samburext::{decode_hard, decode_soft, EdgeList, Likelihoods, Patterns, Refusal, Room};
+use samburext::{decode_hard, decode_soft, EdgeList, Likelihoods, Patterns, Refused, Room};
 use std::hint::black_box;
 
 const RUNS: usize = 25;
@@ -75,7 +75,7 @@ impl Bench {
         }
     }
 
-    fn ours(&mut self) -> Result<Found, Refusal> {
+    fn ours(&mut self) -> Result<Found, Refused> {
         let patterns = Patterns { horizontal: &self.horizontal, vertical: &self.vertical };
         let (limit, transforms) = (self.case.limit, &self.case.transforms);
         let answer = if self.soft {
@@ -178,8 +178,8 @@ fn table() {
     for mut bench in all() {
         let answer = match (bench.ours(), bench.rust()) {
             (Ok(ours), Some(rust)) if ours == rust => "found".to_string(),
-            // 1 to 9 are refused before any work is done, which the Rust never does
-            (Err(refusal), None) if refusal.number() > 9 => format!("refused, {}", refusal.number()),
+            // 1 to 9, 16 and 17 are refused before any work is done, which the Rust never does
+            (Err(refused), None) if (10..16).contains(&refused.number()) => format!("refused, {}", refused.number()),
             (ours, rust) => panic!("{}: the answers differ: {ours:?} and {rust:?}", bench.name),
         };
         let (own, given) = least(&mut bench);

@@ -1,6 +1,7 @@
 /* A window of a small made-up board, decoded by hits (hard) and by likelihoods (soft): each once as it is, and once so that it is refused, by an
- * error limit that no call takes and by a soft margin that no window has. It prints all four answers whole, so that what a refusal holds can be
- * seen, and how the window fits its square. Compiled and run by .ci/tests/boundary, which compares what it prints. */
+ * error limit that no call takes and by a soft margin that no window has; and once more by hits, with one bit that is none. It prints all five
+ * answers whole, so that what a refusal holds can be seen, and how the window fits its square. Compiled and run by .ci/tests/boundary, which compares
+ * what it prints. */
 #include "samburext.h"
 
 #include <stdio.h>
@@ -69,6 +70,8 @@ static void print_answer(const char *how, const samburext_answer *a)
 {
     printf("%s: %s\n", how, a->refusal == SAMBUREXT_FOUND ? "found" : "refused");
     print_whole("refusal", a->refusal);
+    print_whole("list", a->list);
+    print_whole("position", a->position);
     print_whole("transform", a->transform);
     print_whole("row", a->row);
     print_whole("col", a->col);
@@ -85,6 +88,14 @@ static void print_answer(const char *how, const samburext_answer *a)
     print_whole("runner_up_col", a->runner_up_col);
 }
 
+/* What a person is told of a refusal that is about an edge: people count from 1. */
+static void print_edge(const samburext_answer *a)
+{
+    if (a->refusal != SAMBUREXT_FOUND && a->list != SAMBUREXT_NOTHING)
+        printf("  look at edge %u of the %s list, counting from 1\n", (unsigned)a->position + 1,
+               a->list == SAMBUREXT_LOGICAL_LIST ? "logical" : "physical");
+}
+
 static void hard_and_print(float error_limit)
 {
     samburext_answer answer = samburext_decode_hard(
@@ -93,6 +104,7 @@ static void hard_and_print(float error_limit)
         transforms, sizeof transforms, horizontal, sizeof horizontal, vertical, sizeof vertical, error_limit,
         counts, SAMBUREXT_ROOM_COUNTS, weights, SAMBUREXT_ROOM_WEIGHTS);
     print_answer("hard", &answer);
+    print_edge(&answer);
 }
 
 static void soft_and_print(float soft_margin)
@@ -104,6 +116,7 @@ static void soft_and_print(float soft_margin)
         transforms, sizeof transforms, horizontal, sizeof horizontal, vertical, sizeof vertical, 0.1f, soft_margin,
         counts, SAMBUREXT_ROOM_COUNTS, weights, SAMBUREXT_ROOM_WEIGHTS, sums, SAMBUREXT_ROOM_SUMS);
     print_answer("soft", &answer);
+    print_edge(&answer);
 }
 
 int main(void)
@@ -114,9 +127,13 @@ int main(void)
     hard_and_print(1.5f);
     soft_and_print(0.02f);
     soft_and_print(100.0f);
+    bits[41] += 2; /* a slip of whoever wrote the list */
+    hard_and_print(0.1f);
+    bits[41] -= 2;
     samburext_stats stats = samburext_match_stats(
         rows, EDGES, columns, EDGES, orientations, EDGES, bits, EDGES, confidences, EDGES, 0, ROW, COLUMN,
         horizontal, sizeof horizontal, vertical, sizeof vertical);
-    printf("statistics: refusal %u, edges %u, hits %u\n", (unsigned)stats.refusal, (unsigned)stats.edges, (unsigned)stats.hits);
+    printf("statistics: refusal %u, list %u, position %u, edges %u, hits %u\n", (unsigned)stats.refusal, (unsigned)stats.list,
+           (unsigned)stats.position, (unsigned)stats.edges, (unsigned)stats.hits);
     return 0;
 }

@@ -6,7 +6,7 @@ mod refusal;
 #[cfg(test)]
 mod tests;
 
-pub use refusal::Refusal;
+pub use refusal::{EdgePlace, List, Refusal, Refused};
 
 /// The least lengths of the room's three slices.
 pub const ROOM_COUNTS: usize = 3006;
@@ -130,9 +130,9 @@ pub struct MatchStats {
     pub mean_confidence: f32,
 }
 
-fn decoded(answer: raw::Answer) -> Result<Decoded, Refusal> {
-    match Refusal::from_number(answer.refusal) {
-        Some(refusal) => Err(refusal),
+fn decoded(answer: raw::Answer) -> Result<Decoded, Refused> {
+    match Refused::from_numbers(answer.refusal, answer.list, answer.position) {
+        Some(refused) => Err(refused),
         None => Ok(Decoded {
             square: Square { transform: answer.transform, row: answer.row, col: answer.col },
             hits: answer.hits,
@@ -148,9 +148,9 @@ fn decoded(answer: raw::Answer) -> Result<Decoded, Refusal> {
     }
 }
 
-fn counted(stats: raw::Stats) -> Result<MatchStats, Refusal> {
-    match Refusal::from_number(stats.refusal) {
-        Some(refusal) => Err(refusal),
+fn counted(stats: raw::Stats) -> Result<MatchStats, Refused> {
+    match Refused::from_numbers(stats.refusal, stats.list, stats.position) {
+        Some(refused) => Err(refused),
         None => Ok(MatchStats {
             edges: stats.edges,
             hits: stats.hits,
@@ -168,11 +168,11 @@ pub fn decode_hard(
     patterns: Patterns,
     error_limit: f32,
     room: &mut Room,
-) -> Result<Decoded, Refusal> {
+) -> Result<Decoded, Refused> {
     decoded(decode_hard_raw(logical, physical, transforms, patterns, error_limit, room))
 }
 
-// The same, with the answer as the library gives it: on a refusal every field but `refusal` is 0xFFFFFFFF or NaN.
+// The same, with the answer as the library gives it: on a refusal every field but `refusal`, `list` and `position` is 0xFFFFFFFF or NaN.
 fn decode_hard_raw(
     logical: &EdgeList,
     physical: &EdgeList,
@@ -230,7 +230,7 @@ pub fn decode_soft(
     error_limit: f32,
     soft_margin: f32,
     room: &mut Room,
-) -> Result<Decoded, Refusal> {
+) -> Result<Decoded, Refused> {
     decoded(decode_soft_raw(logical, physical, likelihoods, transforms, patterns, error_limit, soft_margin, room))
 }
 
@@ -292,7 +292,7 @@ fn decode_soft_raw(
 }
 
 /// Match statistics: how one list fits a known square.
-pub fn match_stats(list: &EdgeList, square: Square, patterns: Patterns) -> Result<MatchStats, Refusal> {
+pub fn match_stats(list: &EdgeList, square: Square, patterns: Patterns) -> Result<MatchStats, Refused> {
     counted(match_stats_raw(list, square, patterns))
 }
 

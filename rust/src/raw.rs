@@ -3,11 +3,14 @@
 //! A caller of these sees to it that each pointer is not null, is aligned and reaches as far as its length says, and that what
 //! is written overlaps nothing else. The functions of this crate do so.
 
-/// The answer of hard and soft decode. On a refusal every field but `refusal` is 0xFFFFFFFF or NaN.
+/// The answer of hard and soft decode. On a refusal every field but `refusal`, `list` and `position` is 0xFFFFFFFF or NaN; these two are
+/// 0xFFFFFFFF where the refusal is about no edge, and in a found answer.
 #[repr(C)]
 #[derive(Clone, Copy, Debug)]
 pub struct Answer {
     pub refusal: u32,
+    pub list: u32,
+    pub position: u32,
     pub transform: u32,
     pub row: u32,
     pub col: u32,
@@ -24,11 +27,13 @@ pub struct Answer {
     pub runner_up_col: u32,
 }
 
-/// The answer of match statistics. On a refusal every field but `refusal` is 0xFFFFFFFF or NaN.
+/// The answer of match statistics, with the same in its fields on a refusal.
 #[repr(C)]
 #[derive(Clone, Copy, Debug)]
 pub struct Stats {
     pub refusal: u32,
+    pub list: u32,
+    pub position: u32,
     pub edges: u32,
     pub hits: u32,
     pub error_rate: f32,

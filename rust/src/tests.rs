@@ -1,10 +1,11 @@
-//! The three functions through the static library: found, each refusal, the room, and what a refusal holds.
+//! The three functions through the static library: found, each refusal, the edge that it is about, the room, and what a refusal holds.
 
 mod board;
 
 use crate::{
     counted, decode_hard, decode_hard_raw, decode_soft, decode_soft_raw, decoded, match_stats, match_stats_raw, raw, Decoded,
-    Edge, EdgeList, Likelihoods, Patterns, Refusal, Room, Square, ROOM_COUNTS, ROOM_SUMS, ROOM_WEIGHTS,
+    Edge, EdgeList, EdgePlace, Likelihoods, List, MatchStats, Patterns, Refusal, Refused, Room, Square, ROOM_COUNTS, ROOM_SUMS,
+    ROOM_WEIGHTS,
 };
 use board::{Board, ALL_TRANSFORMS};
 
@@ -61,11 +62,11 @@ impl Call {
         Patterns { horizontal: &self.board_h, vertical: &self.board_v }
     }
 
-    fn hard(&self, room: &mut Room) -> Result<Decoded, Refusal> {
+    fn hard(&self, room: &mut Room) -> Result<Decoded, Refused> {
         decode_hard(&self.logical, &self.physical, &self.transforms, self.patterns(), self.limit, room)
     }
 
-    fn soft(&self, room: &mut Room) -> Result<Decoded, Refusal> {
+    fn soft(&self, room: &mut Room) -> Result<Decoded, Refused> {
         decode_soft(
             &self.logical,
             &self.physical,
@@ -96,9 +97,36 @@ impl Call {
     }
 }
 
-/// Nothing but the number: 0xFFFFFFFF or NaN in every other field.
-fn only_the_number(answer: raw::Answer, number: u32) {
-    assert_eq!(answer.refusal, number);
+/// A refusal that is about no edge.
+fn nowhere(reason: Refusal) -> Refused {
+    Refused { reason, place: None }
+}
+
+/// A refusal that is about one edge.
+fn at(reason: Refusal, list: List, position: usize) -> Refused {
+    Refused { reason, place: Some(EdgePlace { list, position }) }
+}
+
+/// Whether a call was refused before any work was done.
+fn early(reason: Refusal) -> bool {
+    reason.number() < 10 || reason.number() > 15
+}
+
+/// The two words that an answer has for a place.
+fn place_words(place: Option<EdgePlace>) -> [u32; 2] {
+    match place {
+        None => [NOTHING; 2],
+        Some(EdgePlace { list: List::Logical, position }) => [1, position as u32],
+        Some(EdgePlace { list: List::Physical, position }) => [2, position as u32],
+        Some(EdgePlace { list: List::Only, position }) => [3, position as u32],
+        Some(EdgePlace { list: List::Unknown(number), position }) => [number, position as u32],
+    }
+}
+
+/// Nothing but the number and the place: 0xFFFFFFFF or NaN in every other field.
+fn only_the_refusal(answer: raw::Answer, refused: Refused) {
+    assert_eq!(answer.refusal, refused.number());
+    assert_eq!([answer.list, answer.position], place_words(refused.place));
     let whole = [
         answer.transform,
         answer.row,
@@ -121,8 +149,9 @@ fn only_the_number(answer: raw::Answer, number: u32) {
     assert!(floats.iter().all(|x| x.is_nan()), "{:?}", floats);
 }
 
-fn only_the_number_of_stats(stats: raw::Stats, number: u32) {
-    assert_eq!(stats.refusal, number);
+fn only_the_refusal_of_stats(stats: raw::Stats, refused: Refused) {
+    assert_eq!(stats.refusal, refused.number());
+    assert_eq!([stats.list, stats.position], place_words(refused.place));
     assert_eq!([stats.edges, stats.hits], [NOTHING; 2]);
     assert!(stats.error_rate.is_nan() && stats.mean_confidence.is_nan());
 }
@@ -142,37 +171,47 @@ fn room_after(room: &Room, before: &Room, sums_too: bool) {
     }
 }
 
-/// Both the safe function and the raw one refuse, the refusal holds only its number, and the room is as promised: untouched
-/// after 1 to 9, else zero where it was used.
-fn hard_refused(call: &Call, refusal: Refusal) {
+/// Both the safe function and the raw one refuse, the refusal holds only its number and its place, and the room is as promised: untouched
+/// after 1 to 9, 16 and 17, else zero where it was used.
+fn hard_refused(call: &Call, refused: Refused) {
     let mut room = call.room.clone();
-    assert_eq!(call.hard(&mut room), Err(refusal));
-    if refusal.number() < 10 {
+    assert_eq!(call.hard(&mut room), Err(refused));
+    if early(refused.reason) {
         assert_eq!(room, call.room);
     } else {
         room_after(&room, &call.room, false);
     }
-    only_the_number(call.hard_raw(&mut room), refusal.number());
+    only_the_refusal(call.hard_raw(&mut room), refused);
 }
 
-fn soft_refused(call: &Call, refusal: Refusal) {
+fn soft_refused(call: &Call, refused: Refused) {
     let mut room = call.room.clone();
-    assert_eq!(call.soft(&mut room), Err(refusal));
-    if refusal.number() < 10 {
+    assert_eq!(call.soft(&mut room), Err(refused));
+    if early(refused.reason) {
         assert_eq!(room, call.room);
     } else {
         room_after(&room, &call.room, true);
     }
-    only_the_number(call.soft_raw(&mut room), refusal.number());
+    only_the_refusal(call.soft_raw(&mut room), refused);
 }
 
-/// One spoilt call after the other, each by itself, through both decoders.
+/// One spoilt call after the other, each by itself, through both decoders; the refusal is about no edge.
 fn both_refused(spoils: &[fn(&mut Call)], refusal: Refusal) {
     for spoil in spoils {
         let mut spoilt = call();
         spoil(&mut spoilt);
-        hard_refused(&spoilt, refusal);
-        soft_refused(&spoilt, refusal);
+        hard_refused(&spoilt, nowhere(refusal));
+        soft_refused(&spoilt, nowhere(refusal));
+    }
+}
+
+/// The same, with the list and the position of the edge at fault.
+fn both_refused_at(spoils: &[(fn(&mut Call), List, usize)], refusal: Refusal) {
+    for (spoil, list, position) in spoils {
+        let mut spoilt = call();
+        spoil(&mut spoilt);
+        hard_refused(&spoilt, at(refusal, *list, *position));
+        soft_refused(&spoilt, at(refusal, *list, *position));
     }
 }
 
@@ -278,7 +317,7 @@ fn nan_in_the_room_comes_back_bit_for_bit() {
             let answer = decode(&call, &mut room);
             assert_eq!(answer, decode(&call, &mut Room::new()));
             assert_eq!(answer.is_ok(), place == 0);
-            let untouched = if answer == Err(Refusal::BadSetting) { 0 } else { ROOM_WEIGHTS };
+            let untouched = if answer == Err(nowhere(Refusal::BadSetting)) { 0 } else { ROOM_WEIGHTS };
             assert!(bits(&room.weights[..untouched]).iter().all(|x| *x == 0));
             assert_eq!(bits(&room.weights[untouched..]), bits(&stale.weights[untouched..]));
         }
@@ -286,7 +325,7 @@ fn nan_in_the_room_comes_back_bit_for_bit() {
     // too short by one: nothing is written
     for decode in [Call::hard, Call::soft] {
         let mut room = Room { weights: nans(ROOM_WEIGHTS - 1), ..used_room() };
-        assert_eq!(decode(&call, &mut room), Err(Refusal::RoomTooShort));
+        assert_eq!(decode(&call, &mut room), Err(nowhere(Refusal::RoomTooShort)));
         assert_eq!(bits(&room.weights), bits(&nans(ROOM_WEIGHTS - 1)));
     }
 }
@@ -297,10 +336,14 @@ fn a_refusal_after_a_found_answer_holds_nothing_of_it() {
     let mut room = used_room();
     assert!(call.hard(&mut room).is_ok());
     call.limit = f32::NAN;
-    only_the_number(call.hard_raw(&mut room), 9);
+    only_the_refusal(call.hard_raw(&mut room), nowhere(Refusal::BadSetting));
+    call.logical.bits[7] = 2;
+    only_the_refusal(call.hard_raw(&mut room), at(Refusal::BadBit, List::Logical, 7));
+    call.logical.bits[7] = 0;
+    only_the_refusal(call.soft_raw(&mut room), nowhere(Refusal::BadSetting));
 }
 
-// ---- refusals 1 to 9, through both decoders
+// ---- refusals 1 to 9, 16 and 17, through both decoders
 
 #[test]
 fn refusal_1_room_too_short() {
@@ -319,7 +362,7 @@ fn refusal_1_room_too_short() {
     );
     let mut short = call();
     short.room.sums.truncate(ROOM_SUMS - 1);
-    soft_refused(&short, Refusal::RoomTooShort);
+    soft_refused(&short, nowhere(Refusal::RoomTooShort));
     assert!(short.hard(&mut short.room.clone()).is_ok());
 }
 
@@ -363,7 +406,7 @@ fn refusal_2_lengths_differ() {
     for spoil in [|c: &mut Call| c.likelihoods.matches.push(0.0), |c: &mut Call| c.likelihoods.mismatches.clear()] {
         let mut spoilt = call();
         spoil(&mut spoilt);
-        soft_refused(&spoilt, Refusal::LengthsDiffer);
+        soft_refused(&spoilt, nowhere(Refusal::LengthsDiffer));
     }
 }
 
@@ -373,41 +416,53 @@ fn refusal_3_list_size() {
     let mut empty = call();
     empty.physical = EdgeList::new();
     empty.likelihoods = likelihoods_of(0);
-    hard_refused(&empty, Refusal::ListSize);
-    soft_refused(&empty, Refusal::ListSize);
+    hard_refused(&empty, nowhere(Refusal::ListSize));
+    soft_refused(&empty, nowhere(Refusal::ListSize));
     let mut long = call();
     while long.logical.len() < 8193 {
         long.logical.push(Edge { row: 0, col: 0, orientation: 0, bit: 0, confidence: 1.0 });
     }
-    hard_refused(&long, Refusal::ListSize);
-    soft_refused(&long, Refusal::ListSize);
+    hard_refused(&long, nowhere(Refusal::ListSize));
+    soft_refused(&long, nowhere(Refusal::ListSize));
 }
 
 #[test]
-fn refusal_4_edge_out_of_range() {
-    both_refused(
+fn refusal_4_bad_coordinate() {
+    both_refused_at(
         &[
-            |c| c.logical.rows[5] = 1_000_001,
-            |c| c.logical.cols[5] = -1_000_001,
-            |c| c.physical.rows[0] = i32::MIN,
-            |c| c.physical.cols[263] = i32::MAX,
-            |c| c.logical.orientations[9] = 2,
-            |c| c.physical.orientations[9] = 255,
-            |c| c.logical.bits[9] = 2,
-            |c| c.physical.bits[9] = 128,
+            (|c| c.logical.rows[5] = 1_000_001, List::Logical, 5),
+            (|c| c.logical.cols[5] = -1_000_001, List::Logical, 5),
+            (|c| c.physical.rows[0] = i32::MIN, List::Physical, 0),
+            (|c| c.physical.cols[263] = i32::MAX, List::Physical, 263),
         ],
-        Refusal::EdgeOutOfRange,
+        Refusal::BadCoordinate,
+    );
+}
+
+#[test]
+fn refusal_16_bad_orientation() {
+    both_refused_at(
+        &[(|c| c.logical.orientations[9] = 2, List::Logical, 9), (|c| c.physical.orientations[9] = 255, List::Physical, 9)],
+        Refusal::BadOrientation,
+    );
+}
+
+#[test]
+fn refusal_17_bad_bit() {
+    both_refused_at(
+        &[(|c| c.logical.bits[9] = 2, List::Logical, 9), (|c| c.physical.bits[9] = 128, List::Physical, 9)],
+        Refusal::BadBit,
     );
 }
 
 #[test]
 fn refusal_5_bad_confidence() {
-    both_refused(
+    both_refused_at(
         &[
-            |c| c.logical.confidences[1] = f32::NAN,
-            |c| c.logical.confidences[1] = -0.001,
-            |c| c.physical.confidences[263] = 1.001,
-            |c| c.physical.confidences[263] = f32::INFINITY,
+            (|c| c.logical.confidences[1] = f32::NAN, List::Logical, 1),
+            (|c| c.logical.confidences[1] = -0.001, List::Logical, 1),
+            (|c| c.physical.confidences[263] = 1.001, List::Physical, 263),
+            (|c| c.physical.confidences[263] = f32::INFINITY, List::Physical, 263),
         ],
         Refusal::BadConfidence,
     );
@@ -421,10 +476,10 @@ fn refusal_6_bad_likelihood() {
     for bad in [f32::NAN, f32::INFINITY, f32::NEG_INFINITY, 65536.01, -70000.0] {
         let mut spoilt = call();
         spoilt.likelihoods.matches[17] = bad;
-        soft_refused(&spoilt, Refusal::BadLikelihood);
+        soft_refused(&spoilt, at(Refusal::BadLikelihood, List::Physical, 17));
         let mut spoilt = call();
         spoilt.likelihoods.mismatches[17] = bad;
-        soft_refused(&spoilt, Refusal::BadLikelihood);
+        soft_refused(&spoilt, at(Refusal::BadLikelihood, List::Physical, 17));
     }
 }
 
@@ -458,22 +513,169 @@ fn refusal_9_bad_setting() {
     for bad in [f32::NAN, -1.0, 65537.0, f32::INFINITY] {
         let mut spoilt = call();
         spoilt.margin = bad;
-        soft_refused(&spoilt, Refusal::BadSetting);
+        soft_refused(&spoilt, nowhere(Refusal::BadSetting));
+    }
+}
+
+/// Wrong in every way at once, and mended in one way after the other: the refusals come in their order, each over all lists.
+#[test]
+fn the_first_refusal_in_their_order() {
+    let mut call = call();
+    let good = call.clone();
+    call.room.counts.clear();
+    call.logical.rows[3] = i32::MAX;
+    call.logical.orientations[2] = 2;
+    call.logical.bits[1] = 2;
+    call.logical.confidences[0] = 2.0;
+    call.likelihoods.matches[4] = f32::NAN;
+    call.transforms.clear();
+    call.board_h[0] = 9;
+    call.limit = 2.0;
+    let spoilt = call.logical.clone();
+    call.logical.cols.pop();
+    call.physical = EdgeList::new();
+    hard_refused(&call, nowhere(Refusal::RoomTooShort));
+    soft_refused(&call, nowhere(Refusal::RoomTooShort));
+    call.room = good.room.clone();
+    hard_refused(&call, nowhere(Refusal::LengthsDiffer));
+    soft_refused(&call, nowhere(Refusal::LengthsDiffer));
+    call.logical = spoilt;
+    hard_refused(&call, nowhere(Refusal::ListSize));
+    soft_refused(&call, nowhere(Refusal::LengthsDiffer));
+    call.physical = good.physical.clone();
+    let steps: [(Refused, fn(&mut Call, &Call)); 8] = [
+        (at(Refusal::BadCoordinate, List::Logical, 3), |c, good| c.logical.rows = good.logical.rows.clone()),
+        (at(Refusal::BadOrientation, List::Logical, 2), |c, good| c.logical.orientations = good.logical.orientations.clone()),
+        (at(Refusal::BadBit, List::Logical, 1), |c, good| c.logical.bits = good.logical.bits.clone()),
+        (at(Refusal::BadConfidence, List::Logical, 0), |c, good| c.logical.confidences = good.logical.confidences.clone()),
+        (at(Refusal::BadLikelihood, List::Physical, 4), |c, good| c.likelihoods = good.likelihoods.clone()),
+        (nowhere(Refusal::BadTransform), |c, good| c.transforms = good.transforms.clone()),
+        (nowhere(Refusal::BadTable), |c, good| c.board_h = good.board_h.clone()),
+        (nowhere(Refusal::BadSetting), |c, good| c.limit = good.limit),
+    ];
+    for (refused, mend) in steps {
+        soft_refused(&call, refused);
+        if refused.reason != Refusal::BadLikelihood {
+            hard_refused(&call, refused);
+        }
+        mend(&mut call, &good);
+    }
+    assert!(call.hard(&mut used_room()).is_ok() && call.soft(&mut used_room()).is_ok());
+}
+
+// ---- which edge
+
+/// The ways in which an edge of a list is bad, in the order of the refusals.
+const FIELDS: [(Refusal, fn(&mut EdgeList, usize)); 7] = [
+    (Refusal::BadCoordinate, |l, i| l.rows[i] = 1_000_001),
+    (Refusal::BadCoordinate, |l, i| l.cols[i] = -1_000_001),
+    (Refusal::BadOrientation, |l, i| l.orientations[i] = 2),
+    (Refusal::BadBit, |l, i| l.bits[i] = 2),
+    (Refusal::BadConfidence, |l, i| l.confidences[i] = 1.5),
+    (Refusal::BadConfidence, |l, i| l.confidences[i] = f32::NAN),
+    (Refusal::BadConfidence, |l, i| l.confidences[i] = -0.5),
+];
+
+/// The ways in which a physical edge's likelihoods are bad.
+const UNLIKELY: [fn(&mut Likelihoods, usize); 2] = [|l, i| l.matches[i] = f32::NAN, |l, i| l.mismatches[i] = -65537.0];
+
+/// The first, a middle and the last place.
+const PLACES: [usize; 3] = [0, 131, 263];
+
+fn list_of(call: &mut Call, list: List) -> &mut EdgeList {
+    match list {
+        List::Logical => &mut call.logical,
+        _ => &mut call.physical,
     }
 }
 
 #[test]
-fn lowest_number_over_all_lists() {
-    both_refused(
-        &[|c| {
-            c.limit = 2.0;
-            c.board_h[0] = 9;
-            c.transforms.clear();
-            c.physical.confidences[0] = 2.0;
-            c.logical.bits[0] = 2;
-        }],
-        Refusal::EdgeOutOfRange,
-    );
+fn one_bad_edge_of_each_kind_in_each_list() {
+    let good = call();
+    assert_eq!((good.logical.len(), good.physical.len()), (264, 264));
+    let mut tried = 0;
+    for position in PLACES {
+        for (reason, spoil) in FIELDS {
+            for list in [List::Logical, List::Physical] {
+                let mut spoilt = good.clone();
+                spoil(list_of(&mut spoilt, list), position);
+                hard_refused(&spoilt, at(reason, list, position));
+                soft_refused(&spoilt, at(reason, list, position));
+                tried += 2;
+            }
+        }
+        for spoil in UNLIKELY {
+            let mut spoilt = good.clone();
+            spoil(&mut spoilt.likelihoods, position);
+            soft_refused(&spoilt, at(Refusal::BadLikelihood, List::Physical, position));
+            assert!(spoilt.hard(&mut used_room()).is_ok());
+            tried += 1;
+        }
+    }
+    assert_eq!(tried, 90);
+}
+
+#[test]
+fn of_two_bad_edges_of_one_kind_the_first() {
+    let good = call();
+    for (reason, spoil) in FIELDS {
+        for (near, far) in [(0, 1), (0, 263), (40, 200), (262, 263)] {
+            for list in [List::Logical, List::Physical] {
+                let mut spoilt = good.clone();
+                spoil(list_of(&mut spoilt, list), far);
+                spoil(list_of(&mut spoilt, list), near);
+                hard_refused(&spoilt, at(reason, list, near));
+                soft_refused(&spoilt, at(reason, list, near));
+            }
+            // one in each list: the logical one, also where it stands later
+            let mut spoilt = good.clone();
+            spoil(&mut spoilt.logical, far);
+            spoil(&mut spoilt.physical, near);
+            hard_refused(&spoilt, at(reason, List::Logical, far));
+            soft_refused(&spoilt, at(reason, List::Logical, far));
+        }
+    }
+    // a row and a column are one kind, and so are a match and a mismatch likelihood
+    let mut spoilt = good.clone();
+    spoilt.logical.rows[9] = i32::MAX;
+    spoilt.logical.cols[8] = i32::MIN;
+    hard_refused(&spoilt, at(Refusal::BadCoordinate, List::Logical, 8));
+    soft_refused(&spoilt, at(Refusal::BadCoordinate, List::Logical, 8));
+    spoilt.logical.rows[7] = i32::MAX;
+    hard_refused(&spoilt, at(Refusal::BadCoordinate, List::Logical, 7));
+    for (i, j) in [(9, 8), (8, 9)] {
+        let mut spoilt = good.clone();
+        spoilt.likelihoods.matches[i] = f32::INFINITY;
+        spoilt.likelihoods.mismatches[j] = 70000.0;
+        soft_refused(&spoilt, at(Refusal::BadLikelihood, List::Physical, 8));
+    }
+}
+
+/// Of two kinds the one that comes first, whichever list and place it stands in.
+#[test]
+fn the_kind_comes_before_the_list_and_the_place() {
+    let good = call();
+    for (i, (reason, spoil)) in FIELDS.iter().enumerate() {
+        for (later, also) in FIELDS[i + 1..].iter().filter(|(later, _)| later != reason) {
+            for (list, other) in [
+                (List::Physical, List::Logical),
+                (List::Logical, List::Physical),
+                (List::Logical, List::Logical),
+                (List::Physical, List::Physical),
+            ] {
+                let mut spoilt = good.clone();
+                spoil(list_of(&mut spoilt, list), 200);
+                also(list_of(&mut spoilt, other), 3);
+                hard_refused(&spoilt, at(*reason, list, 200));
+                soft_refused(&spoilt, at(*reason, list, 200));
+                assert_ne!(reason, later);
+            }
+        }
+        let mut spoilt = good.clone();
+        spoil(&mut spoilt.physical, 200);
+        spoilt.likelihoods.matches[0] = f32::NAN;
+        soft_refused(&spoilt, at(*reason, List::Physical, 200));
+    }
 }
 
 // ---- refusals 10 to 15
@@ -498,7 +700,7 @@ fn refusal_11_none_within_limit() {
 fn refusal_12_lists_disagree() {
     let mut apart = call();
     apart.physical = Board::new().window(ELSEWHERE, 12);
-    hard_refused(&apart, Refusal::ListsDisagree);
+    hard_refused(&apart, nowhere(Refusal::ListsDisagree));
 }
 
 #[test]
@@ -512,33 +714,33 @@ fn refusal_13_not_far_ahead() {
     };
     let mut alone = call();
     one(&mut alone);
-    hard_refused(&alone, Refusal::NotFarAhead);
+    hard_refused(&alone, nowhere(Refusal::NotFarAhead));
     let mut twice = call();
     twice.transforms = vec![5, 5];
-    hard_refused(&twice, Refusal::NotFarAhead);
+    hard_refused(&twice, nowhere(Refusal::NotFarAhead));
     let mut blank = call();
     blank.board_h.fill(0);
     blank.board_v.fill(0);
     blank.logical.bits.fill(0);
     blank.physical.bits.fill(0);
     blank.limit = 1.0;
-    hard_refused(&blank, Refusal::NotFarAhead);
+    hard_refused(&blank, nowhere(Refusal::NotFarAhead));
     blank.margin = 0.0;
-    soft_refused(&blank, Refusal::NotFarAhead);
+    soft_refused(&blank, nowhere(Refusal::NotFarAhead));
 }
 
 #[test]
 fn refusal_14_soft_margin() {
     let mut narrow = call();
     narrow.margin = 65536.0;
-    soft_refused(&narrow, Refusal::SoftMargin);
+    soft_refused(&narrow, nowhere(Refusal::SoftMargin));
 }
 
 #[test]
 fn refusal_15_soft_and_hard_disagree() {
     let mut apart = call();
     apart.physical = Board::new().window(ELSEWHERE, 12);
-    soft_refused(&apart, Refusal::SoftHardDisagree);
+    soft_refused(&apart, nowhere(Refusal::SoftHardDisagree));
 }
 
 // ---- match statistics
@@ -577,41 +779,71 @@ fn stats_refuse_every_wrong_transform() {
     let list = board.window(AT, 4);
     for transform in [8, 9, 255, 256, 257, 261, 263, 264, 511, 512, 65536, 0x0100_0005, 0x8000_0000, u32::MAX] {
         let square = Square { transform, ..AT };
-        assert_eq!(match_stats(&list, square, board.patterns()), Err(Refusal::BadTransform));
-        only_the_number_of_stats(match_stats_raw(&list, square, board.patterns()), 7);
+        assert_eq!(match_stats(&list, square, board.patterns()), Err(nowhere(Refusal::BadTransform)));
+        only_the_refusal_of_stats(match_stats_raw(&list, square, board.patterns()), nowhere(Refusal::BadTransform));
     }
 }
 
 #[test]
-fn stats_refuse_by_the_lowest_number() {
+fn stats_refuse_by_the_first_in_their_order() {
     let board = Board::new();
     let good = board.window(AT, 4);
     let far = Square { transform: 256, row: 501, col: u32::MAX };
     let mut tried = 0;
-    let mut refused = |list: &EdgeList, square: Square, patterns: Patterns, refusal: Refusal| {
-        assert_eq!(match_stats(list, square, patterns), Err(refusal));
-        only_the_number_of_stats(match_stats_raw(list, square, patterns), refusal.number());
+    let mut refused = |list: &EdgeList, square: Square, patterns: Patterns, refused: Refused| {
+        assert_eq!(match_stats(list, square, patterns), Err(refused));
+        only_the_refusal_of_stats(match_stats_raw(list, square, patterns), refused);
         tried += 1;
     };
     let mut list = good.clone();
     list.confidences[0] = 2.0;
-    refused(&list, far, board.patterns(), Refusal::BadConfidence);
+    refused(&list, far, board.patterns(), at(Refusal::BadConfidence, List::Only, 0));
     list.bits[3] = 2;
-    refused(&list, far, board.patterns(), Refusal::EdgeOutOfRange);
+    refused(&list, far, board.patterns(), at(Refusal::BadBit, List::Only, 3));
+    list.orientations[4] = 2;
+    refused(&list, far, board.patterns(), at(Refusal::BadOrientation, List::Only, 4));
+    list.cols[5] = 1_000_001;
+    refused(&list, far, board.patterns(), at(Refusal::BadCoordinate, List::Only, 5));
     list.rows.pop();
-    refused(&list, far, board.patterns(), Refusal::LengthsDiffer);
+    refused(&list, far, board.patterns(), nowhere(Refusal::LengthsDiffer));
     let mut long = EdgeList::new();
     for _ in 0..8193 {
         long.push(Edge { row: 0, col: 0, orientation: 1, bit: 1, confidence: 3.0 });
     }
-    refused(&long, far, board.patterns(), Refusal::ListSize);
-    refused(&good, far, board.patterns(), Refusal::BadTransform);
+    refused(&long, far, board.patterns(), nowhere(Refusal::ListSize));
+    refused(&good, far, board.patterns(), nowhere(Refusal::BadTransform));
     let short = Patterns { horizontal: &board.horizontal[1..], vertical: &board.vertical };
-    refused(&good, Square { transform: 7, ..far }, short, Refusal::BadTable);
+    refused(&good, Square { transform: 7, ..far }, short, nowhere(Refusal::BadTable));
     for square in [Square { row: 501, ..AT }, Square { col: 501, ..AT }, Square { row: u32::MAX, ..AT }] {
-        refused(&good, square, board.patterns(), Refusal::BadSetting);
+        refused(&good, square, board.patterns(), nowhere(Refusal::BadSetting));
     }
-    assert_eq!(tried, 9);
+    assert_eq!(tried, 11);
+}
+
+#[test]
+fn stats_say_which_edge() {
+    let board = Board::new();
+    let good = board.window(AT, 12);
+    let stats = |list: &EdgeList, refused: Refused| {
+        assert_eq!(match_stats(list, AT, board.patterns()), Err(refused));
+        only_the_refusal_of_stats(match_stats_raw(list, AT, board.patterns()), refused);
+    };
+    for (i, (reason, spoil)) in FIELDS.iter().enumerate() {
+        for position in PLACES {
+            let mut list = good.clone();
+            spoil(&mut list, position);
+            stats(&list, at(*reason, List::Only, position));
+            spoil(&mut list, 263);
+            stats(&list, at(*reason, List::Only, position));
+            for (_, also) in FIELDS[i + 1..].iter().filter(|(later, _)| later != reason) {
+                let mut list = list.clone();
+                also(&mut list, 0);
+                stats(&list, at(*reason, List::Only, position));
+            }
+        }
+    }
+    let counted: Result<MatchStats, Refused> = match_stats(&good, AT, board.patterns());
+    assert!(counted.is_ok());
 }
 
 // ---- the refusal type
@@ -626,27 +858,86 @@ fn refusals_have_numbers_and_words() {
     assert_eq!(Refusal::from_number(0), None);
 }
 
-/// A number above 15, which no archive of this wrapper's own gives: an `Err` of its own, whatever the other fields hold, and no panic.
+/// A number above 17, which no archive of this wrapper's own gives: an `Err` of its own, whatever the other fields hold, and no panic.
 #[test]
 fn an_unknown_number_is_refused() {
     let call = call();
     let found = call.hard_raw(&mut used_room());
     let fit = match_stats_raw(&call.physical, AT, call.patterns());
     assert!(decoded(found).is_ok() && counted(fit).is_ok());
-    for number in [16, 17, 255, 256, 1315, 0x8000_0000, u32::MAX] {
-        assert_eq!(decoded(raw::Answer { refusal: number, ..found }), Err(Refusal::Unknown(number)));
-        assert_eq!(counted(raw::Stats { refusal: number, ..fit }), Err(Refusal::Unknown(number)));
+    for number in [18, 19, 255, 256, 1315, 0x8000_0000, u32::MAX] {
+        assert_eq!(decoded(raw::Answer { refusal: number, ..found }), Err(nowhere(Refusal::Unknown(number))));
+        assert_eq!(counted(raw::Stats { refusal: number, ..fit }), Err(nowhere(Refusal::Unknown(number))));
         assert_eq!(Refusal::Unknown(number).number(), number);
         assert_eq!(Refusal::Unknown(number).to_string(), format!("refused ({number}): a number that this wrapper does not know"));
+    }
+}
+
+/// A list that no archive of this wrapper's own names is handed on by its number, and so is half a place: nothing is made up, and no panic.
+#[test]
+fn an_unknown_list_is_handed_on() {
+    let found = call().hard_raw(&mut used_room());
+    let refusal = 4;
+    for number in [0, 4, 255, 0x8000_0000, u32::MAX - 1] {
+        let refused = decoded(raw::Answer { refusal, list: number, position: 6, ..found }).unwrap_err();
+        assert_eq!(refused, at(Refusal::BadCoordinate, List::Unknown(number), 6));
+        assert!(refused
+            .to_string()
+            .ends_with(&format!("list {number}, which this wrapper does not know, edge 7 (counting from 1)")));
+    }
+    let half = decoded(raw::Answer { refusal, list: 1, position: NOTHING, ..found }).unwrap_err();
+    assert_eq!(half, at(Refusal::BadCoordinate, List::Logical, NOTHING as usize));
+    assert!(half.to_string().ends_with("logical list, edge 4294967296 (counting from 1)"));
+    let half = decoded(raw::Answer { refusal, list: NOTHING, position: 0, ..found }).unwrap_err();
+    assert_eq!(half, at(Refusal::BadCoordinate, List::Unknown(NOTHING), 0));
+    // a found answer is found, whatever stands there
+    assert_eq!(decoded(raw::Answer { list: 1, position: 2, ..found }), decoded(found));
+}
+
+/// A found answer is about no edge.
+#[test]
+fn a_found_answer_has_no_place() {
+    let call = call();
+    let fit = match_stats_raw(&call.physical, AT, call.patterns());
+    for place in [
+        [call.hard_raw(&mut used_room()).list, call.hard_raw(&mut used_room()).position],
+        [call.soft_raw(&mut used_room()).list, call.soft_raw(&mut used_room()).position],
+        [fit.list, fit.position],
+    ] {
+        assert_eq!(place, [NOTHING; 2]);
+    }
+}
+
+/// The words for people: the list by name and the edge counting from 1, where there is one.
+#[test]
+fn refusals_say_list_and_edge() {
+    let words = |refused: Refused| refused.to_string();
+    assert_eq!(
+        words(at(Refusal::BadCoordinate, List::Logical, 2)),
+        "refused (4): a row or column is beyond 1,000,000 either way: logical list, edge 3 (counting from 1)"
+    );
+    assert_eq!(
+        words(at(Refusal::BadBit, List::Physical, 0)),
+        "refused (17): a bit is not 0 or 1: physical list, edge 1 (counting from 1)"
+    );
+    assert_eq!(
+        words(at(Refusal::BadOrientation, List::Only, 8191)),
+        "refused (16): an orientation is not 0 or 1: only list, edge 8192 (counting from 1)"
+    );
+    for reason in Refusal::ALL {
+        assert_eq!(words(nowhere(reason)), reason.to_string());
+        assert_eq!(nowhere(reason).number(), reason.number());
     }
 }
 
 #[test]
 fn the_answers_have_the_header_s_fields_in_its_order() {
     use std::mem::{offset_of, size_of};
-    assert_eq!(size_of::<raw::Answer>(), 60);
+    assert_eq!(size_of::<raw::Answer>(), 68);
     let answer = [
         offset_of!(raw::Answer, refusal),
+        offset_of!(raw::Answer, list),
+        offset_of!(raw::Answer, position),
         offset_of!(raw::Answer, transform),
         offset_of!(raw::Answer, row),
         offset_of!(raw::Answer, col),
@@ -663,9 +954,11 @@ fn the_answers_have_the_header_s_fields_in_its_order() {
         offset_of!(raw::Answer, runner_up_col),
     ];
     assert!(answer.iter().enumerate().all(|(i, at)| *at == 4 * i), "{answer:?}");
-    assert_eq!(size_of::<raw::Stats>(), 20);
+    assert_eq!(size_of::<raw::Stats>(), 28);
     let stats = [
         offset_of!(raw::Stats, refusal),
+        offset_of!(raw::Stats, list),
+        offset_of!(raw::Stats, position),
         offset_of!(raw::Stats, edges),
         offset_of!(raw::Stats, hits),
         offset_of!(raw::Stats, error_rate),

@@ -1,6 +1,8 @@
 //! The three functions as another crate calls them, with the types that it sees.
 
-use samburext::{decode_hard, decode_soft, match_stats, Edge, EdgeList, Likelihoods, Patterns, Refusal, Room, Square};
+use samburext::{
+    decode_hard, decode_soft, match_stats, Edge, EdgeList, EdgePlace, Likelihoods, List, Patterns, Refusal, Refused, Room, Square,
+};
 
 /// Two tables in which no two windows are alike, from a small generator.
 fn tables() -> (Vec<u8>, Vec<u8>) {
@@ -45,10 +47,23 @@ fn found_and_refused() {
     let fit = match_stats(&list, square, patterns).expect("the square is on the board");
     assert_eq!((fit.edges, fit.hits), (200, 200));
 
-    let refused: Refusal = decode_hard(&list, &list, &[], patterns, 0.25, &mut room).unwrap_err();
-    assert_eq!((refused, refused.number()), (Refusal::BadTransform, 7));
+    let refused: Refused = decode_hard(&list, &list, &[], patterns, 0.25, &mut room).unwrap_err();
+    assert_eq!((refused.reason, refused.number(), refused.place), (Refusal::BadTransform, 7, None));
     let words: Box<dyn std::error::Error> =
         Box::new(decode_soft(&list, &list, &likelihoods, &[0], patterns, 0.25, -1.0, &mut room).unwrap_err());
     assert_eq!(words.to_string(), "refused (9): the error limit, the soft margin or the given origin is out of range");
-    assert_eq!(match_stats(&list, Square { row: 501, ..square }, patterns), Err(Refusal::BadSetting));
+    let off = match_stats(&list, Square { row: 501, ..square }, patterns);
+    assert_eq!(off, Err(Refused { reason: Refusal::BadSetting, place: None }));
+
+    let mut spoilt = list.clone();
+    spoilt.orientations[12] = 7;
+    let refused = decode_hard(&list, &spoilt, &[0], patterns, 0.25, &mut room).unwrap_err();
+    assert_eq!(
+        refused,
+        Refused { reason: Refusal::BadOrientation, place: Some(EdgePlace { list: List::Physical, position: 12 }) }
+    );
+    assert_eq!(refused.to_string(), "refused (16): an orientation is not 0 or 1: physical list, edge 13 (counting from 1)");
+    if let Some(place) = refused.place {
+        assert_eq!(spoilt.orientations[place.position], 7);
+    }
 }

@@ -1,6 +1,7 @@
 /* The header held against the static library. At compile time: its structs, numbers, room sizes and prototypes are the ones that are written
  * here. At run time: the library's answers, read word by word, stand where the header's fields are and hold what they must hold; it gives each
- * of the header's refusal numbers for the fault that the number names; and the header's lengths and ranges are where it changes its answer.
+ * of the header's refusal numbers for the fault that the number names, with the header's number of the list and the place of the edge where it is
+ * about one; and the header's lengths and ranges are where it changes its answer.
  * Says what differs and ends with status 1, or says how much was held. */
 #include "samburext.h"
 
@@ -9,35 +10,41 @@
 
 #define AT(type, field, place) _Static_assert(offsetof(type, field) == 4 * (place), #type "." #field)
 
-_Static_assert(sizeof(samburext_answer) == 60, "samburext_answer");
+_Static_assert(sizeof(samburext_answer) == 68, "samburext_answer");
 AT(samburext_answer, refusal, 0);
-AT(samburext_answer, transform, 1);
-AT(samburext_answer, row, 2);
-AT(samburext_answer, col, 3);
-AT(samburext_answer, hits, 4);
-AT(samburext_answer, edges, 5);
-AT(samburext_answer, weighted_score, 6);
-AT(samburext_answer, error_rate, 7);
-AT(samburext_answer, mean_confidence, 8);
-AT(samburext_answer, best_score, 9);
-AT(samburext_answer, runner_up_score, 10);
-AT(samburext_answer, margin, 11);
-AT(samburext_answer, runner_up_transform, 12);
-AT(samburext_answer, runner_up_row, 13);
-AT(samburext_answer, runner_up_col, 14);
+AT(samburext_answer, list, 1);
+AT(samburext_answer, position, 2);
+AT(samburext_answer, transform, 3);
+AT(samburext_answer, row, 4);
+AT(samburext_answer, col, 5);
+AT(samburext_answer, hits, 6);
+AT(samburext_answer, edges, 7);
+AT(samburext_answer, weighted_score, 8);
+AT(samburext_answer, error_rate, 9);
+AT(samburext_answer, mean_confidence, 10);
+AT(samburext_answer, best_score, 11);
+AT(samburext_answer, runner_up_score, 12);
+AT(samburext_answer, margin, 13);
+AT(samburext_answer, runner_up_transform, 14);
+AT(samburext_answer, runner_up_row, 15);
+AT(samburext_answer, runner_up_col, 16);
 
-_Static_assert(sizeof(samburext_stats) == 20, "samburext_stats");
+_Static_assert(sizeof(samburext_stats) == 28, "samburext_stats");
 AT(samburext_stats, refusal, 0);
-AT(samburext_stats, edges, 1);
-AT(samburext_stats, hits, 2);
-AT(samburext_stats, error_rate, 3);
-AT(samburext_stats, mean_confidence, 4);
+AT(samburext_stats, list, 1);
+AT(samburext_stats, position, 2);
+AT(samburext_stats, edges, 3);
+AT(samburext_stats, hits, 4);
+AT(samburext_stats, error_rate, 5);
+AT(samburext_stats, mean_confidence, 6);
 
 _Static_assert(SAMBUREXT_FOUND == 0, "found");
 _Static_assert(SAMBUREXT_ROOM_TOO_SHORT == 1, "1");
 _Static_assert(SAMBUREXT_LENGTHS_DIFFER == 2, "2");
 _Static_assert(SAMBUREXT_LIST_SIZE == 3, "3");
-_Static_assert(SAMBUREXT_EDGE_OUT_OF_RANGE == 4, "4");
+_Static_assert(SAMBUREXT_BAD_COORDINATE == 4, "4");
+_Static_assert(SAMBUREXT_BAD_ORIENTATION == 16, "16");
+_Static_assert(SAMBUREXT_BAD_BIT == 17, "17");
 _Static_assert(SAMBUREXT_BAD_CONFIDENCE == 5, "5");
 _Static_assert(SAMBUREXT_BAD_LIKELIHOOD == 6, "6");
 _Static_assert(SAMBUREXT_BAD_TRANSFORM == 7, "7");
@@ -49,6 +56,7 @@ _Static_assert(SAMBUREXT_LISTS_DISAGREE == 12, "12");
 _Static_assert(SAMBUREXT_NOT_FAR_AHEAD == 13, "13");
 _Static_assert(SAMBUREXT_SOFT_MARGIN == 14, "14");
 _Static_assert(SAMBUREXT_SOFT_HARD_DISAGREE == 15, "15");
+_Static_assert(SAMBUREXT_LOGICAL_LIST == 1 && SAMBUREXT_PHYSICAL_LIST == 2 && SAMBUREXT_ONLY_LIST == 3, "lists");
 _Static_assert(SAMBUREXT_NOTHING == UINT32_MAX, "what a refusal holds");
 _Static_assert(SAMBUREXT_ROOM_COUNTS == 3006 && SAMBUREXT_ROOM_WEIGHTS == 3006 && SAMBUREXT_ROOM_SUMS == 5010, "room");
 _Static_assert(SAMBUREXT_TABLE_LENGTH == 167 && SAMBUREXT_MAX_EDGES == 8192 && SAMBUREXT_MAX_TRANSFORMS == 8, "limits");
@@ -191,25 +199,31 @@ static void found(const samburext_answer *a, const list *of, float score, float 
     uint32_t w[sizeof *a / 4];
     memcpy(w, a, sizeof *a);
     uint32_t misses = of == &call.logical ? MISSES : 0, edges = (uint32_t)of->edges;
-    hold(w[0] == SAMBUREXT_FOUND && w[1] == 0 && w[2] == ROW && w[3] == COLUMN && w[4] == edges - misses && w[5] == edges, what);
-    hold(number(w[6]) == score && number(w[7]) == (float)misses / (float)edges && number(w[8]) == 0.75f && number(w[9]) == best, what);
-    samburext_stats next = run_stats(&call.logical, w[12], w[13], w[14]);
-    hold(next.refusal == SAMBUREXT_FOUND && (float)next.hits == number(w[10]) && next.hits < EDGES - MISSES, what);
-    hold(margin == 0 ? number(w[11]) >= 0.125f && number(w[11]) < 2.5f : number(w[11]) == margin - number(w[10]), what);
+    hold(w[0] == SAMBUREXT_FOUND && w[1] == SAMBUREXT_NOTHING && w[2] == SAMBUREXT_NOTHING, what);
+    hold(w[3] == 0 && w[4] == ROW && w[5] == COLUMN && w[6] == edges - misses && w[7] == edges, what);
+    hold(number(w[8]) == score && number(w[9]) == (float)misses / (float)edges && number(w[10]) == 0.75f && number(w[11]) == best, what);
+    samburext_stats next = run_stats(&call.logical, w[14], w[15], w[16]);
+    hold(next.refusal == SAMBUREXT_FOUND && (float)next.hits == number(w[12]) && next.hits < EDGES - MISSES, what);
+    hold(margin == 0 ? number(w[13]) >= 0.125f && number(w[13]) < 2.5f : number(w[13]) == margin - number(w[12]), what);
 }
 
-/* A refused answer of so many words: the number, and nothing else in any of them. */
-static int only(const void *answer, size_t size, uint32_t refusal)
+/* A refused answer of so many words: the number, the list and the position, and nothing else in any of them. */
+static int only(const void *answer, size_t size, uint32_t refusal, uint32_t list, uint32_t position)
 {
     uint32_t w[sizeof(samburext_answer) / 4];
     memcpy(w, answer, size);
-    int good = w[0] == refusal;
-    for (size_t i = 1; i < size / 4; i++) {
-        int whole = size == sizeof(samburext_stats) ? i < 3 : i < 6 || i > 11;
+    int good = w[0] == refusal && w[1] == list && w[2] == position;
+    for (size_t i = 3; i < size / 4; i++) {
+        int whole = size == sizeof(samburext_stats) ? i < 5 : i < 8 || i > 13;
         good = good && (whole ? w[i] == SAMBUREXT_NOTHING : number(w[i]) != number(w[i]));
     }
     return good;
 }
+
+/* The edge that the call's refusals are about: its list, as hard and soft decode have it, and its place there. */
+static uint32_t at_list = SAMBUREXT_NOTHING, at_position = SAMBUREXT_NOTHING;
+
+static void at(uint32_t list, uint32_t position) { at_list = list, at_position = position; }
 
 /* What the call as it stands must be: 0 or a refusal's number, by hard decode, by soft decode and by match statistics of the physical list;
  * OTHER where this does not matter. The call is made good again. */
@@ -219,9 +233,11 @@ static void expect(uint32_t by_hard, uint32_t by_soft, uint32_t by_stats, const 
 {
     samburext_answer h = run_hard(), s = run_soft();
     samburext_stats m = run_stats(&call.physical, call.transform, call.row, call.column);
-    hold(by_hard == OTHER || (by_hard == SAMBUREXT_FOUND ? h.refusal == 0 : only(&h, sizeof h, by_hard)), what);
-    hold(by_soft == OTHER || (by_soft == SAMBUREXT_FOUND ? s.refusal == 0 : only(&s, sizeof s, by_soft)), what);
-    hold(by_stats == OTHER || (by_stats == SAMBUREXT_FOUND ? m.refusal == 0 : only(&m, sizeof m, by_stats)), what);
+    uint32_t one = at_list == SAMBUREXT_NOTHING ? SAMBUREXT_NOTHING : (uint32_t)SAMBUREXT_ONLY_LIST;
+    hold(by_hard == OTHER || (by_hard == SAMBUREXT_FOUND ? h.refusal == 0 : only(&h, sizeof h, by_hard, at_list, at_position)), what);
+    hold(by_soft == OTHER || (by_soft == SAMBUREXT_FOUND ? s.refusal == 0 : only(&s, sizeof s, by_soft, at_list, at_position)), what);
+    hold(by_stats == OTHER || (by_stats == SAMBUREXT_FOUND ? m.refusal == 0 : only(&m, sizeof m, by_stats, one, at_position)), what);
+    at(SAMBUREXT_NOTHING, SAMBUREXT_NOTHING);
     fill_call();
 }
 
@@ -241,6 +257,35 @@ static void long_lists(size_t edges)
     call.soft_margin = 0; /* one edge again and again leaves little of it */
 }
 
+/* One bad edge of each kind, at a place of the logical list and of the physical one. Statistics are of the physical list. */
+static void bad_edges(uint32_t i)
+{
+    for (uint32_t l = SAMBUREXT_LOGICAL_LIST; l <= SAMBUREXT_PHYSICAL_LIST; l++) {
+        list *of = l == SAMBUREXT_LOGICAL_LIST ? &call.logical : &call.physical;
+        void (*bad)(uint32_t, const char *) = l == SAMBUREXT_LOGICAL_LIST ? both : all;
+        at(l, i), of->rows[i] = 1000001, bad(SAMBUREXT_BAD_COORDINATE, "a row");
+        at(l, i), of->columns[i] = -1000001, bad(SAMBUREXT_BAD_COORDINATE, "a column");
+        at(l, i), of->orientations[i] = 2, bad(SAMBUREXT_BAD_ORIENTATION, "an orientation");
+        at(l, i), of->bits[i] = 2, bad(SAMBUREXT_BAD_BIT, "a bit");
+        at(l, i), of->confidences[i] = 1.5f, bad(SAMBUREXT_BAD_CONFIDENCE, "a confidence");
+    }
+    at(SAMBUREXT_PHYSICAL_LIST, i), call.matches[i] = 65537;
+    expect(SAMBUREXT_FOUND, SAMBUREXT_BAD_LIKELIHOOD, SAMBUREXT_FOUND, "a likelihood");
+    at(SAMBUREXT_PHYSICAL_LIST, i), call.mismatches[i] = -65537;
+    expect(SAMBUREXT_FOUND, SAMBUREXT_BAD_LIKELIHOOD, SAMBUREXT_FOUND, "a mismatch likelihood");
+}
+
+/* The order of the refusals: a physical edge that is bad in each of two ways, and a logical edge that is bad in the later one. */
+static void orders(void)
+{
+    list *l = &call.logical, *p = &call.physical;
+    at(SAMBUREXT_PHYSICAL_LIST, 9), p->rows[9] = 1000001, p->orientations[3] = l->orientations[2] = 2, all(SAMBUREXT_BAD_COORDINATE, "4 before 16");
+    at(SAMBUREXT_PHYSICAL_LIST, 9), p->orientations[9] = 2, p->bits[3] = l->bits[2] = 2, all(SAMBUREXT_BAD_ORIENTATION, "16 before 17");
+    at(SAMBUREXT_PHYSICAL_LIST, 9), p->bits[9] = 2, p->confidences[3] = l->confidences[2] = 2, all(SAMBUREXT_BAD_BIT, "17 before 5");
+    at(SAMBUREXT_PHYSICAL_LIST, 3), p->bits[9] = p->bits[3] = 2, all(SAMBUREXT_BAD_BIT, "the first of two");
+    at(SAMBUREXT_LOGICAL_LIST, 9), l->bits[9] = p->bits[3] = 2, both(SAMBUREXT_BAD_BIT, "the logical list first");
+}
+
 int main(void)
 {
     fill_call();
@@ -251,7 +296,8 @@ int main(void)
     samburext_stats m = run_stats(&call.logical, 0, ROW, COLUMN);
     uint32_t w[sizeof m / 4];
     memcpy(w, &m, sizeof m);
-    hold(w[0] == 0 && w[1] == EDGES && w[2] == EDGES - MISSES && number(w[3]) == (float)MISSES / EDGES && number(w[4]) == 0.75f, "statistics");
+    hold(w[0] == 0 && w[1] == SAMBUREXT_NOTHING && w[2] == SAMBUREXT_NOTHING && w[3] == EDGES && w[4] == EDGES - MISSES, "statistics");
+    hold(number(w[5]) == (float)MISSES / EDGES && number(w[6]) == 0.75f, "statistics");
     all(SAMBUREXT_FOUND, "a call that is taken");
 
     call.counts_length--, both(SAMBUREXT_ROOM_TOO_SHORT, "SAMBUREXT_ROOM_COUNTS");
@@ -261,13 +307,10 @@ int main(void)
     call.logical.edges = 0, both(SAMBUREXT_LIST_SIZE, "an empty list");
     long_lists(SAMBUREXT_MAX_EDGES), all(SAMBUREXT_FOUND, "SAMBUREXT_MAX_EDGES");
     long_lists(SAMBUREXT_MAX_EDGES + 1), all(SAMBUREXT_LIST_SIZE, "SAMBUREXT_MAX_EDGES and one");
-    call.physical.rows[0] = 1000001, all(SAMBUREXT_EDGE_OUT_OF_RANGE, "a row");
-    call.physical.columns[0] = -1000001, all(SAMBUREXT_EDGE_OUT_OF_RANGE, "a column");
-    call.physical.orientations[0] = 2, all(SAMBUREXT_EDGE_OUT_OF_RANGE, "an orientation");
-    call.physical.bits[0] = 2, all(SAMBUREXT_EDGE_OUT_OF_RANGE, "a bit");
-    call.physical.confidences[0] = 1.5f, all(SAMBUREXT_BAD_CONFIDENCE, "a confidence");
-    call.matches[0] = 65537, expect(SAMBUREXT_FOUND, SAMBUREXT_BAD_LIKELIHOOD, SAMBUREXT_FOUND, "a likelihood");
-    call.mismatches[0] = -65537, expect(SAMBUREXT_FOUND, SAMBUREXT_BAD_LIKELIHOOD, SAMBUREXT_FOUND, "a mismatch likelihood");
+    bad_edges(0);
+    bad_edges(100);
+    bad_edges(FEWER - 1);
+    orders();
     call.transforms_length++, both(SAMBUREXT_BAD_TRANSFORM, "SAMBUREXT_MAX_TRANSFORMS");
     call.transform = 8, expect(SAMBUREXT_FOUND, SAMBUREXT_FOUND, SAMBUREXT_BAD_TRANSFORM, "a transform");
     call.horizontal_length++, all(SAMBUREXT_BAD_TABLE, "SAMBUREXT_TABLE_LENGTH, horizontal");

@@ -3,7 +3,7 @@
 //! First the number of entries. Then each entry: its kind and what it holds.
 //! - 0: two pattern tables, horizontal then vertical, each a length and its entries, for all calls that follow.
 //! - 1 hard decode, 2 soft decode, 3 match statistics of the physical list, 4 hard selection on the logical list before the gate:
-//!   a call (see `Call`), then the answer's 15 words.
+//!   a call (see `Call`), then the answer's 17 words.
 
 use crate::{Case, Edge, Found, Selected, Square, Stats};
 
@@ -16,9 +16,15 @@ pub const SELECTION: u32 = 4;
 /// What no answer holds: it stands in every place that a refusal, or a kind of call, leaves empty.
 pub const EMPTY: u32 = u32::MAX;
 
+/// The lists by number, as the C header has them: match statistics have the only one, and selection before the gate the logical one.
+pub const LOGICAL: u32 = 1;
+pub const PHYSICAL: u32 = 2;
+pub const ONLY: u32 = 3;
+
 /// The answer's words: 0 or the refusal's number, transform, row, column, hits, edges, weighted score, rate, mean, best score,
-/// runner-up's score (before the gate: its hits), margin, and the runner-up's transform, row and column.
-pub type Words = [u32; 15];
+/// runner-up's score (before the gate: its hits), margin, the runner-up's transform, row and column, and the list and the position (from 0) of the edge
+/// that a refusal is about.
+pub type Words = [u32; 17];
 
 fn square(words: &mut Words, at: usize, s: &Square) {
     words[at] = s.transform;
@@ -27,13 +33,24 @@ fn square(words: &mut Words, at: usize, s: &Square) {
 }
 
 pub fn refused(number: u32) -> Words {
-    let mut words = [EMPTY; 15];
+    let mut words = [EMPTY; 17];
     words[0] = number;
     words
 }
 
+/// A refusal that is about an edge.
+pub fn refused_at(number: u32, list: u32, position: u32) -> Words {
+    let mut words = refused(number);
+    words[15] = list;
+    words[16] = position;
+    words
+}
+
+/// The early refusals in the order in which they are given. The Rust has none of them.
+pub const EARLY: [u32; 11] = [1, 2, 3, 4, 16, 17, 5, 6, 7, 8, 9];
+
 pub fn found(f: &Found) -> Words {
-    let mut words = [0; 15];
+    let mut words = refused(0);
     square(&mut words, 1, &f.square);
     words[4] = f.hits;
     words[5] = f.edges;

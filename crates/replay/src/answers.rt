@@ -1,25 +1,40 @@
-// An answer as fifteen words: 0 or the refusal's number, transform, row, column, hits, edges, weighted score, rate, mean, best score, the runner-up's score (before
-// the gate: its hits), margin, and the runner-up's transform, row and column. A place that an answer leaves empty holds 0xffffffff.
+// An answer as seventeen words: 0 or the refusal's number, transform, row, column, hits, edges, weighted score, rate, mean, best score, the runner-up's score (before
+// the gate: its hits), margin, the runner-up's transform, row and column, and the list and the position of the edge that a refusal is about. A place that an answer
+// leaves empty holds 0xffffffff.
 use answer::Answer;
 use answer::Decoded;
 use answer::StatsAnswer;
 use console::print::bits_of;
+use flat::flat::NOTHING;
+use flat::flat::list_of;
+use flat::flat::position_of;
 use hard::select::Selection;
+use refusals::Refusal;
 use scan::scan::Candidate;
 use scan::scan::RunnerUp;
 
 // The place of the number in an answer that is no refusal.
 const NOT_REFUSED: u32 = 0;
 
-// A refusal: its number, and nothing else.
-fn refused(number: u32) -> [u32; 15] {
-    let mut words = [4294967295u32; 15];
-    words[0] = number;
+// No refusal, and nothing else yet.
+fn empty() -> [u32; 17] {
+    let mut words = [NOTHING; 17];
+    words[0] = NOT_REFUSED;
+    words
+}
+
+// A refusal: its number and its place, and nothing else.
+fn refused(refusal: Refusal) -> [u32; 17] {
+    let place = refusal.place;
+    let mut words = [NOTHING; 17];
+    words[0] = refusal.number;
+    words[15] = list_of(place);
+    words[16] = position_of(place);
     words
 }
 
 // What a found answer holds.
-fn found(d: Decoded) -> [u32; 15] {
+fn found(d: Decoded) -> [u32; 17] {
     [
         NOT_REFUSED,
         d.square.transform as u32,
@@ -36,29 +51,31 @@ fn found(d: Decoded) -> [u32; 15] {
         d.runner_up.transform as u32,
         d.runner_up.row,
         d.runner_up.col,
+        NOTHING,
+        NOTHING,
     ]
 }
 
 // Hard or soft decode.
-pub(crate) fn words_of(a: Answer) -> [u32; 15] {
+pub(crate) fn words_of(a: Answer) -> [u32; 17] {
     match a {
         Answer::Found(d) => found(d),
-        Answer::Refused(r) => refused(r.number),
+        Answer::Refused(r) => refused(r),
     }
 }
 
 // Match statistics.
-pub(crate) fn words_of_stats(a: StatsAnswer) -> [u32; 15] {
+pub(crate) fn words_of_stats(a: StatsAnswer) -> [u32; 17] {
     match a {
         StatsAnswer::Counted(m) => {
-            let mut words = refused(NOT_REFUSED);
+            let mut words = empty();
             words[4] = m.hits;
             words[5] = m.edges;
             words[7] = bits_of(m.error_rate);
             words[8] = bits_of(m.mean_confidence);
             words
         }
-        StatsAnswer::Refused(r) => refused(r.number),
+        StatsAnswer::Refused(r) => refused(r),
     }
 }
 
@@ -83,8 +100,8 @@ fn mean(hits: u32, weight: f32) -> f32 {
 
 // A winner under its transform, with its runner-up, of a list of so many edges. A tie inside the winner's transform is a runner-up whose place never shows, for the gate
 // refuses: its row and column are left empty.
-fn selected(transform: u8, w: Candidate, next: RunnerUp, edges: u32) -> [u32; 15] {
-    let mut words = refused(NOT_REFUSED);
+fn selected(transform: u8, w: Candidate, next: RunnerUp, edges: u32) -> [u32; 17] {
+    let mut words = empty();
     words[1] = transform as u32;
     words[2] = w.placing.row;
     words[3] = w.placing.col;
@@ -112,11 +129,11 @@ fn listed(transforms: &[u8], place: usize) -> u8 {
 }
 
 // Selection before the gate.
-pub(crate) fn words_of_selection(s: Selection, transforms: &[u8], edges: u32) -> [u32; 15] {
+pub(crate) fn words_of_selection(s: Selection, transforms: &[u8], edges: u32) -> [u32; 17] {
     match s {
         Selection::Selected(w, next) => {
             selected(listed(transforms, w.placing.listed), w, next, edges)
         }
-        Selection::Refused(r) => refused(r.number),
+        Selection::Refused(r) => refused(r),
     }
 }

@@ -64,7 +64,7 @@ pub(crate) fn call<'a>(
     n: Lengths,
     s: Settings,
     room: Room,
-) -> [u32; 15] {
+) -> [u32; 17] {
     let mut counts = [7u32; 3010];
     let mut weights = [7.0f32; 3010];
     let mut sums = [7i64; 5014];

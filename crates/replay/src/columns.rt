@@ -106,17 +106,17 @@ pub(crate) fn read_list(
     Listed { sizes, next }
 }
 
-// The fifteen words of an answer, and where the next word stands.
+// The seventeen words of an answer, and where the next word stands.
 pub struct Expected {
-    pub words: [u32; 15],
+    pub words: [u32; 17],
     pub next: Cursor,
 }
 
 // An answer.
 pub(crate) fn read_answer(buf: &mut [u8; 65536], c: Cursor) -> Expected {
-    let mut words = [0u32; 15];
+    let mut words = [0u32; 17];
     let mut next = c;
-    for i in 0..15 {
+    for i in 0..17 {
         let w = next_word(buf, next);
         next = w.next;
         words[i] = w.value;

@@ -2,7 +2,7 @@
 // Of each it writes how many cases there are by kind and by refusal number, every difference, and how many there were. What it writes is held to the file `stdout`.
 mod words; // words of a file, as numbers, coordinates and floats
 mod columns; // columns of words
-mod answers; // an answer as fifteen words
+mod answers; // an answer as seventeen words
 mod selection; // selection before the gate
 mod calls; // one call of the library
 mod tally; // what was compared, and what differs

@@ -1,4 +1,4 @@
-// What was compared, and what differs. A tally has sixteen places for each kind (place 16 · kind + refusal number, 0 for found), the first sixteen of them for sums:
+// What was compared, and what differs. A tally has eighteen places for each kind (place 18 · kind + refusal number, 0 for found), the first eighteen of them for sums:
 // 0 cases, 1 cases that differ, 2 cases in which the Rust does not tell 13 from 15.
 use console::form::put_line;
 use console::form::put_wholes;
@@ -21,8 +21,8 @@ fn put_field(page: &mut [u8; 32768], at: usize, i: usize) -> usize {
         page,
         at,
         b"refusal\ntransform\nrow\ncolumn\nhits\nedges\nweighted score\nrate\nmean\nbest score\nrunner-up's score\nmargin\n\
-        runner-up's transform\nrunner-up's row\nrunner-up's column",
-        (i % 15) as u32,
+        runner-up's transform\nrunner-up's row\nrunner-up's column\nlist\nposition",
+        (i % 17) as u32,
     )
 }
 
@@ -41,9 +41,9 @@ fn print_difference(at: u32, i: usize, theirs: u32, ours: u32) {
 }
 
 // Whether no word differs; each that does is written.
-fn same_words(at: u32, theirs: [u32; 15], ours: [u32; 15]) -> bool {
+fn same_words(at: u32, theirs: [u32; 17], ours: [u32; 17]) -> bool {
     let mut same = true;
-    for i in 0..15 {
+    for i in 0..17 {
         if theirs[i] != ours[i] {
             print_difference(at, i, theirs[i], ours[i]);
             same = false;
@@ -65,8 +65,8 @@ fn settled(theirs: u32, ours: u32) -> u32 {
 // The place of a kind and a refusal number; 95 where there is none.
 fn place_of(kind: u32, number: u32) -> usize {
     if kind < 5 {
-        if number < 16 {
-            return (kind * 16 + number) as usize;
+        if number < 18 {
+            return (kind * 18 + number) as usize;
         }
     }
     95
@@ -76,8 +76,8 @@ fn place_of(kind: u32, number: u32) -> usize {
 pub(crate) fn compare(
     at: u32,
     kind: u32,
-    theirs: [u32; 15],
-    ours: [u32; 15],
+    theirs: [u32; 17],
+    ours: [u32; 17],
     tally: &mut [u32; 96],
 ) {
     let mut stored = theirs;
@@ -117,7 +117,7 @@ fn show_kind(tally: &[u32; 96], kind: u32) {
     );
     let found = [count_at(tally, place_of(kind, 0))];
     let mut n = put_wholes(&mut page, n, b": % found", &found);
-    for number in 1..16u32 {
+    for number in 1..18u32 {
         n = put_refused(
             &mut page,
             n,

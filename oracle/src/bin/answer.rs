@@ -1,6 +1,6 @@
 //! answer IN OUT [votes]: reads the cases of a file and writes them again with the Rust's answers; with `votes` also with the logical list
-//! that the Rust's consensus votes from the physical one. Calls that are stored with a refusal from 1 to 9 are no calls of the Rust's, and
-//! stay as they are. Prints how many answers are not the ones that were stored.
+//! that the Rust's consensus votes from the physical one. Calls that are stored with an early refusal (1 to 9, 16 or 17) are no calls of the Rust's,
+//! and stay as they are. Prints how many answers are not the ones that were stored.
 
 use oracle::file::{self, Call, Columns, Entry, File, Words};
 use oracle::{Case, Likelihood, Soft, Square};
@@ -36,7 +36,7 @@ fn main() {
                 map = (0..oracle::maps::PAIRS).find(|&n| oracle::patterns(n) == (h.clone(), v.clone()));
                 out.tables(&h, &v);
             }
-            Entry::Call(call, stored) if (1..=9).contains(&stored[0]) => out.call(&call, &stored),
+            Entry::Call(call, stored) if file::EARLY.contains(&stored[0]) => out.call(&call, &stored),
             Entry::Call(mut call, stored) => {
                 if votes {
                     call.logical = Columns::of(&oracle::votes(&call.physical.edges()));

@@ -1,5 +1,5 @@
-//! rules FILE WRONG: cases of our own for refusals 1 to 9, whose answers are document 01's and not the Rust's; and a file whose
-//! answers are wrong on purpose, by which `replay` shows that it reports every word that differs.
+//! rules FILE WRONG: cases of our own for refusals 1 to 9, 16 and 17, whose answers are document 01's and request C-11's and not the Rust's; and a file
+//! whose answers are wrong on purpose, by which `replay` shows that it reports every word that differs.
 //!
 //! rules FILE: further cases of that kind, which are not stored; `oracle/compare` makes and replays them each time.
 
@@ -34,36 +34,67 @@ fn call(kind: u32, case: &Case) -> Call {
     Call::of(kind, case, &oracle::likelihoods(case), &AT)
 }
 
-/// A way to break a call, and the number that document 01 gives it.
-type Fault = (u32, &'static str, fn(&mut Call));
+/// A refusal: its number, and the list and the position of the edge that it is about.
+type Refusal = (u32, Option<(u32, u32)>);
+
+/// A way to break a call, its name, and the refusal that document 01 and C-11 give it.
+type Fault = (Refusal, &'static str, fn(&mut Call));
+
+/// A refusal's words.
+fn refused(refusal: Refusal) -> Words {
+    match refusal {
+        (number, None) => file::refused(number),
+        (number, Some((list, position))) => file::refused_at(number, list, position),
+    }
+}
+
+/// The place of an early refusal in their order.
+fn rank(refusal: Refusal) -> usize {
+    file::EARLY.iter().position(|&n| n == refusal.0).expect("an early refusal")
+}
+
+/// The number of the physical list: match statistics have no other.
+fn physical_of(kind: u32) -> u32 {
+    if kind == file::STATS {
+        file::ONLY
+    } else {
+        file::PHYSICAL
+    }
+}
+
+/// The place of a bad likelihood: they belong to the physical list.
+fn unlikely(position: u32) -> Option<(u32, u32)> {
+    Some((file::PHYSICAL, position))
+}
 
 fn short(column: &mut Vec<u32>) {
     column.pop();
 }
 
-/// Faults of a list, for whichever list the kind takes.
+/// Faults of a list, for whichever list the kind takes, by the list's number.
 macro_rules! list_faults {
-    ($out:ident, $list:ident) => {
+    ($out:ident, $list:ident, $number:expr) => {
+        let at = |position| Some(($number, position));
         $out.extend([
-            (2, "rows", (|c: &mut Call| short(&mut c.$list.rows)) as fn(&mut Call)),
-            (2, "columns", |c| short(&mut c.$list.cols)),
-            (2, "orientations", |c| short(&mut c.$list.orientations)),
-            (2, "bits", |c| short(&mut c.$list.bits)),
-            (2, "confidences", |c| short(&mut c.$list.confidences)),
-            (2, "one more", |c| c.$list.bits.push(0)),
-            (4, "row above", |c| c.$list.rows[1] = 1_000_001),
-            (4, "row below", |c| c.$list.rows[0] = -1_000_001i32 as u32),
-            (4, "column above", |c| c.$list.cols[2] = i32::MAX as u32),
-            (4, "column below", |c| c.$list.cols[0] = i32::MIN as u32),
-            (4, "orientation 2", |c| c.$list.orientations[0] = 2),
-            (4, "orientation 255", |c| c.$list.orientations[3] = 255),
-            (4, "bit 2", |c| c.$list.bits[0] = 2),
-            (4, "bit 255", |c| c.$list.bits[1] = 255),
-            (5, "NaN", |c| c.$list.confidences[0] = NAN),
-            (5, "least below 0", |c| c.$list.confidences[1] = SIGN + 1),
-            (5, "next above 1", |c| c.$list.confidences[0] = ONE + 1),
-            (5, "infinite", |c| c.$list.confidences[2] = INFINITY),
-            (5, "minus infinite", |c| c.$list.confidences[2] = SIGN + INFINITY),
+            ((2, None), "rows", (|c: &mut Call| short(&mut c.$list.rows)) as fn(&mut Call)),
+            ((2, None), "columns", |c| short(&mut c.$list.cols)),
+            ((2, None), "orientations", |c| short(&mut c.$list.orientations)),
+            ((2, None), "bits", |c| short(&mut c.$list.bits)),
+            ((2, None), "confidences", |c| short(&mut c.$list.confidences)),
+            ((2, None), "one more", |c| c.$list.bits.push(0)),
+            ((4, at(1)), "row above", |c| c.$list.rows[1] = 1_000_001),
+            ((4, at(0)), "row below", |c| c.$list.rows[0] = -1_000_001i32 as u32),
+            ((4, at(2)), "column above", |c| c.$list.cols[2] = i32::MAX as u32),
+            ((4, at(0)), "column below", |c| c.$list.cols[0] = i32::MIN as u32),
+            ((16, at(0)), "orientation 2", |c| c.$list.orientations[0] = 2),
+            ((16, at(3)), "orientation 255", |c| c.$list.orientations[3] = 255),
+            ((17, at(0)), "bit 2", |c| c.$list.bits[0] = 2),
+            ((17, at(1)), "bit 255", |c| c.$list.bits[1] = 255),
+            ((5, at(0)), "NaN", |c| c.$list.confidences[0] = NAN),
+            ((5, at(1)), "least below 0", |c| c.$list.confidences[1] = SIGN + 1),
+            ((5, at(0)), "next above 1", |c| c.$list.confidences[0] = ONE + 1),
+            ((5, at(2)), "infinite", |c| c.$list.confidences[2] = INFINITY),
+            ((5, at(2)), "minus infinite", |c| c.$list.confidences[2] = SIGN + INFINITY),
         ]);
     };
 }
@@ -72,31 +103,31 @@ macro_rules! list_faults {
 fn faults(kind: u32) -> Vec<Fault> {
     let mut out: Vec<Fault> = Vec::new();
     if kind != file::STATS {
-        list_faults!(out, logical);
+        list_faults!(out, logical, file::LOGICAL);
         out.extend([
-            (1, "u32 room", (|c: &mut Call| c.room[0] = 3005) as fn(&mut Call)),
-            (1, "f32 room", |c| c.room[1] = 3005),
-            (1, "no room", |c| c.room = [0; 3]),
-            (3, "empty", |c| c.logical = Columns::default()),
-            (7, "none", |c| c.transforms.clear()),
-            (7, "nine", |c| c.transforms = vec![0; 9]),
-            (7, "number 8", |c| c.transforms[1] = 8),
-            (9, "limit NaN", |c| c.limit = NAN),
-            (9, "limit below 0", |c| c.limit = SIGN + 1),
-            (9, "limit above 1", |c| c.limit = ONE + 1),
+            ((1, None), "u32 room", (|c: &mut Call| c.room[0] = 3005) as fn(&mut Call)),
+            ((1, None), "f32 room", |c| c.room[1] = 3005),
+            ((1, None), "no room", |c| c.room = [0; 3]),
+            ((3, None), "empty", |c| c.logical = Columns::default()),
+            ((7, None), "none", |c| c.transforms.clear()),
+            ((7, None), "nine", |c| c.transforms = vec![0; 9]),
+            ((7, None), "number 8", |c| c.transforms[1] = 8),
+            ((9, None), "limit NaN", |c| c.limit = NAN),
+            ((9, None), "limit below 0", |c| c.limit = SIGN + 1),
+            ((9, None), "limit above 1", |c| c.limit = ONE + 1),
         ]);
     } else {
         out.extend([
-            (7, "number 8", (|c: &mut Call| c.at[0] = 8) as fn(&mut Call)),
-            (9, "row 501", |c| c.at[1] = 501),
-            (9, "column 501", |c| c.at[2] = 501),
+            ((7, None), "number 8", (|c: &mut Call| c.at[0] = 8) as fn(&mut Call)),
+            ((9, None), "row 501", |c| c.at[1] = 501),
+            ((9, None), "column 501", |c| c.at[2] = 501),
         ]);
     }
     if kind != file::SELECTION {
-        list_faults!(out, physical);
+        list_faults!(out, physical, physical_of(kind));
     }
     if kind == file::HARD || kind == file::SOFT {
-        out.push((3, "empty", |c| {
+        out.push(((3, None), "empty", |c| {
             c.physical = Columns::default();
             c.matches.clear();
             c.mismatches.clear();
@@ -104,18 +135,18 @@ fn faults(kind: u32) -> Vec<Fault> {
     }
     if kind == file::SOFT {
         out.extend([
-            (1, "i64 room", (|c: &mut Call| c.room[2] = 5009) as fn(&mut Call)),
-            (2, "matches", |c| short(&mut c.matches)),
-            (2, "mismatches", |c| short(&mut c.mismatches)),
-            (6, "match NaN", |c| c.matches[0] = NAN),
-            (6, "mismatch NaN", |c| c.mismatches[1] = NAN),
-            (6, "infinite", |c| c.matches[2] = INFINITY),
-            (6, "minus infinite", |c| c.mismatches[0] = SIGN + INFINITY),
-            (6, "next above 65,536", |c| c.matches[1] = TOP + 1),
-            (6, "next below -65,536", |c| c.mismatches[1] = SIGN + TOP + 1),
-            (9, "margin NaN", |c| c.margin = NAN),
-            (9, "margin below 0", |c| c.margin = SIGN + 1),
-            (9, "margin above 65,536", |c| c.margin = TOP + 1),
+            ((1, None), "i64 room", (|c: &mut Call| c.room[2] = 5009) as fn(&mut Call)),
+            ((2, None), "matches", |c| short(&mut c.matches)),
+            ((2, None), "mismatches", |c| short(&mut c.mismatches)),
+            ((6, unlikely(0)), "match NaN", |c| c.matches[0] = NAN),
+            ((6, unlikely(1)), "mismatch NaN", |c| c.mismatches[1] = NAN),
+            ((6, unlikely(2)), "infinite", |c| c.matches[2] = INFINITY),
+            ((6, unlikely(0)), "minus infinite", |c| c.mismatches[0] = SIGN + INFINITY),
+            ((6, unlikely(1)), "next above 65,536", |c| c.matches[1] = TOP + 1),
+            ((6, unlikely(1)), "next below -65,536", |c| c.mismatches[1] = SIGN + TOP + 1),
+            ((9, None), "margin NaN", |c| c.margin = NAN),
+            ((9, None), "margin below 0", |c| c.margin = SIGN + 1),
+            ((9, None), "margin above 65,536", |c| c.margin = TOP + 1),
         ]);
     }
     out
@@ -126,29 +157,29 @@ fn further_faults(kind: u32) -> Vec<Fault> {
     let mut out: Vec<Fault> = Vec::new();
     if kind == file::STATS {
         out.extend([
-            (7, "number 255", (|c: &mut Call| c.at[0] = 255) as fn(&mut Call)),
-            (9, "row 65,536", |c| c.at[1] = 65536),
-            (9, "row -1", |c| c.at[1] = u32::MAX),
-            (9, "column -1", |c| c.at[2] = u32::MAX),
+            ((7, None), "number 255", (|c: &mut Call| c.at[0] = 255) as fn(&mut Call)),
+            ((9, None), "row 65,536", |c| c.at[1] = 65536),
+            ((9, None), "row -1", |c| c.at[1] = u32::MAX),
+            ((9, None), "column -1", |c| c.at[2] = u32::MAX),
         ]);
     } else {
         out.extend([
-            (7, "number 255", (|c: &mut Call| c.transforms[0] = 255) as fn(&mut Call)),
-            (9, "limit infinite", |c| c.limit = INFINITY),
-            (9, "limit minus infinite", |c| c.limit = SIGN + INFINITY),
-            (9, "limit -NaN", |c| c.limit = SIGN + NAN),
+            ((7, None), "number 255", (|c: &mut Call| c.transforms[0] = 255) as fn(&mut Call)),
+            ((9, None), "limit infinite", |c| c.limit = INFINITY),
+            ((9, None), "limit minus infinite", |c| c.limit = SIGN + INFINITY),
+            ((9, None), "limit -NaN", |c| c.limit = SIGN + NAN),
         ]);
     }
     if kind == file::SOFT {
         out.extend([
-            (6, "match next below -65,536", (|c: &mut Call| c.matches[0] = SIGN + TOP + 1) as fn(&mut Call)),
-            (6, "mismatch next above 65,536", |c| c.mismatches[0] = TOP + 1),
-            (6, "match minus infinite", |c| c.matches[1] = SIGN + INFINITY),
-            (6, "mismatch infinite", |c| c.mismatches[1] = INFINITY),
-            (6, "match -NaN", |c| c.matches[2] = SIGN + NAN),
-            (6, "mismatch signalling", |c| c.mismatches[2] = INFINITY + 1),
-            (9, "margin infinite", |c| c.margin = INFINITY),
-            (9, "margin minus infinite", |c| c.margin = SIGN + INFINITY),
+            ((6, unlikely(0)), "match next below -65,536", (|c: &mut Call| c.matches[0] = SIGN + TOP + 1) as fn(&mut Call)),
+            ((6, unlikely(0)), "mismatch next above 65,536", |c| c.mismatches[0] = TOP + 1),
+            ((6, unlikely(1)), "match minus infinite", |c| c.matches[1] = SIGN + INFINITY),
+            ((6, unlikely(1)), "mismatch infinite", |c| c.mismatches[1] = INFINITY),
+            ((6, unlikely(2)), "match -NaN", |c| c.matches[2] = SIGN + NAN),
+            ((6, unlikely(2)), "mismatch signalling", |c| c.mismatches[2] = INFINITY + 1),
+            ((9, None), "margin infinite", |c| c.margin = INFINITY),
+            ((9, None), "margin minus infinite", |c| c.margin = SIGN + INFINITY),
         ]);
     }
     out
@@ -156,21 +187,98 @@ fn further_faults(kind: u32) -> Vec<Fault> {
 
 const KINDS: [u32; 4] = [file::HARD, file::SOFT, file::STATS, file::SELECTION];
 
-/// Each fault alone, then each with the next of a higher number: the lower one is given.
+/// Each fault alone, then each with the next that comes later in the order of the refusals: the earlier one is given.
 fn faulty(file: &mut File, case: &Case) {
     for kind in KINDS {
         let all = faults(kind);
-        for (i, (number, _, bend)) in all.iter().enumerate() {
+        for (i, (refusal, _, bend)) in all.iter().enumerate() {
             let mut one = call(kind, case);
             bend(&mut one);
-            file.call(&one, &file::refused(*number));
-            let higher = all.iter().cycle().skip(i + 1).take(all.len()).find(|f| f.0 > *number && f.0 != 3);
-            if let Some((_, _, also)) = higher {
+            file.call(&one, &refused(*refusal));
+            let later = all.iter().cycle().skip(i + 1).take(all.len()).find(|f| rank(f.0) > rank(*refusal) && f.0 .0 != 3);
+            if let Some((_, _, also)) = later {
                 let mut two = call(kind, case);
                 also(&mut two);
                 bend(&mut two);
-                file.call(&two, &file::refused(*number));
+                file.call(&two, &refused(*refusal));
             }
+        }
+    }
+}
+
+/// A way in which one edge of a list is bad, with its number; the list's number says which list of the call.
+type Bad = (u32, fn(&mut Call, u32, usize));
+
+fn list_of(call: &mut Call, list: u32) -> &mut Columns {
+    if list == file::LOGICAL {
+        &mut call.logical
+    } else {
+        &mut call.physical
+    }
+}
+
+/// The ways in which an edge is bad, in the order of the refusals.
+const BAD: [Bad; 7] = [
+    (4, |c, l, i| list_of(c, l).rows[i] = 1_000_001),
+    (4, |c, l, i| list_of(c, l).cols[i] = -1_000_001i32 as u32),
+    (16, |c, l, i| list_of(c, l).orientations[i] = 2),
+    (17, |c, l, i| list_of(c, l).bits[i] = 2),
+    (5, |c, l, i| list_of(c, l).confidences[i] = ONE + 1),
+    (6, |c, _, i| c.matches[i] = TOP + 1),
+    (6, |c, _, i| c.mismatches[i] = SIGN + TOP + 1),
+];
+
+/// The lists of a kind of call, and the ways in which an edge of that list can be bad.
+fn lists(kind: u32) -> Vec<(u32, &'static [Bad])> {
+    match kind {
+        file::HARD => vec![(file::LOGICAL, &BAD[..5]), (file::PHYSICAL, &BAD[..5])],
+        file::SOFT => vec![(file::LOGICAL, &BAD[..5]), (file::PHYSICAL, &BAD)],
+        file::STATS => vec![(file::ONLY, &BAD[..5])],
+        _ => vec![(file::LOGICAL, &BAD[..5])],
+    }
+}
+
+/// Which edge. Alone at the first, a middle and the last place of each list. Two of one number in one list: the first. One in each list: the logical one, also where
+/// it stands later. Two of different numbers, in two lists where there are two: the one that comes first in the order, whichever list and place it stands in.
+fn which_edge(file: &mut File, case: &Case) {
+    for kind in KINDS {
+        for (list, ways) in lists(kind) {
+            let last = list_of(&mut call(kind, case), list).rows.len() - 1;
+            for (i, (number, bend)) in ways.iter().enumerate() {
+                for place in [0, last / 2, last] {
+                    let mut one = call(kind, case);
+                    bend(&mut one, list, place);
+                    file.call(&one, &file::refused_at(*number, list, place as u32));
+                }
+                // two of one number, by this way and by another that has it
+                for (same, also) in ways.iter().filter(|w| w.0 == *number) {
+                    let mut two = call(kind, case);
+                    also(&mut two, list, last);
+                    bend(&mut two, list, 1);
+                    file.call(&two, &file::refused_at(*same, list, 1));
+                }
+                // two numbers
+                for (other, others) in lists(kind) {
+                    if other == list && lists(kind).len() > 1 {
+                        continue;
+                    }
+                    for (later, also) in others.iter().skip(i + 1).filter(|w| w.0 != *number) {
+                        let mut two = call(kind, case);
+                        also(&mut two, other, 1);
+                        bend(&mut two, list, last);
+                        assert!(rank((*later, None)) > rank((*number, None)));
+                        file.call(&two, &file::refused_at(*number, list, last as u32));
+                    }
+                }
+            }
+        }
+    }
+    for kind in [file::HARD, file::SOFT] {
+        for (number, bend) in &BAD[..5] {
+            let mut two = call(kind, case);
+            bend(&mut two, file::PHYSICAL, 1);
+            bend(&mut two, file::LOGICAL, 3);
+            file.call(&two, &file::refused_at(*number, file::LOGICAL, 3));
         }
     }
 }
@@ -224,19 +332,19 @@ fn too_long(file: &mut File, case: &Case) {
     file.call(&call(file::HARD, &long), &file::refused(3));
 }
 
-/// Each further fault alone, and beside every other fault: the lower number is given.
+/// Each further fault alone, and beside every other fault: the one that comes first in the order of the refusals is given.
 fn further_faulty(file: &mut File, case: &Case) {
     for kind in KINDS {
-        for (number, _, bend) in further_faults(kind) {
+        for (refusal, _, bend) in further_faults(kind) {
             let mut one = call(kind, case);
             bend(&mut one);
-            file.call(&one, &file::refused(number));
+            file.call(&one, &refused(refusal));
             for (other, _, also) in faults(kind) {
-                if other != number {
+                if other.0 != refusal.0 {
                     let mut two = call(kind, case);
                     bend(&mut two);
                     also(&mut two);
-                    file.call(&two, &file::refused(number.min(other)));
+                    file.call(&two, &refused(if rank(other) < rank(refusal) { other } else { refusal }));
                 }
             }
         }
@@ -315,7 +423,8 @@ fn further(path: &str) {
     file.write(path).expect("the file");
 }
 
-/// One call of each kind that is found: every word of its answer changed in turn, then one bit of its list.
+/// One call of each decoder that is found: every word of its answer changed in turn, then one bit of its list. Then a refusal about an edge, with another list, with another
+/// position and without its place; and one about no edge, with a place.
 fn wrong(file: &mut File) {
     let case = view(6);
     for kind in [file::HARD, file::SOFT] {
@@ -331,6 +440,16 @@ fn wrong(file: &mut File) {
         turned.logical.bits[0] ^= 1;
         file.call(&turned, &right);
     }
+    for (kind, list) in [(file::HARD, file::LOGICAL), (file::SOFT, file::PHYSICAL), (file::STATS, file::ONLY)] {
+        let mut bad = call(kind, &case);
+        list_of(&mut bad, list).bits[5] = 2;
+        file.call(&bad, &file::refused_at(17, list % 3 + 1, 5));
+        file.call(&bad, &file::refused_at(17, list, 6));
+        file.call(&bad, &file::refused(17));
+        let mut table = call(kind, &case);
+        (table.transforms, table.at[0]) = (vec![8], 8);
+        file.call(&table, &file::refused_at(7, list, 0));
+    }
 }
 
 fn main() {
@@ -344,6 +463,7 @@ fn main() {
     let mut rules = File::default();
     rules.tables(&h, &v);
     faulty(&mut rules, &case);
+    which_edge(&mut rules, &case);
     at_the_ends(&mut rules, &view(6));
     too_long(&mut rules, &case);
     wrong_tables(&mut rules, &case);

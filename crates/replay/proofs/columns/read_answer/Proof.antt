@@ -1,14 +1,14 @@
--- `read_answer`: the index stays below 15.
+-- `read_answer`: the index stays below 17.
 use Prim.Native.Nat.{_≤_, _-_}
 use borrow.Author.Needs.{needs}
 use Rattle.replay.proofs.columns.read_answer.Statement.{statement}
 use Rattle.replay.proofs.columns.read_answer.Tie as tie
 
 abbrev Inv-loop : tie.InvT-loop
-Inv-loop buf₀ words₀ next₀ i₀ buf words next i = i ≤ 15
+Inv-loop buf₀ words₀ next₀ i₀ buf words next i = i ≤ 17
 
 abbrev μ-loop : tie.MeasureT-loop
-μ-loop buf₀ words₀ next₀ i₀ buf words next i = 15 - i
+μ-loop buf₀ words₀ next₀ i₀ buf words next i = 17 - i
 
 loop-holds : tie.Need-loop-holds Inv-loop μ-loop
 loop-holds c = search needs

@@ -1,14 +1,14 @@
--- `same_words`: the index stays below 15.
+-- `same_words`: the index stays below 17.
 use Prim.Native.Nat.{_≤_, _-_}
 use borrow.Author.Needs.{needs}
 use Rattle.replay.proofs.tally.same_words.Statement.{statement}
 use Rattle.replay.proofs.tally.same_words.Tie as tie
 
 abbrev Inv-loop : tie.InvT-loop
-Inv-loop at theirs ours same₀ i₀ same i = i ≤ 15
+Inv-loop at theirs ours same₀ i₀ same i = i ≤ 17
 
 abbrev μ-loop : tie.MeasureT-loop
-μ-loop at theirs ours same₀ i₀ same i = 15 - i
+μ-loop at theirs ours same₀ i₀ same i = 17 - i
 
 loop-holds : tie.Need-loop-holds Inv-loop μ-loop
 loop-holds c = search needs

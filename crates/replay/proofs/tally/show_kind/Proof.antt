@@ -1,14 +1,14 @@
--- `show_kind`: fifteen numbers.
+-- `show_kind`: seventeen numbers.
 use Prim.Native.Nat.{_-_, _≤_}
 use borrow.Author.Needs.{needs}
 use Rattle.replay.proofs.tally.show_kind.Statement.{statement}
 use Rattle.replay.proofs.tally.show_kind.Tie as tie
 
 abbrev Inv-loop : tie.InvT-loop
-Inv-loop tally kind page₀ n n₀ number₀ page n' number = number ≤ 16
+Inv-loop tally kind page₀ n n₀ number₀ page n' number = number ≤ 18
 
 abbrev μ-loop : tie.MeasureT-loop
-μ-loop tally kind page₀ n n₀ number₀ page n' number = 16 - number
+μ-loop tally kind page₀ n n₀ number₀ page n' number = 18 - number
 
 blank-requires : tie.Need-blank-requires Inv-loop μ-loop
 blank-requires c κs = search needs

@@ -4,7 +4,8 @@ mod print; // answers and signed numbers as text
 mod cut; // boards of our own, and windows cut from them
 mod room; // what a call left in the lent room
 mod likelihoods; // a likelihood as a whole number, and a sum back to a float
-mod refused; // refusals 1 to 9, alone and by pairs
+mod refused; // refusals 1 to 9, 16 and 17, alone and by pairs
+mod which_edge; // the edge that a refusal is about
 mod class_tables; // the class tables of one list for two transforms
 mod windows; // hard decode of windows and of lists that it must refuse
 mod soft_windows; // soft decode of noisy windows
@@ -16,6 +17,8 @@ fn main() {
     likelihoods::show_all();
     print(b"== refusals ==\n");
     refused::show_all();
+    print(b"== which edge ==\n");
+    which_edge::show_all();
     print(b"== class tables ==\n");
     class_tables::show_all();
     print(b"== windows ==\n");

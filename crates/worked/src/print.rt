@@ -9,6 +9,9 @@ use console::print::print_form;
 use console::print::print_long;
 use console::print::print_number;
 use refusals::Admission;
+use refusals::ListName;
+use refusals::Place;
+use refusals::Refusal;
 
 // n in decimal digits, with its sign.
 pub(crate) fn print_whole(n: i64)
@@ -52,25 +55,46 @@ fn print_found(d: Decoded) {
     );
 }
 
-// A refusal: its number.
-fn print_refused(number: u32) {
-    print(b"refused ");
-    print_number(number);
-}
-
-// All that hard or soft decode answers; a refusal is its number alone.
-pub(crate) fn print_answer(a: Answer) {
-    match a {
-        Answer::Found(d) => print_found(d),
-        Answer::Refused(r) => print_refused(r.number),
+// The edge that a refusal is about, where it is about one: its list, and its position from 0.
+fn print_place(place: Place) {
+    if let Place::At(edge) = place {
+        let list = edge.list;
+        match list {
+            ListName::Logical => print(b" (logical list, position "),
+            ListName::Physical => print(b" (physical list, position "),
+            ListName::Only => print(b" (only list, position "),
+        }
+        print_number(edge.position);
+        print(b")");
     }
 }
 
-// What the checks say of a call: the number of its refusal, or 0 where it is accepted.
+// A refusal's number and its place.
+fn print_number_and_place(refusal: Refusal) {
+    print_number(refusal.number);
+    let place = refusal.place;
+    print_place(place);
+}
+
+// A refusal: its number and its place.
+fn print_refused(refusal: Refusal) {
+    print(b"refused ");
+    print_number_and_place(refusal);
+}
+
+// All that hard or soft decode answers; a refusal is its number and its place alone.
+pub(crate) fn print_answer(a: Answer) {
+    match a {
+        Answer::Found(d) => print_found(d),
+        Answer::Refused(r) => print_refused(r),
+    }
+}
+
+// What the checks say of a call: the number of its refusal and its place, or 0 where it is accepted.
 pub(crate) fn print_admission(a: Admission) {
     match a {
         Admission::Accepted => print_number(0),
-        Admission::Refused(r) => print_number(r.number),
+        Admission::Refused(r) => print_number_and_place(r),
     }
 }
 
@@ -82,6 +106,6 @@ pub(crate) fn print_stats(s: StatsAnswer) {
             let floats = [m.error_rate, m.mean_confidence];
             print_form(b"counted edges=% hits=% rate=^ mean=^", &wholes, &floats);
         }
-        StatsAnswer::Refused(r) => print_refused(r.number),
+        StatsAnswer::Refused(r) => print_refused(r),
     }
 }

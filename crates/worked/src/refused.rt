@@ -1,5 +1,5 @@
-// Tries each refusal from 1 to 9 alone, each pair of neighbours, the limits of every range, and NaN, infinities and -0 in each float place. A case is a
-// good call with one or two faults, by number; what hard decode, soft decode and match statistics say of it is written in a line.
+// Tries each refusal from 1 to 9, 16 and 17 alone, each pair of neighbours (those of 4, 16 and 17 in `which_edge`), the limits of every range, and NaN, infinities and -0
+// in each float place. A case is a good call with one or two faults, by number; what hard decode, soft decode and match statistics say of it is written in a line.
 use crate::print::print_admission;
 use crate::print::print_stats;
 use answer::StatsAnswer;
@@ -409,13 +409,13 @@ fn margins() {
     show(b"margin 65536", 136, 0);
 }
 
-// Two faults of different numbers: the lower number is given, over all lists.
+// Two faults of different numbers: the one that comes first in the order 1, 2, 3, 4, 16, 17, 5, 6, 7, 8, 9 is given, over all lists.
 fn pairs() {
     show(b"1 and 2: room and lengths", 10, 34);
     show(b"2 and 3: lengths and 8193 edges", 2, 62);
     show(b"3 and 4: empty and physical row", 3, 30);
     show(b"4 and 5: physical row and logical confidence", 30, 50);
-    show(b"4 and 5: logical bit and physical confidence", 26, 32);
+    show(b"17 and 5: logical bit and physical confidence", 26, 32);
     show(b"5 and 6: logical confidence and match", 50, 100);
 }
 

@@ -363,4 +363,5 @@ module _ (list : EdgeList) (transform row col : ℕ) (board : Board) (answer : S
     early = record { accepts = stats-accepts; number = stats-early list transform row col board; refuses = stats-refused };
     by-the-rules = stats-by-the-rules;
     counted = stats-hits;
+    answer-in-range = stats-answer-in-range;
   }

@@ -1,6 +1,6 @@
--- WHAT SAMBUREXT PROMISES, in words: definitions alone, a record for each entry point with a field for each promise. Claims.antt proves them of all that the contracts allow
--- (`hard-promise`, `soft-promise`, `stats-promise`); these have no `requires`, so the promises hold for all inputs and every pair of pattern tables. Quotes are
--- of the demands (docs/CONTRACTS.md). Each word is defined in the file that stands behind it:
+-- WHAT SAMBUREXT PROMISES, in words: definitions alone, a record for each entry point with a field for each promise. Claims.antt proves them of all that the
+-- contracts allow (`hard-promise`, `soft-promise`, `stats-promise`); these have no `requires`, so the promises hold for all inputs and every pair of pattern
+-- tables. That there are cases to which demand 3 applies is in Witness.antt. Quotes are of the demands (docs/CONTRACTS.md). The words:
 --   list        edges, a column for each field: row, column, orientation, bit, confidence; logical after the votes, physical as seen (board/specs/Hits.antt)
 --   board       the two pattern tables, horizontal and vertical (Hits.antt); a call holds lists, transforms, board and error limit (admission/specs/Calls.antt)
 --   placing     a place in the transform list with a row and a column of the board (demand/specs/Demand.antt)
@@ -50,6 +50,7 @@ use Rattle.decode_soft.specs.Soft.{softAnswer, SoftDone}
 use Rattle.decode_soft.specs.SoftDemand.{marginOf, FirstByLikelihood, SecondByLikelihood, SoftAnswered}
 use Rattle.decode_soft.specs.SoftLate.{SoftLate}
 use Rattle.stats.specs.Stats.{statsOf}
+use Rattle.stats.specs.StatsRange.{StatsInRange}
 
 -- ---- EARLY REFUSALS, of every entry point
 -- "A refusal carries no square": it is its number and nothing else
@@ -60,15 +61,15 @@ NumberAlone = (one other : Refusal) → one .number ≡ other .number → one �
 abbrev pub OneToNine : Admission → Type 0
 OneToNine checked = (refusal : Refusal) → checked ≡ admission.Refused refusal → (1 ≤ refusal .number) × (refusal .number ≤ 9)
 
--- a call is accepted exactly in its domain; else it is refused by one of 1 to 9, and the call `refused` as is said for each entry point
+-- a call is accepted exactly in its domain; else it is refused by one of 1 to 9, with all that each entry point says of such a refusal
 pub record Early (checked : Admission) (domain : Type 0) (refused : Refusal → Type 0) : Type 0 where
   pub accepts : (checked ≡ admission.Accepted → domain) × (domain → checked ≡ admission.Accepted)
   pub number : OneToNine checked
   pub refuses : (refusal : Refusal) → checked ≡ admission.Refused refusal → refused refusal
 
 -- ---- RUNNER-UP
--- "In the domain a runner-up always exists, and this is proved": whatever the selection on an accepted list chose, passed by the gate or not, another placing has the hits
--- that are reported as the runner-up's, and no third has more
+-- "In the domain a runner-up always exists, and this is proved": whatever the selection on an accepted list chose, passed by the gate or not, another placing
+-- has the hits that are reported as the runner-up's, and no third has more
 abbrev pub RunnerUpAlways : Type 0
 RunnerUpAlways =
     (board : Board) (list : EdgeList) (transforms : List ℕ) (limit : Float) → BoardOk board → ListOk list → length transforms ≤ 8
@@ -182,3 +183,5 @@ pub record StatsPromise (list : EdgeList) (transform row col : ℕ) (board : Boa
   pub by-the-rules : StatsDomain list transform row col board → answer ≡ stats.Counted (statsOf list transform row col board)
   -- counted means: the hits are board's, edge by edge, of all the edges
   pub counted : (counted : MatchStats) → answer ≡ stats.Counted counted → (counted .hits ≡ hits board list transform row col) × (counted .edges ≡ size list)
+  -- and is in range: its whole numbers, and no float is a NaN or an infinity
+  pub answer-in-range : (counted : MatchStats) → answer ≡ stats.Counted counted → StatsInRange counted

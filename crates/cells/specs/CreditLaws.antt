@@ -11,9 +11,8 @@ use lib.Dec.{lit<}
 use lib.ListN.{getD, length, drop, length-drop}
 use lib.Seq.{getD-drop}
 use lib.Ieee.{Float, nan, binary32, add}
-use Rattle.laws.specs.Fold.{fold, all}
+use Rattle.laws.specs.Words.{fold, all, zeroF}
 use Rattle.laws.specs.PlusZero.{add-plus-zero}
-use Rattle.laws.specs.Weights.{zeroF}
 use Rattle.laws.specs.Residues.{below-3}
 use Rattle.laws.specs.Tests.{split}
 use Rattle.laws.specs.Zone.{zone-none}

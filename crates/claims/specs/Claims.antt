@@ -9,7 +9,7 @@ use lib.Dec.{ltb}
 use lib.ListN.{length}
 use lib.IntN.{pos}
 use lib.Ieee.{nan}
-use Rattle.laws.specs.Weights.{zeroF, oneF}
+use Rattle.laws.specs.Words.{zeroF, oneF}
 use Rattle.laws.specs.Cleared.{cleared-written}
 use Rattle.board.specs.declared.edge.Placing.{Placing}
 use Rattle.board.specs.Hits.{EdgeList, Board, size, hits, hitsAt}

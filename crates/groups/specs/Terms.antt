@@ -7,8 +7,7 @@ use Prim.Native.Nat.{ℕ, _+_, _/_, _%_, _≤_, _<_}
 use lib.Dec.{eqb}
 use lib.ListN.{getD, length}
 use lib.Ieee.{Float, nan, binary32, add}
-use Rattle.laws.specs.Fold.{fold, all}
-use Rattle.laws.specs.Weights.{zeroF}
+use Rattle.laws.specs.Words.{fold, all, zeroF}
 use Rattle.board.specs.Hits.{bitAt}
 use Rattle.groups.specs.declared.terms.FamilyTerm.{FamilyTerm}
 

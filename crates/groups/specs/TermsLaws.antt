@@ -9,9 +9,9 @@ use lib.Dec.{eqb}
 use lib.ListN.{getD}
 use lib.Ieee.{Float, binary32, add}
 use borrow.Author.Tests.{eq-eqb, ne-eqb}
-use Rattle.laws.specs.Fold.{fold, all, fold-hit, fold-miss, sum-some, sum-mono}
+use Rattle.laws.specs.Words.{fold, all, zeroF}
+use Rattle.laws.specs.Fold.{fold-hit, fold-miss, sum-some, sum-mono}
 use Rattle.laws.specs.DoubleCounting.{fold-ext}
-use Rattle.laws.specs.Weights.{zeroF}
 use Rattle.board.specs.Hits.{bitAt}
 use Rattle.groups.specs.declared.terms.FamilyTerm.{FamilyTerm}
 use Rattle.groups.specs.Terms.{agrees, adds, termSum, termC, termW, term, Terms, noTerm, placesN}

@@ -2,7 +2,7 @@
 ghost use mathlib.Core.Path.{_≡_};
 ghost use Prim.Native.Nat.{_+_, _≤_, _<_};
 ghost use lib.ListN.{length};
-ghost use Rattle.laws.specs.Fold.{fold, all};
+ghost use Rattle.laws.specs.Words.{fold, all};
 ghost use Rattle.groups.specs.Terms.{placesN, placesF, term, row, Six, Terms};
 
 // What a family adds to one cell.

@@ -13,9 +13,10 @@ use lib.IntN.{ℤ, pos, natAbs, _+ℤ_, +ℤ-idr}
 use lib.ListN.{getD, length, set, drop}
 use borrow.Author.Tests.{lt-ltb, le-ltb, eq-eqb, ne-eqb}
 use Rattle.laws.specs.Tests.{and-true, and-comm, or-false, apart, split}
-use Rattle.laws.specs.Fold.{fold, all, fold-zero, fold-hit, fold-miss}
+use Rattle.laws.specs.Words.{fold, all, eqZ}
+use Rattle.laws.specs.Fold.{fold-zero, fold-hit, fold-miss}
 use Rattle.laws.specs.DoubleCounting.{fold-ext}
-use Rattle.laws.specs.Whole.{eqZ, eqZ-true, eq-eqZ, ne-eqZ}
+use Rattle.laws.specs.Whole.{eqZ-true, eq-eqZ, ne-eqZ}
 use Rattle.laws.specs.Zone.{Zone, zone-none, zone-ext, zone-set}
 use Rattle.board.specs.Hits.{EdgeList, Board, size}
 use Rattle.board.specs.Sides.{tableOf, periodOf}

@@ -8,7 +8,8 @@ use lib.IntN.{ℤ, pos, natAbs, _+ℤ_, +ℤ-idr, +ℤ-assoc, +ℤ-comm}
 use lib.ListN.{getD}
 use borrow.Author.Tests.{eq-eqb, ne-eqb}
 use Rattle.laws.specs.Tests.{and-comm}
-use Rattle.laws.specs.Fold.{all, one, count, fold-hit}
+use Rattle.laws.specs.Words.{all, one, count}
+use Rattle.laws.specs.Fold.{fold-hit}
 use Rattle.laws.specs.Counting.{count-le}
 use Rattle.laws.specs.DoubleCounting.{fold-ext, fold-where, fold-split}
 use Rattle.board.specs.Hits.{EdgeList, Board, size, seen, look, horizontal, bitAt}

@@ -7,9 +7,8 @@ use native.Mathlib.Nat.{add-assoc}
 use native.Mathlib.Omega.{arith}
 use lib.ListN.{getD}
 use lib.Ieee.{Float, nan, binary32, add}
-use Rattle.laws.specs.Fold.{all}
+use Rattle.laws.specs.Words.{all, zeroF}
 use Rattle.laws.specs.DoubleCounting.{fold-ext}
-use Rattle.laws.specs.Weights.{zeroF}
 use Rattle.laws.specs.WeightLaws.{upto-weightlike}
 use Rattle.laws.specs.Zone.{Zone, zone-none, zone-ext}
 use Rattle.board.specs.Hits.{Board}

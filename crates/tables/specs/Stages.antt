@@ -6,10 +6,9 @@ use Prim.Native.Nat.{ℕ, zero, suc, _+_, _*_, _≤_, _<_}
 use native.Mathlib.Nat.{one-mul, zero-mul, zero-add, le-trans, le-of-eq}
 use native.Mathlib.Omega.{arith}
 use lib.Ieee.{Float, nan, binary32, add}
-use Rattle.laws.specs.Cleared.{cleared, cleared-written}
+use Rattle.laws.specs.Words.{fold, all, one, zeroF, cleared}
+use Rattle.laws.specs.Cleared.{cleared-written}
 use Rattle.laws.specs.DoubleCounting.{fold-ext}
-use Rattle.laws.specs.Fold.{fold, all, one}
-use Rattle.laws.specs.Weights.{zeroF}
 use Rattle.laws.specs.WeightLaws.{upto-weight}
 use Rattle.laws.specs.Written.{Written}
 use Rattle.laws.specs.Zone.{Zone, zone-ext}

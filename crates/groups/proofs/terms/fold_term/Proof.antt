@@ -3,7 +3,7 @@ use mathlib.Core.Logic.{⊎-elim}
 use Prim.Native.Nat.{ℕ, _+_, _-_, _≤_}
 use native.Mathlib.Omega.{arith}
 use lib.Ieee.{add, binary32}
-use Rattle.laws.specs.Fold.{fold}
+use Rattle.laws.specs.Words.{fold}
 use Rattle.groups.specs.Terms.{termSum, termC, termW, term, placesN, placesF}
 use Rattle.groups.specs.TermsLaws.{few-so-far, term-empty, term-no, term-yes}
 use Rattle.groups.proofs.terms.fold_term.Statement.{statement}

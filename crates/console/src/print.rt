@@ -25,7 +25,7 @@ pub fn print_number(n: u32) {
 // A form with its numbers.
 pub fn print_form(form: &[u8], wholes: &[u32], floats: &[f32]) {
     let mut page = blank();
-    let n = put_form(&mut page, 0, form, wholes, floats);
+    let n = put_form(&mut page, 0, form, b"", wholes, floats);
     write(STDOUT_FILENO, &page, n);
 }
 

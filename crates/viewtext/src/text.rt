@@ -11,37 +11,36 @@ pub struct Word {
     pub to: usize,
 }
 
+// What a place is looked for by: a byte that is no blank, one that ends a word, one that ends a line.
+const NO_BLANK: u8 = 0;
+
+const WORD_END: u8 = 1;
+
+const LINE_END: u8 = 2;
+
 // Whether a byte only parts words.
 fn is_blank(b: u8) -> bool {
     b == b' ' || b == b'\t' || b == b'\r'
 }
 
-// Whether a byte ends a word.
-fn ends_word(b: u8) -> bool {
-    is_blank(b) || b == b'\n' || b == b'#'
-}
-
-// The first place from `at` on that holds no blank.
-fn after_blanks(s: &[u8], at: usize) -> usize
-    ensures { λ r. ⌜ at ≤ r ⌝ }
-{
-    let mut i = at;
-    while i < s.len() {
-        if !is_blank(s[i]) {
-            return i;
-        }
-        i += 1;
+// Whether a byte is what is looked for.
+fn is_sought(b: u8, what: u8) -> bool {
+    if what == NO_BLANK {
+        return !is_blank(b);
     }
-    i
+    if b == b'\n' {
+        return true;
+    }
+    what == WORD_END && (is_blank(b) || b == b'#')
 }
 
-// The first place from `at` on that holds no part of a word.
-fn word_end(s: &[u8], at: usize) -> usize
+// The first place from `at` on that holds what is looked for, or the end of the file.
+fn first_place(s: &[u8], at: usize, what: u8) -> usize
     ensures { λ r. ⌜ at ≤ r ⌝ }
 {
     let mut i = at;
     while i < s.len() {
-        if ends_word(s[i]) {
+        if is_sought(s[i], what) {
             return i;
         }
         i += 1;
@@ -53,10 +52,10 @@ fn word_end(s: &[u8], at: usize) -> usize
 pub fn next_word(s: &[u8], at: usize) -> Word
     ensures { λ r. ⌜ (at ≤ r .from) × (r .from ≤ r .to) ⌝ }
 {
-    let from = after_blanks(s, at);
+    let from = first_place(s, at, NO_BLANK);
     Word {
         from,
-        to: word_end(s, from),
+        to: first_place(s, from, WORD_END),
     }
 }
 
@@ -67,25 +66,11 @@ pub fn none(w: Word) -> bool
     w.from >= w.to
 }
 
-// The place of the line feed that ends the line at `at`, or the end of the file.
-fn line_end(s: &[u8], at: usize) -> usize
-    ensures { λ r. ⌜ at ≤ r ⌝ }
-{
-    let mut i = at;
-    while i < s.len() {
-        if s[i] == b'\n' {
-            return i;
-        }
-        i += 1;
-    }
-    i
-}
-
 // Where the next line begins; the end of the file where there is none.
-pub fn next_line(s: &[u8], at: usize) -> usize
+pub(crate) fn next_line(s: &[u8], at: usize) -> usize
     ensures { λ r. ⌜ (at < length (now (s .entry)) → at < r) ⌝ }
 {
-    let e = line_end(s, at);
+    let e = first_place(s, at, LINE_END);
     if e < s.len() {
         return e + 1;
     }
@@ -111,13 +96,12 @@ fn more(n: u32) -> u32 {
 }
 
 // Where the text begins: after a byte order mark, if there is one.
-pub fn start(s: &[u8]) -> usize {
-    if s.len() >= 3 {
-        if s[0] == 239 && s[1] == 187 && s[2] == 191 {
-            return 3;
-        }
+pub(crate) fn start(s: &[u8]) -> usize {
+    if is_name(s, 0, 3, b"\xef\xbb\xbf") {
+        3
+    } else {
+        0
     }
-    0
 }
 
 // Whether the bytes from `from` to `to` are the given name.
@@ -138,6 +122,51 @@ fn matches(s: &[u8], from: usize, name: &[u8]) -> bool {
         }
     }
     true
+}
+
+// How far a text of names is looked through: the number of the name and the place in the word that its next byte is held to, whether all bytes so far are
+// the word's, and the last name that was the word's whole.
+struct Sought {
+    line: u32,
+    at: usize,
+    same: bool,
+    found: u32,
+}
+
+// One byte of a text of names, which a line feed ends each.
+fn name_step(s: &[u8], from: usize, to: usize, q: Sought, b: u8) -> Sought {
+    if b == b'\n' {
+        let whole = q.same && q.at == to;
+        return Sought {
+            line: std::num::wrapping_add_u32(q.line, 1),
+            at: from,
+            same: true,
+            found: if whole { q.line } else { q.found },
+        };
+    }
+    let at = q.at;
+    if at >= to || byte_after(s, at, 0) != b {
+        let mut out = q;
+        out.same = false;
+        return out;
+    }
+    let mut out = q;
+    out.at = at + 1;
+    out
+}
+
+// Which of some names the bytes from `from` to `to` are, counted from 0; the number of the names where they are none of them. A line feed ends each name.
+pub fn name_of(s: &[u8], from: usize, to: usize, names: &[u8]) -> u32 {
+    let mut q = Sought {
+        line: 0,
+        at: from,
+        same: true,
+        found: 4294967295,
+    };
+    for i in 0..names.len() {
+        q = name_step(s, from, to, q, names[i]);
+    }
+    if q.found < q.line { q.found } else { q.line }
 }
 
 // The byte that stands i places after `from`, or 0 past the end of the file.

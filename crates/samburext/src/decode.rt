@@ -47,22 +47,17 @@ pub(crate) fn is_soft(view: View) -> bool {
     }
 }
 
-// The transforms that are listed.
-fn listed(transforms: &[u8; 8], n: usize) -> &[u8] {
-    part_u8(transforms, 0, n)
-}
-
-// What hard decode says of the view.
+// What hard decode says of two parts of the columns.
 fn hard_of(
-    view: View,
-    wholes: &[i32; 32768],
-    bytes: &[u8; 32768],
-    floats: &[f32; 49152],
-    tables: &[u8; 334],
+    l: Part,
+    p: Part,
+    wholes: &[i32],
+    bytes: &[u8],
+    floats: &[f32],
+    transforms: &[u8],
+    tables: &[u8],
+    limit: f32,
 ) -> Answer {
-    let l = part_of(view, false);
-    let p = part_of(view, true);
-    let transforms = view.settings.transforms;
     let mut counts = [0u32; 3006];
     let mut weights = [0.0f32; 3006];
     decode_hard::decode_hard(
@@ -76,26 +71,27 @@ fn hard_of(
         part_u8(bytes, p.from, p.edges),
         part_u8(bytes, p.second, p.edges),
         part_f32(floats, p.from, p.edges),
-        listed(&transforms, view.settings.listed),
+        transforms,
         part_u8(tables, 0, 167),
         part_u8(tables, 167, 167),
-        view.settings.limit,
+        limit,
         &mut counts,
         &mut weights,
     )
 }
 
-// What soft decode says of the view.
+// What soft decode says of two parts of the columns.
 fn soft_of(
-    view: View,
-    wholes: &[i32; 32768],
-    bytes: &[u8; 32768],
-    floats: &[f32; 49152],
-    tables: &[u8; 334],
+    l: Part,
+    p: Part,
+    wholes: &[i32],
+    bytes: &[u8],
+    floats: &[f32],
+    transforms: &[u8],
+    tables: &[u8],
+    limit: f32,
+    margin: f32,
 ) -> Answer {
-    let l = part_of(view, false);
-    let p = part_of(view, true);
-    let transforms = view.settings.transforms;
     let mut counts = [0u32; 3006];
     let mut weights = [0.0f32; 3006];
     let mut sums = [0i64; 5010];
@@ -112,15 +108,20 @@ fn soft_of(
         part_f32(floats, p.from, p.edges),
         part_f32(floats, p.second, p.edges),
         part_f32(floats, p.third, p.edges),
-        listed(&transforms, view.settings.listed),
+        transforms,
         part_u8(tables, 0, 167),
         part_u8(tables, 167, 167),
-        view.settings.limit,
-        view.settings.margin,
+        limit,
+        margin,
         &mut counts,
         &mut weights,
         &mut sums,
     )
+}
+
+// The transforms that are listed.
+fn listed(transforms: &[u8; 8], n: usize) -> &[u8] {
+    part_u8(transforms, 0, n)
 }
 
 // What the decoder says of the view.
@@ -131,8 +132,23 @@ pub(crate) fn decode(
     floats: &[f32; 49152],
     tables: &[u8; 334],
 ) -> Answer {
+    let l = part_of(view, false);
+    let p = part_of(view, true);
+    let settings = view.settings;
+    let transforms = settings.transforms;
+    let some = listed(&transforms, settings.listed);
     if is_soft(view) {
-        return soft_of(view, wholes, bytes, floats, tables);
+        return soft_of(
+            l,
+            p,
+            wholes,
+            bytes,
+            floats,
+            some,
+            tables,
+            settings.limit,
+            settings.margin,
+        );
     }
-    hard_of(view, wholes, bytes, floats, tables)
+    hard_of(l, p, wholes, bytes, floats, some, tables, settings.limit)
 }

@@ -1,9 +1,11 @@
 // The words and lines of a text file. Words are parted by spaces and tabs; `#` starts a comment that runs to the end of its line. A carriage return counts as a
 // blank, so a file with CRLF reads like one without.
 ghost use mathlib.Core.Path.{_≡_};
-ghost use Prim.Native.Nat.{_+_, _<_, _≤_};
-ghost use lib.Dec.{leb};
+ghost use Prim.Native.Nat.{_+_, _<_, _≤_, min};
+ghost use mathlib.Core.Bool.{cond};
+ghost use lib.Dec.{eqb, leb};
 ghost use lib.ListN.{getD, length};
+ghost use Rattle.viewtext.specs.Text.{lineAt, named, stands};
 
 // Where a word begins and ends in its file. At the end of a line it is empty.
 pub struct Word {
@@ -77,22 +79,37 @@ pub(crate) fn next_line(s: &[u8], at: usize) -> usize
     s.len()
 }
 
-// The number of the line that a place stands in, from 1.
-pub fn line_of(s: &[u8], place: usize) -> u32 {
-    let mut line: u32 = 1;
-    for i in 0..s.len() {
-        if i < place {
-            if s[i] == b'\n' {
-                line = more(line);
-            }
-        }
-    }
-    line
+// The lesser of two numbers.
+fn least(a: usize, b: usize) -> usize
+    ensures { λ r. ⌜ r ≡ min a b ⌝ }
+{
+    if a < b { a } else { b }
 }
 
-// One more, up to a number of lines that no file reaches.
-fn more(n: u32) -> u32 {
-    if n < 1000000000 { n + 1 } else { n }
+// The number of the line after a byte: one more after a line feed, up to a number of lines that no file reaches.
+fn line_after(line: u32, b: u8) -> u32
+    ensures { λ r. ⌜ r ≡ cond (eqb b 10) (min (line + 1) 1000000000) line ⌝ }
+{
+    if b != b'\n' {
+        return line;
+    }
+    if line < 1000000000 {
+        line + 1
+    } else {
+        1000000000
+    }
+}
+
+// The number of the line that a place stands in, from 1.
+pub fn line_of(s: &[u8], place: usize) -> u32
+    ensures { λ r. ⌜ r ≡ lineAt (now (s .entry)) place ⌝ }
+{
+    let n = least(place, s.len());
+    let mut line: u32 = 1;
+    for i in 0..n {
+        line = line_after(line, s[i]);
+    }
+    line
 }
 
 // Where the text begins: after a byte order mark, if there is one.
@@ -105,17 +122,25 @@ pub(crate) fn start(s: &[u8]) -> usize {
 }
 
 // Whether the bytes from `from` to `to` are the given name.
-pub fn is_name(s: &[u8], from: usize, to: usize, name: &[u8]) -> bool {
-    if from <= to && to <= s.len() {
-        if to - from == name.len() {
-            return matches(s, from, name);
-        }
+pub fn is_name(s: &[u8], from: usize, to: usize, name: &[u8]) -> bool
+    ensures { λ r. ⌜ r ≡ named (now (s .entry)) from to (now (name .entry)) ⌝ }
+{
+    if from > to {
+        return false;
     }
-    false
+    if to > s.len() {
+        return false;
+    }
+    if to - from != name.len() {
+        return false;
+    }
+    matches(s, from, name)
 }
 
 // Whether the name stands at a place.
-fn matches(s: &[u8], from: usize, name: &[u8]) -> bool {
+fn matches(s: &[u8], from: usize, name: &[u8]) -> bool
+    ensures { λ r. ⌜ r ≡ stands (now (s .entry)) from (now (name .entry)) (length (now (name .entry))) ⌝ }
+{
     for i in 0..name.len() {
         if byte_after(s, from, i) != name[i] {
             return false;

@@ -1,6 +1,11 @@
 // A view: the two edge lists and the settings, as its file gives them. The columns of both lists stand in three arrays, one for each type: in each column the logical
 // list stands from place 0 and the physical list from place 8,192, and the second and third column of an array from 16,384 and 32,768. Whole numbers: rows, columns. Bytes:
 // orientations, bits. Floats: confidences, log likelihoods of a match, of a mismatch.
+ghost use mathlib.Core.Path.{_≡_};
+ghost use mathlib.Core.Bool.{cond};
+ghost use lib.IntN.{pos};
+ghost use lib.Ieee.{binary32, ofBits};
+ghost use lib.ListN.{replicate};
 use crate::decimal::float;
 use crate::edge::Edge;
 use crate::edge::edge_at;
@@ -16,15 +21,21 @@ use crate::text::none;
 use crate::text::start;
 
 // Empty columns, one function for each type.
-pub fn columns_i32() -> [i32; 32768] {
+pub fn columns_i32() -> [i32; 32768]
+    ensures { λ r. ⌜ r ≡ replicate 32768 (pos 0) ⌝ }
+{
     [0; 32768]
 }
 
-pub fn columns_u8() -> [u8; 32768] {
+pub fn columns_u8() -> [u8; 32768]
+    ensures { λ r. ⌜ r ≡ replicate 32768 0 ⌝ }
+{
     [0; 32768]
 }
 
-pub fn columns_f32() -> [f32; 49152] {
+pub fn columns_f32() -> [f32; 49152]
+    ensures { λ r. ⌜ r ≡ replicate 49152 (ofBits binary32 0) ⌝ }
+{
     [0.0; 49152]
 }
 
@@ -138,7 +149,9 @@ fn most(a: u32, b: u32) -> u32 {
 }
 
 // One of the two lists.
-pub fn list_of(view: View, physical: bool) -> List {
+pub fn list_of(view: View, physical: bool) -> List
+    ensures { λ r. ⌜ r ≡ cond physical (view .«physical_list») (view .«logical_list») ⌝ }
+{
     if physical {
         view.physical_list
     } else {

@@ -2,6 +2,7 @@
 // the gate: its hits), margin, and the runner-up's transform, row and column. A place that an answer leaves empty holds 0xffffffff.
 use answer::Answer;
 use answer::Decoded;
+use answer::MatchStats;
 use answer::StatsAnswer;
 use console::print::bits_of;
 use hard::select::Selection;
@@ -11,9 +12,12 @@ use scan::scan::RunnerUp;
 // The place of the number in an answer that is no refusal.
 const NOT_REFUSED: u32 = 0;
 
+// What a place holds that an answer leaves empty.
+const EMPTY: u32 = 4294967295;
+
 // A refusal: its number, and nothing else.
 fn refused(number: u32) -> [u32; 15] {
-    let mut words = [4294967295u32; 15];
+    let mut words = [EMPTY; 15];
     words[0] = number;
     words
 }
@@ -47,17 +51,31 @@ pub(crate) fn words_of(a: Answer) -> [u32; 15] {
     }
 }
 
+// What match statistics counted.
+fn counted(m: MatchStats) -> [u32; 15] {
+    [
+        NOT_REFUSED,
+        EMPTY,
+        EMPTY,
+        EMPTY,
+        m.hits,
+        m.edges,
+        EMPTY,
+        bits_of(m.error_rate),
+        bits_of(m.mean_confidence),
+        EMPTY,
+        EMPTY,
+        EMPTY,
+        EMPTY,
+        EMPTY,
+        EMPTY,
+    ]
+}
+
 // Match statistics.
 pub(crate) fn words_of_stats(a: StatsAnswer) -> [u32; 15] {
     match a {
-        StatsAnswer::Counted(m) => {
-            let mut words = refused(NOT_REFUSED);
-            words[4] = m.hits;
-            words[5] = m.edges;
-            words[7] = bits_of(m.error_rate);
-            words[8] = bits_of(m.mean_confidence);
-            words
-        }
+        StatsAnswer::Counted(m) => counted(m),
         StatsAnswer::Refused(r) => refused(r.number),
     }
 }
@@ -84,22 +102,24 @@ fn mean(hits: u32, weight: f32) -> f32 {
 // A winner under its transform, with its runner-up, of a list of so many edges. A tie inside the winner's transform is a runner-up whose place never shows, for the gate
 // refuses: its row and column are left empty.
 fn selected(transform: u8, w: Candidate, next: RunnerUp, edges: u32) -> [u32; 15] {
-    let mut words = refused(NOT_REFUSED);
-    words[1] = transform as u32;
-    words[2] = w.placing.row;
-    words[3] = w.placing.col;
-    words[4] = w.hits;
-    words[5] = edges;
-    words[6] = bits_of(w.score);
-    words[7] = bits_of(rate(edges, w.hits));
-    words[8] = bits_of(mean(w.hits, w.weight));
-    words[10] = next.hits;
-    words[12] = next.transform as u32;
-    if next.hits != w.hits || next.transform != transform {
-        words[13] = next.row;
-        words[14] = next.col;
-    }
-    words
+    let shown = next.hits != w.hits || next.transform != transform;
+    [
+        NOT_REFUSED,
+        transform as u32,
+        w.placing.row,
+        w.placing.col,
+        w.hits,
+        edges,
+        bits_of(w.score),
+        bits_of(rate(edges, w.hits)),
+        bits_of(mean(w.hits, w.weight)),
+        EMPTY,
+        next.hits,
+        EMPTY,
+        next.transform as u32,
+        if shown { next.row } else { EMPTY },
+        if shown { next.col } else { EMPTY },
+    ]
 }
 
 // The transform at a place of the list; 255 where there is none.

@@ -4,11 +4,21 @@ ghost use lib.IntN.{natAbs};
 use answer::Answer;
 use answer::Decoded;
 use answer::StatsAnswer;
+use console::form::put_line;
+use console::page::blank;
+use console::page::say;
 use console::print::print;
 use console::print::print_form;
 use console::print::print_long;
 use console::print::print_number;
 use refusals::Admission;
+
+// Line k of a text, counted from 0.
+pub(crate) fn print_line(lines: &[u8], k: u32) {
+    let mut page = blank();
+    let n = put_line(&mut page, 0, lines, k);
+    say(&page, n);
+}
 
 // n in decimal digits, with its sign.
 pub(crate) fn print_whole(n: i64)

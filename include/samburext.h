@@ -28,6 +28,12 @@
 extern "C" {
 #endif
 
+/* The form of the functions and structs below is the second. Its number is part of the functions' names in the library, so that a program which was compiled for another form
+   does not link: its structs have other lengths. A program calls them by the names without a number. */
+#define samburext_decode_hard samburext_decode_hard_2
+#define samburext_decode_soft samburext_decode_soft_2
+#define samburext_match_stats samburext_match_stats_2
+
 /* The least lengths of the room slices; what they hold before has no influence. */
 #define SAMBUREXT_ROOM_COUNTS 3006  /* u32 */
 #define SAMBUREXT_ROOM_WEIGHTS 3006 /* f32 */

@@ -183,7 +183,7 @@ fn decode_hard_raw(
 ) -> raw::Answer {
     // Every pointer is a slice's with its length, and the room is lent to this call alone.
     unsafe {
-        raw::samburext_decode_hard(
+        raw::samburext_decode_hard_2(
             logical.rows.as_ptr(),
             logical.rows.len(),
             logical.cols.as_ptr(),
@@ -248,7 +248,7 @@ fn decode_soft_raw(
 ) -> raw::Answer {
     // As above.
     unsafe {
-        raw::samburext_decode_soft(
+        raw::samburext_decode_soft_2(
             logical.rows.as_ptr(),
             logical.rows.len(),
             logical.cols.as_ptr(),
@@ -300,7 +300,7 @@ pub fn match_stats(list: &EdgeList, square: Square, patterns: Patterns) -> Resul
 fn match_stats_raw(list: &EdgeList, square: Square, patterns: Patterns) -> raw::Stats {
     // Every pointer is a slice's with its length; nothing is written.
     unsafe {
-        raw::samburext_match_stats(
+        raw::samburext_match_stats_2(
             list.rows.as_ptr(),
             list.rows.len(),
             list.cols.as_ptr(),

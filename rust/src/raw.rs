@@ -42,7 +42,7 @@ pub struct Stats {
 
 extern "C" {
     /// Hard decode: the logical list's five columns, the physical list's, transforms, tables, error limit, and two rooms.
-    pub fn samburext_decode_hard(
+    pub fn samburext_decode_hard_2(
         logical_rows: *const i32,
         logical_rows_length: usize,
         logical_columns: *const i32,
@@ -78,7 +78,7 @@ extern "C" {
 
     /// Soft decode: the logical list's five columns, the physical list's five with its likelihoods, transforms, tables, error
     /// limit, soft margin, and three rooms.
-    pub fn samburext_decode_soft(
+    pub fn samburext_decode_soft_2(
         logical_rows: *const i32,
         logical_rows_length: usize,
         logical_columns: *const i32,
@@ -120,7 +120,7 @@ extern "C" {
     ) -> Answer;
 
     /// Match statistics: the list's five columns, a transform, an origin, and the tables.
-    pub fn samburext_match_stats(
+    pub fn samburext_match_stats_2(
         rows: *const i32,
         rows_length: usize,
         columns: *const i32,

@@ -12,7 +12,7 @@ use lib.Ieee.{Float, nan, le}
 use borrow.Author.Tests.{eqb-true, eqb-false, ltb-false, not-false}
 use Rattle.laws.specs.Tests.{or-false, and-true}
 use Rattle.laws.specs.First.{first-none}
-use Rattle.laws.specs.Weights.{zeroF, oneF, Weight}
+use Rattle.laws.specs.Words.{zeroF, oneF, Weight}
 use Rattle.laws.specs.WeightLaws.{confidence}
 use Rattle.board.specs.Hits.{EdgeList, Board, size}
 use Rattle.board.specs.Domain.{ListOk, Patterns, BoardOk}
@@ -29,7 +29,7 @@ use Rattle.admission.specs.Calls.{HardCall, SoftCall}
 use Rattle.admission.specs.Refusals.{tablesBad, roomShort, softRoomShort, bothLists, softLikelihoods, softSettingsBad, hardAdmission, softAdmission, statsAdmission}
 
 -- ---- lists without a bad place
-none-bad : (p : ℕ → Bool) (n k : ℕ) → ltb k n ≡ false → k ≡ Rattle.laws.specs.First.first p n → (i : ℕ) → i < n → p i ≡ false
+none-bad : (p : ℕ → Bool) (n k : ℕ) → ltb k n ≡ false → k ≡ Rattle.laws.specs.Words.first p n → (i : ℕ) → i < n → p i ≡ false
 none-bad p n k h e = first-none p n (omega (arith, ltb-false k n h))
 
 pub bytes-ok : (top : ℕ) (xs : List ℕ) → ltb (firstBadByte top xs) (length xs) ≡ false → (i : ℕ) → i < length xs → getD xs i 0 ≤ top

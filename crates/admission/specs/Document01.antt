@@ -6,7 +6,7 @@ use mathlib.Core.List.{List}
 use Prim.Native.Nat.{ℕ}
 use lib.Dec.{ltb, eqb}
 use lib.ListN.{length}
-use Rattle.laws.specs.Weights.{oneF}
+use Rattle.laws.specs.Words.{oneF}
 use Rattle.board.specs.Hits.{EdgeList, Board, size}
 use Rattle.refusals.specs.declared.Admission.{Admission}
 use Rattle.refusals.specs.declared.Admission.the-variants.{Accepted, Refused}

@@ -9,7 +9,7 @@ use lib.ListN.{length}
 use lib.Ieee.{Float}
 use borrow.Author.Tests.{le-ltb, ltb-false, eqb-true, not-false}
 use Rattle.laws.specs.Tests.{clash, and-true}
-use Rattle.laws.specs.Weights.{oneF}
+use Rattle.laws.specs.Words.{oneF}
 use Rattle.board.specs.Hits.{EdgeList, Board, size}
 use Rattle.refusals.specs.declared.Admission.{Admission}
 use Rattle.refusals.specs.declared.Admission.the-variants.{Accepted, Refused}

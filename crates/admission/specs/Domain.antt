@@ -6,7 +6,7 @@ use Prim.Native.Nat.{ℕ, _≤_, _<_}
 use lib.ListN.{getD, length}
 use lib.IntN.{pos, natAbs}
 use lib.Ieee.{nan}
-use Rattle.laws.specs.Weights.{Weight}
+use Rattle.laws.specs.Words.{Weight}
 use Rattle.board.specs.Hits.{EdgeList, Board, size}
 use Rattle.likelihood.specs.LikelihoodLaws.{Within}
 use Rattle.admission.specs.Calls.{HardCall, SoftCall}

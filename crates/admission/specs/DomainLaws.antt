@@ -14,8 +14,8 @@ use lib.Ieee.Fits.{up-pos, down-pos}
 use lib.Ieee.{Float, nan, inf, fin, up, down, le, lt, eq}
 use borrow.Author.Tests.{eqb-true, ltb-true, ltb-false, lt-ltb, le-ltb, eq-eqb, ne-eqb, not-false}
 use Rattle.laws.specs.Tests.{or-true, or-false, and-true, compared}
-use Rattle.laws.specs.First.{first, first-least}
-use Rattle.laws.specs.Weights.{zeroF, oneF, Weight}
+use Rattle.laws.specs.Words.{first, zeroF, oneF, Weight}
+use Rattle.laws.specs.First.{first-least}
 use Rattle.laws.specs.WeightLaws.{confidence}
 use Rattle.board.specs.Hits.{EdgeList, Board, size}
 use Rattle.likelihood.specs.Likelihood.{acceptable}

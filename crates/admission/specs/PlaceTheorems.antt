@@ -4,7 +4,7 @@ use mathlib.Core.Path.{_≡_}
 use mathlib.Core.Bool.{Bool, not}
 use Prim.Native.Nat.{ℕ}
 use lib.Dec.{ltb}
-use Rattle.laws.specs.Weights.{oneF}
+use Rattle.laws.specs.Words.{oneF}
 use Rattle.board.specs.Hits.{EdgeList, Board, size}
 use Rattle.refusals.specs.declared.Refusal.{Refusal}
 use Rattle.refusals.specs.declared.Admission.the-variants.{Refused}

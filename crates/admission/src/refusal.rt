@@ -1,7 +1,7 @@
 // Whether a call is taken on: the early refusals 1 to 9, 16 and 17, the first in their order over all lists, or accepted.
 ghost use mathlib.Core.Path.{_≡_};
 ghost use mathlib.Core.Bool.{_||_, not};
-ghost use Rattle.laws.specs.Weights.{oneF};
+ghost use Rattle.laws.specs.Words.{oneF};
 ghost use Rattle.board.specs.Hits.{edges, tables};
 ghost use Rattle.likelihood.specs.Likelihood.{likelihoods};
 ghost use Rattle.checks.specs.Checks.{inRange, marginTop, originBad};

@@ -1,5 +1,5 @@
 // The answer in words and as a picture. It needs the answer's types, and no decoder.
-pub mod words; // numbers in words
+mod words; // numbers in words
 pub mod telling; // the answer for people and for programs
-pub mod picture; // the board with the square that the camera faces
+mod picture; // the board with the square that the camera faces
 pub mod map; // the picture's file

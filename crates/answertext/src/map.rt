@@ -9,7 +9,7 @@ use console::page::put;
 use console::page::put_argument;
 use console::page::write;
 use viewtext::text::is_name;
-use viewtext::view_file::View;
+use viewtext::view_file::Extent;
 
 // A page written to a new file beside the one that is named, which then takes its place; false after a message where that fails. The new file is made only where
 // none of its name is, so it belongs to this run alone; then nothing is left behind.
@@ -35,18 +35,20 @@ fn put_beside(names: &mut [u8; 32768], at: usize, i: usize) -> usize {
     put(names, n, b".part")
 }
 
-// The picture of a found answer in the file that argument i names; false after a message where it cannot be written.
-pub fn draw(i: usize, d: Decoded, view: View) -> bool {
-    let mut page = blank();
-    let n = put_picture(&mut page, 0, d, view);
+// A page in the file that argument i names; false after a message where it cannot be written.
+fn save_as(i: usize, page: &[u8; 32768], n: usize) -> bool {
     let mut name = io::buffer();
     let k = os::arg(i, &mut name);
     let mut names = blank();
     let beside = put_beside(&mut names, 0, i);
-    if !is_whole(n) || !is_whole(beside) {
-        return false;
-    }
-    save(&name[..k], front(&names, beside), &page, n)
+    is_whole(beside) && save(&name[..k], front(&names, beside), page, n)
+}
+
+// The picture of a found answer in the file that argument i names; false after a message where it cannot be written.
+pub fn draw(i: usize, d: Decoded, extent: Extent) -> bool {
+    let mut page = blank();
+    let n = put_picture(&mut page, 0, d, extent);
+    is_whole(n) && save_as(i, &page, n)
 }
 
 // Whether an open file is empty or begins as every picture does.

@@ -1,13 +1,14 @@
 // The picture: the whole board (SVG) with the square that the camera faces, the view's outline and the runner-up. Its unit is a square of the board; two pixels show one.
-use crate::telling::put_turn;
+use crate::words::SIDE;
+use crate::words::entry_of;
+use crate::words::one_of;
+use crate::words::orientation_of;
+use crate::words::put_told;
 use answer::Decoded;
 use answer::Square;
-use console::form::put_form;
-use console::form::put_line;
 use console::form::put_wholes;
 use console::page::put;
-use console::page::put_byte;
-use viewtext::view_file::View;
+use viewtext::view_file::Extent;
 
 // One side of the outline: where it begins on the board, from 0 to 500, and how many squares it has.
 struct Span {
@@ -48,24 +49,24 @@ fn covered(low: u32, high: u32, falls: bool, origin: u32) -> Span {
 }
 
 // The outline along one side of the board, by the matrix's entries for that side: it goes with the view's columns or with its rows, and falls where the entry is -1.
-fn span_of(view: View, entries: [i32; 2], origin: u32) -> Span {
+fn span_of(extent: Extent, entries: [i32; 2], origin: u32) -> Span {
     let by_column = entries[0];
     let by_row = entries[1];
     if by_row == 0 {
-        return covered(view.left, view.right, by_column < 0, origin);
+        return covered(extent.left, extent.right, by_column < 0, origin);
     }
-    covered(view.top, view.bottom, by_row < 0, origin)
+    covered(extent.top, extent.bottom, by_row < 0, origin)
 }
 
 // The outline's columns, and its rows.
-fn span_of_columns(view: View, s: Square) -> Span {
+fn span_of_columns(extent: Extent, s: Square) -> Span {
     let matrix = matrix_of(s.transform as u32);
-    span_of(view, matrix[0], s.col)
+    span_of(extent, matrix[0], s.col)
 }
 
-fn span_of_rows(view: View, s: Square) -> Span {
+fn span_of_rows(extent: Extent, s: Square) -> Span {
     let matrix = matrix_of(s.transform as u32);
-    span_of(view, matrix[1], s.row)
+    span_of(extent, matrix[1], s.row)
 }
 
 // The outline of the view. The board goes on beyond its last square with its first, so an outline that runs over an edge is drawn once more, one board before.
@@ -107,106 +108,99 @@ fn put_outline(page: &mut [u8; 32768], at: usize, x: Span, y: Span) -> usize {
     )
 }
 
-// One entry of a matrix: -1, 0 or 1.
-fn put_entry(page: &mut [u8; 32768], at: usize, x: i32) -> usize {
-    let k = if x < 0 { 0 } else { if x > 0 { 2 } else { 1 } };
-    put_line(page, at, b"-1\n0\n1", k)
+// A transform's matrix as a picture gives it, column by column: the phrases of its entries.
+struct Entries {
+    a: u32,
+    b: u32,
+    c: u32,
+    d: u32,
 }
 
-// A column of a matrix.
-fn put_column(page: &mut [u8; 32768], at: usize, upper: i32, lower: i32) -> usize {
-    let n = put_entry(page, at, upper);
-    let n = put_byte(page, n, b' ');
-    let n = put_entry(page, n, lower);
-    put_byte(page, n, b' ')
-}
-
-// A transform's matrix as a picture gives it, column by column, with no move.
-fn put_matrix(page: &mut [u8; 32768], at: usize, transform: u32) -> usize {
-    let matrix = matrix_of(transform);
+fn entries_of(transform: u8) -> Entries {
+    let matrix = matrix_of(transform as u32);
     let upper = matrix[0];
     let lower = matrix[1];
-    let n = put(page, at, b"matrix(");
-    let n = put_column(page, n, upper[0], lower[0]);
-    let n = put_column(page, n, upper[1], lower[1]);
-    put(page, n, b"0 0)")
+    Entries {
+        a: entry_of(upper[0]),
+        b: entry_of(lower[0]),
+        c: entry_of(upper[1]),
+        d: entry_of(lower[1]),
+    }
 }
 
-// The square that the camera faces: a ring round it, an arrow that is right in the view and a broken one that is down.
+// Where a square's name stands: its baseline above the square, or below where there is no room, and its end or its start beside it, on the side where there is more room.
+fn label_y(row: u32) -> u32 {
+    let y = row % 501;
+    if y > 30 { y - 11 } else { y + 30 }
+}
+
+fn label_x(col: u32) -> u32 {
+    let x = col % 501;
+    if x > 250 { x - 9 } else { x + 9 }
+}
+
+fn label_side(col: u32) -> u32 {
+    one_of(SIDE, col % 501 > 250)
+}
+
+// The square that the camera faces: a ring round it, an arrow that is right in the view, a broken one that is down, and its name.
 fn put_faced(page: &mut [u8; 32768], at: usize, s: Square) -> usize {
-    let place = [s.col, s.row];
-    let n = put_wholes(page, at, b"<g transform=\"translate(% %) ", &place);
-    let n = put_matrix(page, n, s.transform as u32);
-    put_wholes(
+    let e = entries_of(s.transform);
+    let wholes = [
+        s.col,
+        s.row,
+        e.a,
+        e.b,
+        e.c,
+        e.d,
+        s.col,
+        s.row,
+        label_y(s.row),
+        label_x(s.col),
+        label_side(s.col),
+    ];
+    let none = [0.0f32; 1];
+    put_told(
         page,
-        n,
-        b"\" fill=\"none\" stroke=\"#c00000\" stroke-width=\"1.5\">\n\
+        at,
+        b"<g transform=\"translate(% %) matrix(@ @ @ @ 0 0)\" fill=\"none\" stroke=\"#c00000\" stroke-width=\"1.5\">\n\
         <path d=\"M0 0H26M20 -4L26 0L20 4M-4 15L0 21L4 15\"/><path d=\"M0 0V21\" stroke-dasharray=\"2 1.5\"/>\n\
         </g>\n\
         <g transform=\"translate(% %)\">\n\
         <rect width=\"1\" height=\"1\" fill=\"#c00000\"/><circle cx=\".5\" cy=\".5\" r=\"7\" fill=\"none\" stroke=\"#c00000\" stroke-width=\"2\"/>\n\
-        </g>\n",
-        &place,
-    )
-}
-
-// The runner-up: a broken ring round it.
-fn put_runner(page: &mut [u8; 32768], at: usize, s: Square) -> usize {
-    let place = [s.col, s.row];
-    put_wholes(
-        page,
-        at,
-        b"<g transform=\"translate(% %)\">\n\
-        <rect width=\"1\" height=\"1\" fill=\"#d07000\"/><circle cx=\".5\" cy=\".5\" r=\"7\" fill=\"none\" stroke=\"#d07000\" stroke-width=\"2\" stroke-dasharray=\"3 2\"/>\n\
-        </g>\n",
-        &place,
-    )
-}
-
-// A name beside a square, on the side where there is more room.
-fn put_label(page: &mut [u8; 32768], at: usize, s: Square, name: &[u8]) -> usize {
-    let col = s.col % 501;
-    let row = s.row % 501;
-    let y = if row > 30 { row - 11 } else { row + 30 };
-    let n = if col > 250 {
-        let place = [y, col - 9];
-        put_wholes(
-            page,
-            at,
-            b"<text font-size=\"9\" y=\"%\" x=\"%\" text-anchor=\"end\">",
-            &place,
-        )
-    } else {
-        let place = [y, col + 9];
-        put_wholes(page, at, b"<text font-size=\"9\" y=\"%\" x=\"%\">", &place)
-    };
-    let n = put(page, n, name);
-    put(page, n, b"</text>\n")
-}
-
-// One number on each of the two scales, at k hundreds of squares.
-fn put_tick(page: &mut [u8; 32768], at: usize, k: u32) -> usize {
-    let step = k % 6 * 200;
-    let wholes = [70 + step, step / 2, 66 + step, step / 2];
-    put_wholes(
-        page,
-        at,
-        b"<text y=\"50\" text-anchor=\"middle\" x=\"%\">%</text><text x=\"62\" text-anchor=\"end\" y=\"%\">%</text>\n",
+        </g>\n\
+        <text font-size=\"9\" y=\"%\" x=\"%\"@>camera</text>\n",
         &wholes,
+        &none,
     )
 }
 
-// The scales: columns along the top, rows along the left.
-fn put_ticks(page: &mut [u8; 32768], at: usize) -> usize {
-    let mut n = at;
-    for k in 0..6u32 {
-        n = put_tick(page, n, k);
-    }
-    n
+// The runner-up: a broken ring round it, and its name. What lies beyond the board is shown from here on.
+fn put_runner(page: &mut [u8; 32768], at: usize, s: Square) -> usize {
+    let wholes = [
+        s.col,
+        s.row,
+        label_y(s.row),
+        label_x(s.col),
+        label_side(s.col),
+    ];
+    let none = [0.0f32; 1];
+    put_told(
+        page,
+        at,
+        b"</svg>\n\
+        <svg x=\"70\" y=\"60\" width=\"1002\" height=\"1002\" viewBox=\"0 0 501 501\" overflow=\"visible\">\n\
+        <g transform=\"translate(% %)\">\n\
+        <rect width=\"1\" height=\"1\" fill=\"#d07000\"/><circle cx=\".5\" cy=\".5\" r=\"7\" fill=\"none\" stroke=\"#d07000\" stroke-width=\"2\" stroke-dasharray=\"3 2\"/>\n\
+        </g>\n\
+        <text font-size=\"9\" y=\"%\" x=\"%\"@>runner-up</text>\n",
+        &wholes,
+        &none,
+    )
 }
 
 // How every picture begins.
-pub fn put_head(page: &mut [u8; 32768], at: usize) -> usize {
+pub(crate) fn put_head(page: &mut [u8; 32768], at: usize) -> usize {
     put(
         page,
         at,
@@ -215,21 +209,22 @@ pub fn put_head(page: &mut [u8; 32768], at: usize) -> usize {
     )
 }
 
-// The start of the picture: the board with its squares, a line every 50.
+// The start of the picture: the scales, columns along the top and rows along the left, and the board with its squares, a line every 50.
 fn put_board(page: &mut [u8; 32768], at: usize) -> usize {
     let n = put_head(page, at);
-    let n = put(
+    put(
         page,
         n,
         b"<defs><pattern id=\"squares\" width=\"2\" height=\"2\" patternUnits=\"userSpaceOnUse\"><rect width=\"2\" height=\"2\" fill=\"#fff\"/><rect width=\"1\" height=\"1\" fill=\"#ddd\"/><rect x=\"1\" y=\"1\" width=\"1\" height=\"1\" fill=\"#ddd\"/></pattern></defs>\n\
         <rect width=\"1130\" height=\"1230\" fill=\"#fff\"/>\n\
-        <text x=\"571\" y=\"24\" text-anchor=\"middle\">column</text><text transform=\"translate(20 561) rotate(-90)\" text-anchor=\"middle\">row</text>\n",
-    );
-    let n = put_ticks(page, n);
-    put(
-        page,
-        n,
-        b"<svg x=\"70\" y=\"60\" width=\"1002\" height=\"1002\" viewBox=\"0 0 501 501\">\n\
+        <text x=\"571\" y=\"24\" text-anchor=\"middle\">column</text><text transform=\"translate(20 561) rotate(-90)\" text-anchor=\"middle\">row</text>\n\
+        <text y=\"50\" text-anchor=\"middle\" x=\"70\">0</text><text x=\"62\" text-anchor=\"end\" y=\"66\">0</text>\n\
+        <text y=\"50\" text-anchor=\"middle\" x=\"270\">100</text><text x=\"62\" text-anchor=\"end\" y=\"266\">100</text>\n\
+        <text y=\"50\" text-anchor=\"middle\" x=\"470\">200</text><text x=\"62\" text-anchor=\"end\" y=\"466\">200</text>\n\
+        <text y=\"50\" text-anchor=\"middle\" x=\"670\">300</text><text x=\"62\" text-anchor=\"end\" y=\"666\">300</text>\n\
+        <text y=\"50\" text-anchor=\"middle\" x=\"870\">400</text><text x=\"62\" text-anchor=\"end\" y=\"866\">400</text>\n\
+        <text y=\"50\" text-anchor=\"middle\" x=\"1070\">500</text><text x=\"62\" text-anchor=\"end\" y=\"1066\">500</text>\n\
+        <svg x=\"70\" y=\"60\" width=\"1002\" height=\"1002\" viewBox=\"0 0 501 501\">\n\
         <rect width=\"501\" height=\"501\" fill=\"url(#squares)\"/>\n\
         <path stroke=\"#999\" stroke-width=\".5\" fill=\"none\" d=\"M0 0H501V501H0Z\
         M50 0V501M100 0V501M150 0V501M200 0V501M250 0V501M300 0V501M350 0V501M400 0V501M450 0V501M500 0V501\
@@ -241,50 +236,43 @@ fn put_board(page: &mut [u8; 32768], at: usize) -> usize {
 fn put_legend(page: &mut [u8; 32768], at: usize, d: Decoded, x: Span, y: Span) -> usize {
     let square = d.square;
     let runner = d.runner_up;
-    let place = [square.row, square.col];
-    let n = put_wholes(
+    let wholes = [
+        square.row,
+        square.col,
+        orientation_of(square.transform),
+        square.transform as u32,
+        y.size,
+        x.size,
+        d.hits,
+        d.edges,
+        runner.row,
+        runner.col,
+        orientation_of(runner.transform),
+        runner.transform as u32,
+    ];
+    let floats = [d.error_rate, d.runner_up_score];
+    put_told(
         page,
         at,
-        b"<text x=\"70\" y=\"1100\" fill=\"#c00000\">camera: row %, column %; the board appears ",
-        &place,
-    );
-    let n = put_turn(page, n, square);
-    let wholes = [y.size, x.size, d.hits, d.edges, runner.row, runner.col];
-    let floats = [d.error_rate];
-    let n = put_form(
-        page,
-        n,
-        b"</text>\n\
+        b"</svg>\n\
+        <text x=\"70\" y=\"1100\" fill=\"#c00000\">camera: row %, column %; the board appears @ (transform %)</text>\n\
         <text x=\"70\" y=\"1126\" fill=\"#c00000\">arrow: right in the view; broken arrow: down in the view; they start at the view's row 0, column 0</text>\n\
         <text x=\"70\" y=\"1152\" fill=\"#1f6fd0\">outline of the view: % rows by % columns of the board</text>\n\
         <text x=\"70\" y=\"1178\">hits: % of % edges, error rate ~</text>\n\
-        <text x=\"70\" y=\"1204\" fill=\"#d07000\">runner-up: row %, column %, ",
+        <text x=\"70\" y=\"1204\" fill=\"#d07000\">runner-up: row %, column %, @ (transform %), with ~ hits</text>\n\
+        </svg>\n",
         &wholes,
         &floats,
-    );
-    let n = put_turn(page, n, runner);
-    let none = [0u32; 1];
-    let hits = [d.runner_up_score];
-    put_form(page, n, b", with ~ hits</text>\n</svg>\n", &none, &hits)
+    )
 }
 
 // The whole picture of a found answer.
-pub fn put_picture(page: &mut [u8; 32768], at: usize, d: Decoded, view: View) -> usize {
-    let square = d.square;
-    let runner = d.runner_up;
-    let x = span_of_columns(view, square);
-    let y = span_of_rows(view, square);
+pub(crate) fn put_picture(page: &mut [u8; 32768], at: usize, d: Decoded, extent: Extent) -> usize {
+    let x = span_of_columns(extent, d.square);
+    let y = span_of_rows(extent, d.square);
     let n = put_board(page, at);
     let n = put_outline(page, n, x, y);
-    let n = put(
-        page,
-        n,
-        b"</svg>\n<svg x=\"70\" y=\"60\" width=\"1002\" height=\"1002\" viewBox=\"0 0 501 501\" overflow=\"visible\">\n",
-    );
-    let n = put_runner(page, n, runner);
-    let n = put_label(page, n, runner, b"runner-up");
-    let n = put_faced(page, n, square);
-    let n = put_label(page, n, square, b"camera");
-    let n = put(page, n, b"</svg>\n");
+    let n = put_runner(page, n, d.runner_up);
+    let n = put_faced(page, n, d.square);
     put_legend(page, n, d, x, y)
 }

@@ -1,30 +1,29 @@
 // The answer, for people and for programs. A refusal is written without a square in any form.
-use crate::words::put_advice;
-use crate::words::put_directions;
-use crate::words::put_meaning;
-use crate::words::put_orientation;
+use crate::words::DECODE;
+use crate::words::LEAD;
+use crate::words::PLAIN_DECODE;
+use crate::words::advice_of;
+use crate::words::directions_of;
+use crate::words::list_phrase;
+use crate::words::meaning_of;
+use crate::words::one_of;
+use crate::words::orientation_of;
+use crate::words::put_told;
+use crate::words::remark_of;
 use answer::Answer;
 use answer::Decoded;
-use answer::Square;
-use console::form::put_form;
-use console::form::put_line;
 use console::form::put_wholes;
-use console::page::put;
 use console::page::put_byte;
 use console::page::put_count;
-use viewtext::view_file::View;
-
-// An orientation in words, with the transform's number.
-pub fn put_turn(page: &mut [u8; 32768], at: usize, s: Square) -> usize {
-    let n = put_orientation(page, at, s.transform as u32);
-    let wholes = [s.transform as u32];
-    put_wholes(page, n, b" (transform %)", &wholes)
-}
+use refusals::EdgePlace;
+use refusals::Place;
+use refusals::Refusal;
+use viewtext::view_file::Settings;
 
 // The transforms that were searched, parted by a byte.
-fn put_transforms(page: &mut [u8; 32768], at: usize, view: View, between: u8) -> usize {
-    let transforms = view.transforms;
-    let listed = view.listed;
+fn put_transforms(page: &mut [u8; 32768], at: usize, s: Settings, between: u8) -> usize {
+    let transforms = s.transforms;
+    let listed = s.listed;
     let mut n = at;
     for i in 0..8usize {
         if i < listed {
@@ -37,104 +36,118 @@ fn put_transforms(page: &mut [u8; 32768], at: usize, view: View, between: u8) ->
     n
 }
 
-// A setting's name and value, with a remark where the file gave none of its own.
-fn put_setting(page: &mut [u8; 32768], at: usize, form: &[u8], x: f32, own: bool) -> usize {
-    let wholes = [0u32; 1];
-    let floats = [x];
-    let n = put_form(page, at, form, &wholes, &floats);
-    put_default(page, n, own)
-}
-
-// A remark where the file gave no setting of its own.
-fn put_default(page: &mut [u8; 32768], at: usize, own: bool) -> usize {
-    if own {
-        return at;
-    }
-    put(page, at, b" (default)")
-}
-
-// 1 for soft decode, else 0.
-fn line_of(soft: bool) -> u32 {
-    if soft { 1 } else { 0 }
-}
-
-// How the view was decoded, and with which settings.
-fn put_settings(page: &mut [u8; 32768], at: usize, view: View, soft: bool) -> usize {
-    let n = put_line(
-        page,
-        at,
-        b"  decode       hard, by hits (the view has no log likelihoods)\n  decode       soft, by log likelihoods and then by hits",
-        line_of(soft),
-    );
-    let n = put(page, n, b"\n  settings     transforms ");
-    let n = put_transforms(page, n, view, b' ');
-    let n = put_default(page, n, view.own_transforms);
-    let n = put_setting(page, n, b", limit ~", view.limit, view.own_limit);
-    let n = put_setting(page, n, b", margin ~", view.margin, view.own_margin);
-    put_byte(page, n, b'\n')
-}
-
-// How far ahead the square is: by hits, or by log likelihood for each edge.
-fn put_lead(page: &mut [u8; 32768], at: usize, d: Decoded, soft: bool) -> usize {
-    let runner = d.runner_up;
-    let none = [0u32; 1];
-    let lead = [d.margin];
-    let n = put_form(page, at, b"  lead         ~", &none, &lead);
-    let n = put_line(
-        page,
-        n,
-        b" hits over the runner-up\n in log likelihood for each edge",
-        line_of(soft),
-    );
-    let place = [runner.row, runner.col];
-    let n = put_wholes(page, n, b"\n  runner-up    row %, column %, ", &place);
-    let n = put_turn(page, n, runner);
-    let hits = [d.runner_up_score];
-    put_form(page, n, b", with ~ hits\n", &none, &hits)
+// The settings: how the view was decoded, the transforms parted by a byte, and by another form the limit and the margin, each with a remark where the form has a place for it.
+fn put_settings(
+    page: &mut [u8; 32768],
+    at: usize,
+    s: Settings,
+    first: &[u8],
+    decode: u32,
+    between: u8,
+    last: &[u8],
+) -> usize {
+    let phrase = [decode];
+    let floats = [s.limit, s.margin];
+    let n = put_told(page, at, first, &phrase, &floats);
+    let n = put_transforms(page, n, s, between);
+    let remarks = [
+        remark_of(s.own_transforms),
+        remark_of(s.own_limit),
+        remark_of(s.own_margin),
+    ];
+    put_told(page, n, last, &remarks, &floats)
 }
 
 // A found answer for people.
 fn put_found(page: &mut [u8; 32768], at: usize, d: Decoded, soft: bool) -> usize {
     let square = d.square;
-    let place = [square.row, square.col];
-    let n = put_wholes(
+    let runner = d.runner_up;
+    let wholes = [
+        square.row,
+        square.col,
+        orientation_of(square.transform),
+        square.transform as u32,
+        directions_of(square.transform),
+        d.hits,
+        d.edges,
+        one_of(LEAD, soft),
+        runner.row,
+        runner.col,
+        orientation_of(runner.transform),
+        runner.transform as u32,
+    ];
+    let floats = [d.error_rate, d.mean_confidence, d.margin, d.runner_up_score];
+    put_told(
         page,
         at,
-        b"found row %, column %\n  orientation  the board appears ",
-        &place,
-    );
-    let n = put_turn(page, n, square);
-    let n = put(page, n, b":\n               ");
-    let n = put_directions(page, n, square.transform as u32);
-    let wholes = [d.hits, d.edges];
-    let floats = [d.error_rate, d.mean_confidence];
-    let n = put_form(
-        page,
-        n,
-        b"\n  hits         % of % edges, error rate ~, mean confidence ~\n",
+        b"found row %, column %\n\
+        \x20 orientation  the board appears @ (transform %):\n\
+        \x20              @\n\
+        \x20 hits         % of % edges, error rate ~, mean confidence ~\n\
+        \x20 lead         ~@\n\
+        \x20 runner-up    row %, column %, @ (transform %), with ~ hits\n",
         &wholes,
         &floats,
-    );
-    put_lead(page, n, d, soft)
+    )
 }
 
-// A refusal for people: its number, what it means and what helps.
-fn put_refused(page: &mut [u8; 32768], at: usize, number: u32) -> usize {
-    let wholes = [number];
-    let n = put_wholes(page, at, b"refused %\n  meaning      ", &wholes);
-    let n = put_meaning(page, n, number);
-    let n = put(page, n, b"\n  what helps   ");
-    let n = put_advice(page, n, number);
-    put_byte(page, n, b'\n')
+// A refusal that is about one edge: its number, its list and its position, counted from 1 for people.
+fn put_refused_at(page: &mut [u8; 32768], at: usize, number: u32, edge: EdgePlace) -> usize {
+    let list = edge.list;
+    let wholes = [
+        number,
+        meaning_of(number),
+        list_phrase(list),
+        std::num::wrapping_add_u32(edge.position, 1),
+        advice_of(number),
+    ];
+    let none = [0.0f32; 1];
+    put_told(
+        page,
+        at,
+        b"refused %\n  meaning      @\n  where        @ list, edge % (counting from 1)\n  what helps   @\n",
+        &wholes,
+        &none,
+    )
+}
+
+// A refusal that is about no edge: its number, what it means and what helps.
+fn put_refused_whole(page: &mut [u8; 32768], at: usize, number: u32) -> usize {
+    let wholes = [number, meaning_of(number), advice_of(number)];
+    let none = [0.0f32; 1];
+    put_told(
+        page,
+        at,
+        b"refused %\n  meaning      @\n  what helps   @\n",
+        &wholes,
+        &none,
+    )
+}
+
+// A refusal for people.
+fn put_refused(page: &mut [u8; 32768], at: usize, refusal: Refusal) -> usize {
+    let place = refusal.place;
+    match place {
+        Place::Nowhere => put_refused_whole(page, at, refusal.number),
+        Place::At(edge) => put_refused_at(page, at, refusal.number, edge),
+    }
 }
 
 // The answer for people.
-pub fn put_answer(page: &mut [u8; 32768], at: usize, a: Answer, view: View, soft: bool) -> usize {
+pub fn put_answer(page: &mut [u8; 32768], at: usize, a: Answer, s: Settings, soft: bool) -> usize {
     let n = match a {
         Answer::Found(d) => put_found(page, at, d, soft),
-        Answer::Refused(r) => put_refused(page, at, r.number),
+        Answer::Refused(r) => put_refused(page, at, r),
     };
-    put_settings(page, n, view, soft)
+    put_settings(
+        page,
+        n,
+        s,
+        b"  decode       @\n  settings     transforms ",
+        one_of(DECODE, soft),
+        b' ',
+        b"@, limit ~@, margin ~@\n",
+    )
 }
 
 // A found answer in keys and values.
@@ -159,7 +172,7 @@ fn put_plain_found(page: &mut [u8; 32768], at: usize, d: Decoded) -> usize {
         d.margin,
         d.runner_up_score,
     ];
-    put_form(
+    put_told(
         page,
         at,
         b"result=found square=%,% transform=% hits=% edges=% rate=~ mean=~ weighted=~ score=~ lead=~ \
@@ -169,26 +182,42 @@ fn put_plain_found(page: &mut [u8; 32768], at: usize, d: Decoded) -> usize {
     )
 }
 
-// A refusal in keys and values.
-fn put_plain_refused(page: &mut [u8; 32768], at: usize, number: u32) -> usize {
-    let wholes = [number];
-    put_wholes(page, at, b"result=refused number=% square=refused", &wholes)
+// A refusal in keys and values; where it is about an edge, its list, and its position from 0.
+fn put_plain_refused(page: &mut [u8; 32768], at: usize, refusal: Refusal) -> usize {
+    let place = refusal.place;
+    match place {
+        Place::Nowhere => {
+            let wholes = [refusal.number];
+            put_wholes(page, at, b"result=refused number=% square=refused", &wholes)
+        }
+        Place::At(edge) => {
+            let list = edge.list;
+            let wholes = [refusal.number, list_phrase(list), edge.position];
+            let none = [0.0f32; 1];
+            put_told(
+                page,
+                at,
+                b"result=refused number=% square=refused list=@ position=%",
+                &wholes,
+                &none,
+            )
+        }
+    }
 }
 
 // The answer in keys and values, for programs; the line is left open.
-pub fn put_plain(page: &mut [u8; 32768], at: usize, a: Answer, view: View, soft: bool) -> usize {
+pub fn put_plain(page: &mut [u8; 32768], at: usize, a: Answer, s: Settings, soft: bool) -> usize {
     let n = match a {
         Answer::Found(d) => put_plain_found(page, at, d),
-        Answer::Refused(r) => put_plain_refused(page, at, r.number),
+        Answer::Refused(r) => put_plain_refused(page, at, r),
     };
-    let n = put_line(
+    put_settings(
         page,
         n,
-        b" decode=hard transforms=\n decode=soft transforms=",
-        line_of(soft),
-    );
-    let n = put_transforms(page, n, view, b',');
-    let wholes = [0u32; 1];
-    let floats = [view.limit, view.margin];
-    put_form(page, n, b" limit=~ margin=~", &wholes, &floats)
+        s,
+        b" decode=@ transforms=",
+        one_of(PLAIN_DECODE, soft),
+        b',',
+        b" limit=~ margin=~",
+    )
 }

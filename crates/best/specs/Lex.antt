@@ -6,10 +6,7 @@ use Prim.Native.Nat.{ℕ, _<_}
 use lib.Dec.{ltb, eqb}
 use lib.ListN.{length}
 use lib.Ieee.{Float, lt, eq}
-use Rattle.laws.specs.Fold.{count}
-use Rattle.laws.specs.Best.{firstBest, lexBeats, above}
-use Rattle.laws.specs.Second.{second}
-use Rattle.laws.specs.Weights.{heavier}
+use Rattle.laws.specs.Words.{count, firstBest, above, lexBeats, second, heavier}
 use Rattle.best.specs.CellTables.{cAt, wAt}
 use Rattle.best.specs.declared.lex.LexMax.{LexMax}
 

@@ -11,9 +11,10 @@ use lib.ListN.{length}
 use lib.Ieee.{Float, lt, eq}
 use borrow.Author.Tests.{ltb-false, eq-eqb, eqb-true}
 use Rattle.laws.specs.Tests.{split, and-true}
-use Rattle.laws.specs.Best.{firstBest, lexBeats, lex-says, Weak, above, above-weak, lex-weak, lex-denies, in-bound, nothing-beats}
+use Rattle.laws.specs.Words.{firstBest, above, lexBeats, heavier}
+use Rattle.laws.specs.Best.{lex-says, Weak, above-weak, lex-weak, lex-denies, in-bound, nothing-beats}
 use Rattle.laws.specs.Second.{second-in, second-not, second-best}
-use Rattle.laws.specs.Weights.{weightlike, heavier}
+use Rattle.laws.specs.Weights.{weightlike}
 use Rattle.laws.specs.WeightLaws.{heavier-weak, eq-self}
 use Rattle.best.specs.CellTables.{cAt, wAt}
 use Rattle.best.specs.Lex.{order, lexBest, optimal, lexSecond}

@@ -5,7 +5,7 @@ use mathlib.Core.List.{List}
 use Prim.Native.Nat.{ℕ, _%_, _≤_, _<_}
 use lib.ListN.{getD, length}
 use lib.IntN.{ℤ, pos, natAbs}
-use Rattle.laws.specs.Weights.{Weight}
+use Rattle.laws.specs.Words.{Weight}
 use lib.Ieee.{nan}
 use Rattle.board.specs.declared.edge.Edge.{Edge}
 use Rattle.board.specs.Hits.{EdgeList, Board, size, seen}

@@ -7,8 +7,7 @@ use lib.Dec.{eqb}
 use lib.ListN.{getD, length}
 use lib.IntN.{ℤ, pos, _+ℤ_}
 use lib.Ieee.{Float}
-use Rattle.laws.specs.Fold.{count}
-use Rattle.laws.specs.Remainder.{emod}
+use Rattle.laws.specs.Words.{count, emod}
 use Rattle.answer.specs.declared.Square.{Square}
 use Rattle.board.specs.declared.edge.Edge.{Edge}
 use Rattle.board.specs.declared.edge.Placing.{Placing}

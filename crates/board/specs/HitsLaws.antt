@@ -10,11 +10,11 @@ use lib.ListN.{getD, length}
 use lib.IntN.{ℤ, pos, _+ℤ_}
 use borrow.Author.Tests.{not-true}
 use Rattle.laws.specs.Tests.{and-comm, and-ext}
-use Rattle.laws.specs.Fold.{fold, put, count, one}
+use Rattle.laws.specs.Words.{put, fold, one, count, joint}
 use Rattle.laws.specs.Counting.{count-le}
 use Rattle.laws.specs.DoubleCounting.{fold-ext, fold-split}
 use Rattle.laws.specs.RemainderLaws.{emod-class}
-use Rattle.laws.specs.Residues.{joint, joint-long, joint-short}
+use Rattle.laws.specs.Residues.{joint-long, joint-short}
 use Rattle.board.specs.Hits.{EdgeList, Board, size, seen, edgeAt, look, horizontal, bitAt, patternBit, predicted, edgeHit, hit, hits, misses}
 use Rattle.board.specs.Sides.{is, onSide, tableOf, periodOf, longOf, shortOf, sideHits}
 use Rattle.board.specs.Domain.{Patterns, BoardOk}

@@ -2,8 +2,7 @@
 use mathlib.Core.Path.{_≡_, refl}
 use mathlib.Core.List.{[], _∷_}
 use lib.IntN.{pos}
-use Rattle.laws.specs.Fold.{fold}
-use Rattle.laws.specs.Remainder.{emod}
+use Rattle.laws.specs.Words.{fold, emod}
 use Rattle.board.specs.Transform.{lookupOf, mat, matrices}
 use Rattle.board.specs.Hits.{edges, tables, look, predicted, hit, hits}
 

@@ -5,7 +5,7 @@ use mathlib.Core.List.{List}
 use mathlib.Core.Bool.{Bool, true, false, not, _&&_, cond}
 use lib.ListN.{length}
 use lib.IntN.{ℤ}
-use Rattle.laws.specs.Fold.{count}
+use Rattle.laws.specs.Words.{count}
 use Rattle.board.specs.Hits.{EdgeList, Board, size, look, horizontal, hit}
 
 -- the side s of a test that says horizontal

@@ -6,7 +6,7 @@ use lib.ListN.{getD}
 use lib.Dec.{eqb}
 use lib.IntN.{ℤ, pos, negsuc, _+ℤ_, _-ℤ_, _*ℤ_}
 use lib.Signed.{ltZ}
-use Rattle.laws.specs.Whole.{eqZ}
+use Rattle.laws.specs.Words.{eqZ}
 use Rattle.board.specs.declared.transform.EdgeLookup.{EdgeLookup}
 
 -- "The numbering is ours: 0 [[1,0],[0,1]]; 1 [[0,-1],[1,0]]; .." (-1 is `negsuc 0`)

@@ -9,7 +9,8 @@ use lib.Dec.{T, eqb, leb, leb→le}
 use lib.ListN.{getD}
 use lib.IntN.{ℤ, pos, sucℤ, natAbs, _+ℤ_, _-ℤ_, _*ℤ_, +ℤ-one, +ℤ-assoc, +ℤ-comm, *ℤ-comm, sucℤ-*ℤ}
 use lib.Signed.{ltZ}
-use Rattle.laws.specs.Whole.{abs-add, abs-sub, abs-mul, eqZ, eq-eqZ, ne-eqZ}
+use Rattle.laws.specs.Words.{eqZ}
+use Rattle.laws.specs.Whole.{abs-add, abs-sub, abs-mul, eq-eqZ, ne-eqZ}
 use Rattle.board.specs.declared.transform.EdgeLookup.{EdgeLookup}
 use Rattle.board.specs.Transform.{mat, matrices, mapped, lookupOfEnds, joined, lookupOf}
 

@@ -6,13 +6,12 @@ use mathlib.Core.List.{List}
 use Prim.Native.Nat.{ℕ, _+_, _*_, _/_, _%_}
 use lib.ListN.{getD, length}
 use lib.Ieee.{Float, binary32, add}
-use Rattle.laws.specs.Fold.{fold, all}
-use Rattle.laws.specs.Weights.{zeroF}
+use Rattle.laws.specs.Words.{fold, all, zeroF}
 use Rattle.board.specs.Hits.{EdgeList, Board}
 use Rattle.board.specs.Sides.{tableOf, periodOf, sideHits}
 use Rattle.cells.specs.Listed.{listed}
 use Rattle.groups.specs.Groups.{groupSum, groupCount, confidenceAt}
-use Rattle.groups.specs.Terms.{termSum}
+use Rattle.terms.specs.Terms.{termSum}
 
 -- ---- the classes of a cell
 -- how many cells stand in a row of the table

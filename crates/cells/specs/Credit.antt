@@ -13,9 +13,9 @@ use Rattle.board.specs.Sides.{tableOf, periodOf}
 use Rattle.board.specs.Domain.{BoardOk}
 use Rattle.room.specs.declared.Side.{Side}
 use Rattle.room.specs.Room.{isHorizontal, strideOf, acrossOf}
-use Rattle.groups.specs.declared.terms.FamilyTerm.{FamilyTerm}
+use Rattle.terms.specs.declared.FamilyTerm.{FamilyTerm}
 use Rattle.cells.specs.Spread.{Fits, Spread}
-use Rattle.groups.specs.Terms.{termC, termW, noTerm, placesN, placesF, Six}
+use Rattle.terms.specs.Terms.{termC, termW, noTerm, placesN, placesF, Six}
 use Rattle.cells.specs.Cells.{longClass, shortClass, patternAt}
 
 -- ---- terms added at some places

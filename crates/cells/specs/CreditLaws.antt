@@ -11,19 +11,18 @@ use lib.Dec.{lit<}
 use lib.ListN.{getD, length, drop, length-drop}
 use lib.Seq.{getD-drop}
 use lib.Ieee.{Float, nan, binary32, add}
-use Rattle.laws.specs.Fold.{fold, all}
+use Rattle.laws.specs.Words.{fold, all, zeroF}
 use Rattle.laws.specs.PlusZero.{add-plus-zero}
-use Rattle.laws.specs.Weights.{zeroF}
 use Rattle.laws.specs.Residues.{below-3}
 use Rattle.laws.specs.Tests.{split}
 use Rattle.laws.specs.Zone.{zone-none}
 use Rattle.board.specs.Hits.{Board}
 use Rattle.board.specs.Sides.{tableOf, periodOf}
 use Rattle.board.specs.HitsLaws.{side-some}
-use Rattle.groups.specs.declared.terms.FamilyTerm.{FamilyTerm}
+use Rattle.terms.specs.declared.FamilyTerm.{FamilyTerm}
 use Rattle.cells.specs.Spread.{Fits, Spread, fits-next, spread-next, fits-perm, spread-perm}
-use Rattle.groups.specs.Terms.{term, Terms, noTerm, placesN, placesF}
-use Rattle.groups.specs.TermsLaws.{terms-at, no-term}
+use Rattle.terms.specs.Terms.{term, Terms, noTerm, placesN, placesF}
+use Rattle.terms.specs.TermsLaws.{terms-at, no-term}
 use Rattle.cells.specs.Cells.{longClass, shortClass}
 use Rattle.cells.specs.Credit.{stepped, termIn, CountsFit, WeightsFit, CountsAdded, WeightsAdded, CountsIn, WeightsIn, runPlace, entry, runTerm, fourPlace, fourTerm, Standing, RunReady, RunCells, RunCredited, cellPattern, FamilyReady, FamilyCredited}
 use Rattle.room.specs.declared.Side.{Side}

@@ -5,7 +5,7 @@ ghost use Prim.Native.Nat.{_+_, _<_, _^_};
 ghost use lib.ListN.{length, getD, set};
 ghost use lib.Ieee.{nan, binary32, add};
 ghost use Rattle.cells.specs.Credit.{stepped, termIn, CountsFit, CountsAdded, WeightsFit, WeightsAdded};
-use groups::terms::FamilyTerm;
+use terms::FamilyTerm;
 
 // Adds x to the count at place k.
 fn add_count(counts: &mut [u32], k: usize, x: u32)

@@ -7,8 +7,8 @@ use crate::add::add_class_counts;
 use crate::add::add_class_weights;
 use crate::add::add_four_counts;
 use crate::add::add_four_weights;
-use groups::terms::FamilyTerm;
-use groups::terms::FamilyTerms;
+use terms::FamilyTerm;
+use terms::FamilyTerms;
 
 // A run, one class at a time.
 fn credit_singles(

@@ -7,8 +7,7 @@ use lib.ListN.{getD, length}
 use lib.IntN.{ℤ, pos, negsuc}
 use lib.Signed.{ltZ}
 use lib.Ieee.{Float, nan, fin, le}
-use Rattle.laws.specs.First.{first}
-use Rattle.laws.specs.Weights.{zeroF, oneF}
+use Rattle.laws.specs.Words.{first, zeroF, oneF}
 use Rattle.board.specs.Hits.{EdgeList, size}
 use Rattle.likelihood.specs.Likelihood.{acceptable}
 

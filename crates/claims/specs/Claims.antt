@@ -9,7 +9,7 @@ use lib.Dec.{ltb}
 use lib.ListN.{length}
 use lib.IntN.{pos}
 use lib.Ieee.{nan}
-use Rattle.laws.specs.Weights.{zeroF, oneF}
+use Rattle.laws.specs.Words.{zeroF, oneF}
 use Rattle.laws.specs.Cleared.{cleared-written}
 use Rattle.board.specs.declared.edge.Placing.{Placing}
 use Rattle.board.specs.Hits.{EdgeList, Board, size, hits, hitsAt}
@@ -332,4 +332,5 @@ module _ (list : EdgeList) (transform row col : ℕ) (board : Board) (answer : S
     early = record { accepts = stats-accepts; number = stats-early list transform row col board; place = stats-place list transform row col board; old-number = stats-document-01 list transform row col board; refuses = stats-refused };
     by-the-rules = stats-by-the-rules;
     counted = stats-hits;
+    answer-in-range = stats-answer-in-range;
   }

@@ -5,8 +5,7 @@ use mathlib.Core.List.{[], _∷_}
 use Prim.Native.Nat.{ℕ}
 use lib.IntN.{ℤ, pos, negsuc, negℤ}
 use lib.Ieee.{fin}
-use Rattle.laws.specs.Remainder.{emod}
-use Rattle.laws.specs.Residues.{joint, numer}
+use Rattle.laws.specs.Words.{emod, numer, joint}
 use Rattle.board.specs.Transform.{lookupOf, mat, matrices}
 use Rattle.board.specs.Hits.{EdgeList, edges, look}
 use Rattle.board.specs.Sides.{onSide, longOf, shortOf}

@@ -1,6 +1,6 @@
--- WHAT SAMBUREXT PROMISES, in words: definitions alone, a record for each entry point with a field for each promise. Claims.antt proves them of all that the contracts allow
--- (`hard-promise`, `soft-promise`, `stats-promise`); these have no `requires`, so the promises hold for all inputs and every pair of pattern tables. Quotes are
--- of the demands (docs/CONTRACTS.md). Each word is defined in the file that stands behind it:
+-- WHAT SAMBUREXT PROMISES, in words: definitions alone, a record for each entry point with a field for each promise. Claims.antt proves them of all that the
+-- contracts allow (`hard-promise`, `soft-promise`, `stats-promise`); these have no `requires`, so the promises hold for all inputs and every pair of pattern
+-- tables. That there are cases to which demand 3 applies is in Witness.antt. Quotes are of the demands (docs/CONTRACTS.md). The words:
 --   list        edges, a column for each field: row, column, orientation, bit, confidence; logical after the votes, physical as seen (board/specs/Hits.antt)
 --   board       the two pattern tables, horizontal and vertical (Hits.antt); a call holds lists, transforms, board and error limit (admission/specs/Calls.antt)
 --   placing     a place in the transform list with a row and a column of the board (demand/specs/Demand.antt)
@@ -20,7 +20,7 @@ use Prim.Native.Nat.{ℕ, _≤_, _<_}
 use lib.ListN.{getD, length}
 use lib.IntN.{ℤ, pos}
 use lib.Ieee.{Float, nan}
-use Rattle.laws.specs.Weights.{zeroF}
+use Rattle.laws.specs.Words.{zeroF}
 use Rattle.board.specs.declared.edge.Placing.{Placing}
 use Rattle.board.specs.Hits.{EdgeList, Board, size, hits, hitsAt}
 use Rattle.board.specs.Domain.{BoardOk, ListOk}
@@ -56,6 +56,7 @@ use Rattle.decode_soft.specs.Soft.{softAnswer, SoftDone}
 use Rattle.decode_soft.specs.SoftDemand.{marginOf, FirstByLikelihood, SecondByLikelihood, SoftAnswered}
 use Rattle.decode_soft.specs.SoftLate.{SoftLate}
 use Rattle.stats.specs.Stats.{statsOf}
+use Rattle.stats.specs.StatsRange.{StatsInRange}
 
 -- ---- EARLY REFUSALS, of every entry point
 -- "A refusal carries no square": it is its number and its place, and nothing else
@@ -76,8 +77,8 @@ pub record Early (checked : Admission) (domain : Type 0) (count : ListName → �
   pub refuses : (refusal : Refusal) → checked ≡ admission.Refused refusal → refused refusal
 
 -- ---- RUNNER-UP
--- "In the domain a runner-up always exists, and this is proved": whatever the selection on an accepted list chose, passed by the gate or not, another placing has the hits
--- that are reported as the runner-up's, and no third has more
+-- "In the domain a runner-up always exists, and this is proved": whatever the selection on an accepted list chose, passed by the gate or not, another placing
+-- has the hits that are reported as the runner-up's, and no third has more
 abbrev pub RunnerUpAlways : Type 0
 RunnerUpAlways =
     (board : Board) (list : EdgeList) (transforms : List ℕ) (limit : Float) → BoardOk board → ListOk list → length transforms ≤ 8
@@ -167,11 +168,9 @@ pub record SoftPromise (call : SoftCall) (before after : SoftRoom) (answer : Ans
   -- DEMAND 1, as of hard decode
   pub early : Early (softChecked call before) (InSoftDomain call before) (hardCount (call .hard)) (softBad call) (softNumbers01 call (length (before .counts)) (length (before .weights)) (length (before .sums)))
       (λ refusal. (answer ≡ Refused refusal) × (after .counts ≡ before .counts) × (after .weights ≡ before .weights) × (after .sums ≡ before .sums))
-  pub room-zero : InSoftDomain call before
-      → Emptied 0 0 3006 (before .counts) (after .counts) × Emptied nan zeroF 3006 (before .weights) (after .weights) × Emptied (pos 0) (pos 0) 5010 (before .sums) (after .sums)
+  pub room-zero : InSoftDomain call before → Emptied 0 0 3006 (before .counts) (after .counts) × Emptied nan zeroF 3006 (before .weights) (after .weights) × Emptied (pos 0) (pos 0) 5010 (before .sums) (after .sums)
   -- then it is refused by 10, 11, 13, 14 or 15, if at all, and about no edge
-  pub refused-late : InSoftDomain call before → (refusal : Refusal) → answer ≡ Refused refusal
-      → ((10 ≤ refusal .number) × (refusal .number ≤ 15) × (refusal .number ≡ 12 → ⊥)) × (refusal .place ≡ Nowhere)
+  pub refused-late : InSoftDomain call before → (refusal : Refusal) → answer ≡ Refused refusal → ((10 ≤ refusal .number) × (refusal .number ≤ 15) × (refusal .number ≡ 12 → ⊥)) × (refusal .place ≡ Nowhere)
   pub refused-exactly : InSoftDomain call before → SoftLate call answer
   pub answer-in-range : (found : Decoded) → answer ≡ Found found → AnswerInRange found
   pub no-influence : (before' after' : SoftRoom) (answer' : Answer) → SoftGave call before' after' answer'
@@ -188,9 +187,10 @@ pub record SoftPromise (call : SoftCall) (before after : SoftRoom) (answer : Ans
 -- ---- MATCH STATISTICS, of a list at one square
 pub record StatsPromise (list : EdgeList) (transform row col : ℕ) (board : Board) (answer : StatsAnswer) : Type 0 where
   -- DEMAND 1
-  pub early : Early (statsAdmission list transform row col board) (StatsDomain list transform row col board) (statsCount list) (statsBad list) (statsNumbers01 list transform row col board)
-      (λ refusal. answer ≡ stats.Refused refusal)
+  pub early : Early (statsAdmission list transform row col board) (StatsDomain list transform row col board) (statsCount list) (statsBad list) (statsNumbers01 list transform row col board) (λ refusal. answer ≡ stats.Refused refusal)
   -- DEMAND 2: every other call gives the statistics of document 01
   pub by-the-rules : StatsDomain list transform row col board → answer ≡ stats.Counted (statsOf list transform row col board)
   -- counted means: the hits are board's, edge by edge, of all the edges
   pub counted : (counted : MatchStats) → answer ≡ stats.Counted counted → (counted .hits ≡ hits board list transform row col) × (counted .edges ≡ size list)
+  -- and is in range: its whole numbers, and no float is a NaN or an infinity
+  pub answer-in-range : (counted : MatchStats) → answer ≡ stats.Counted counted → StatsInRange counted

@@ -7,8 +7,7 @@ use Prim.Native.Nat.{_*_}
 use lib.IntN.{pos, negsuc}
 use lib.ListN.{replicate}
 use lib.Ieee.{binary32, ofBits, ofFields, add, le, lt, eq, sum, round}
-use Rattle.laws.specs.First.{first, firstFrom}
-use Rattle.laws.specs.Weights.{zeroF, oneF}
+use Rattle.laws.specs.Words.{firstFrom, first, zeroF, oneF}
 use Rattle.likelihood.specs.Likelihood.{acceptable}
 use Rattle.checks.specs.Checks.{far, badByte, firstBadByte, inRange, marginTop, sizeBad, transformsBad, tableBad, originBad}
 use Rattle.admission.specs.Refusals.{roomShort, softRoomShort}

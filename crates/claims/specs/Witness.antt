@@ -12,11 +12,8 @@ use lib.IntN.{ℤ, pos, negsuc, negℤ}
 use lib.Signed.{ltZ}
 use lib.Ieee.{fin, add, sub, div, ofInt, le, lt, eq, sum, round}
 use borrow.Author.Tests.{eqb-true, ltb-true, not-true, not-false}
-use Rattle.laws.specs.First.{first, firstFrom, first-none}
-use Rattle.laws.specs.Fold.{fold}
-use Rattle.laws.specs.Grid.{origins}
-use Rattle.laws.specs.Remainder.{emod}
-use Rattle.laws.specs.Weights.{zeroF, oneF}
+use Rattle.laws.specs.Words.{fold, firstFrom, first, emod, origins, zeroF, oneF}
+use Rattle.laws.specs.First.{first-none}
 use Rattle.board.specs.declared.edge.Placing.{Placing}
 use Rattle.board.specs.Transform.{matrices, mat, mapped, lookupOfEnds, joined, lookupOf}
 use Rattle.board.specs.Hits.{EdgeList, Board, edges, tables, look, predicted, hit, hits}

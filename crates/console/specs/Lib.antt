@@ -1,2 +1,4 @@
+pub mod Bits
+pub mod Numeral
 pub mod Page
 pub mod Part

@@ -1,5 +1,6 @@
-// Text with numbers in it, by one call. In a form `%` stands for the next whole number, `~` for the next float as a decimal, and `^` for the next float by its bits;
-// every other byte stands for itself. Where the numbers are used up, a mark puts nothing.
+// Text with numbers in it, by one call. In a form `%` stands for the next whole number, `@` for the line of a text of phrases that the next whole number names (from
+// 0 on), `~` for the next float as a decimal, and `^` for the next float by its bits; every other byte stands for itself. Where the numbers are used up, a mark puts
+// nothing.
 use crate::page::put_byte;
 use crate::page::put_count;
 use crate::page::put_float;
@@ -12,12 +13,24 @@ struct Reach {
     floats: usize,
 }
 
-// The next whole number.
-fn with_whole(page: &mut [u8; 32768], r: Reach, wholes: &[u32]) -> Reach {
+// The next whole number, or the phrase that it names.
+fn with_whole(
+    page: &mut [u8; 32768],
+    r: Reach,
+    phrases: &[u8],
+    wholes: &[u32],
+    named: bool,
+) -> Reach {
     let k = r.wholes;
     if k < wholes.len() {
+        let x = wholes[k];
+        let end = if named {
+            put_line(page, r.end, phrases, x)
+        } else {
+            put_count(page, r.end, x)
+        };
         return Reach {
-            end: put_count(page, r.end, wholes[k]),
+            end,
             wholes: k + 1,
             floats: r.floats,
         };
@@ -45,9 +58,16 @@ fn with_float(page: &mut [u8; 32768], r: Reach, floats: &[f32], bits: bool) -> R
 }
 
 // One byte of a form.
-fn step(page: &mut [u8; 32768], r: Reach, b: u8, wholes: &[u32], floats: &[f32]) -> Reach {
-    if b == b'%' {
-        return with_whole(page, r, wholes);
+fn step(
+    page: &mut [u8; 32768],
+    r: Reach,
+    b: u8,
+    phrases: &[u8],
+    wholes: &[u32],
+    floats: &[f32],
+) -> Reach {
+    if b == b'%' || b == b'@' {
+        return with_whole(page, r, phrases, wholes, b == b'@');
     }
     if b == b'~' || b == b'^' {
         return with_float(page, r, floats, b == b'^');
@@ -59,11 +79,12 @@ fn step(page: &mut [u8; 32768], r: Reach, b: u8, wholes: &[u32], floats: &[f32])
     }
 }
 
-// A form with whole numbers and floats.
+// A form with phrases, whole numbers and floats.
 pub fn put_form(
     page: &mut [u8; 32768],
     at: usize,
     form: &[u8],
+    phrases: &[u8],
     wholes: &[u32],
     floats: &[f32],
 ) -> usize {
@@ -73,7 +94,7 @@ pub fn put_form(
         floats: 0,
     };
     for i in 0..form.len() {
-        r = step(page, r, form[i], wholes, floats);
+        r = step(page, r, form[i], phrases, wholes, floats);
     }
     r.end
 }
@@ -81,7 +102,7 @@ pub fn put_form(
 // A form with whole numbers alone.
 pub fn put_wholes(page: &mut [u8; 32768], at: usize, form: &[u8], wholes: &[u32]) -> usize {
     let none = [0.0f32; 1];
-    put_form(page, at, form, wholes, &none)
+    put_form(page, at, form, b"", wholes, &none)
 }
 
 // How far a text is looked through: where the page's text ends, and the line.

@@ -2,12 +2,17 @@
 // page that is full takes no more.
 ghost use mathlib.Core.Path.{_≡_};
 ghost use Prim.Native.Nat.{_+_};
-ghost use lib.ListN.{length};
+ghost use mathlib.Core.List.{[], _∷_};
+ghost use lib.Dec.{ltb};
+ghost use lib.ListN.{length, replicate, take};
 ghost use Rattle.console.specs.Page.{taken, written};
+ghost use Rattle.console.specs.Numeral.{PutNumber};
 use libc::STDOUT_FILENO;
 
 // A page with nothing on it.
-pub fn blank() -> [u8; 32768] {
+pub fn blank() -> [u8; 32768]
+    ensures { λ r. ⌜ r ≡ replicate 32768 0 ⌝ }
+{
     [0; 32768]
 }
 
@@ -36,25 +41,32 @@ pub fn put(page: &mut [u8; 32768], at: usize, text: &[u8]) -> usize
 // One byte.
 pub fn put_byte(page: &mut [u8; 32768], at: usize, b: u8) -> usize
     ensures { λ r. ⌜ r ≡ at + taken at 1 ⌝ }
+    ensures { λ _. ⌜ now (page .exit) ≡ written (now (page .entry)) at (b ∷ []) (taken at 1) ⌝ }
 {
     let text = [b];
     put(page, at, &text)
 }
 
 // A whole number.
-pub fn put_number(page: &mut [u8; 32768], at: usize, n: u64) -> usize {
+pub(crate) fn put_number(page: &mut [u8; 32768], at: usize, n: u64) -> usize
+    ensures { λ r. ⌜ PutNumber 10 1 n (now (page .entry)) at (now (page .exit)) r ⌝ }
+{
     let mut digits = [0u8; 20];
     let k = io::decimal(n, &mut digits);
     put(page, at, &digits[..k])
 }
 
 // A whole number of the width that most have.
-pub fn put_count(page: &mut [u8; 32768], at: usize, n: u32) -> usize {
+pub fn put_count(page: &mut [u8; 32768], at: usize, n: u32) -> usize
+    ensures { λ r. ⌜ PutNumber 10 1 n (now (page .entry)) at (now (page .exit)) r ⌝ }
+{
     put_number(page, at, n as u64)
 }
 
 // A whole number in eight hexadecimal digits.
-pub fn put_word(page: &mut [u8; 32768], at: usize, n: u32) -> usize {
+pub fn put_word(page: &mut [u8; 32768], at: usize, n: u32) -> usize
+    ensures { λ r. ⌜ PutNumber 16 8 n (now (page .entry)) at (now (page .exit)) r ⌝ }
+{
     let mut digits = [0u8; 16];
     let k = io::hex(n as u64, 8, &mut digits);
     put(page, at, &digits[..k])
@@ -104,7 +116,7 @@ fn put_millionths(page: &mut [u8; 32768], at: usize, n: u64) -> usize {
 }
 
 // A float as a decimal number, to six places; NaN has its name.
-pub fn put_float(page: &mut [u8; 32768], at: usize, x: f32) -> usize {
+pub(crate) fn put_float(page: &mut [u8; 32768], at: usize, x: f32) -> usize {
     let y = std::num::f32_to_f64_with_nan(x);
     if y < 0.0 {
         let minus = put_byte(page, at, b'-');
@@ -124,12 +136,16 @@ pub fn put_argument(page: &mut [u8; 32768], at: usize, i: usize) -> usize {
 }
 
 // Whether the page was not full, so that it holds all that was put on it.
-pub fn is_whole(n: usize) -> bool {
+pub fn is_whole(n: usize) -> bool
+    ensures { λ r. ⌜ r ≡ ltb n 32768 ⌝ }
+{
     n < 32768
 }
 
 // The front of the page, as far as text stands on it.
-pub fn front(page: &[u8; 32768], n: usize) -> &[u8] {
+pub fn front(page: &[u8; 32768], n: usize) -> &[u8]
+    ensures { λ r. ⌜ now r ≡ take n (now (page .entry)) ⌝ }
+{
     crate::part::front_u8(page, n)
 }
 

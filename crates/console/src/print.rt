@@ -1,5 +1,6 @@
 // Text, numbers and floats written to standard output at once.
 ghost use mathlib.Core.Path.{_≡_};
+ghost use Rattle.console.specs.Bits.{bitsOf};
 use crate::form::put_form;
 use crate::page::blank;
 use crate::page::put;
@@ -25,17 +26,22 @@ pub fn print_number(n: u32) {
 // A form with its numbers.
 pub fn print_form(form: &[u8], wholes: &[u32], floats: &[f32]) {
     let mut page = blank();
-    let n = put_form(&mut page, 0, form, wholes, floats);
+    let n = put_form(&mut page, 0, form, b"", wholes, floats);
     write(STDOUT_FILENO, &page, n);
 }
 
 // The bits of a float; each NaN gives the same, 7fc00000.
-pub fn bits_of(x: f32) -> u32 {
-    if x == x { f32::to_bits(x) } else { 2143289344 }
+pub fn bits_of(x: f32) -> u32
+    ensures { λ r. ⌜ r ≡ bitsOf x ⌝ }
+{
+    if x != x {
+        return 2143289344;
+    }
+    f32::to_bits(x)
 }
 
 // The bits of a float in eight hexadecimal digits; a NaN is named.
-pub fn put_bits(page: &mut [u8; 32768], at: usize, x: f32) -> usize {
+pub(crate) fn put_bits(page: &mut [u8; 32768], at: usize, x: f32) -> usize {
     if x == x {
         put_word(page, at, bits_of(x))
     } else {

@@ -6,7 +6,7 @@ use Prim.Native.Nat.{ℕ, _-_}
 use lib.ListN.{getD, length}
 use lib.IntN.{pos}
 use lib.Ieee.{Float, nan, binary32, ofInt}
-use Rattle.laws.specs.Weights.{zeroF, oneF}
+use Rattle.laws.specs.Words.{zeroF, oneF}
 use Rattle.laws.specs.Cleared.{SameBeyond}
 use Rattle.board.specs.Hits.{EdgeList, Board, size}
 use Rattle.room.specs.Room.{tablesRoom}

@@ -6,7 +6,7 @@ use lib.Dec.{eqb}
 use lib.ListN.{getD}
 use borrow.Author.Tests.{eq-eqb, eqb-true}
 use Rattle.laws.specs.Tests.{and-true, clash, not-so}
-use Rattle.laws.specs.Weights.{oneF}
+use Rattle.laws.specs.Words.{oneF}
 use Rattle.board.specs.Hits.{size, hitsAt}
 use Rattle.admission.specs.Calls.{HardCall}
 use Rattle.admission.specs.Accepted.{HardAccepted}

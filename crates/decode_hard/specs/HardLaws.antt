@@ -9,8 +9,8 @@ use lib.Dec.{T, lit<}
 use lib.ListN.{getD, length}
 use lib.IntN.{ℤ, pos, negsuc}
 use lib.Ieee.{Float, nan}
-use Rattle.laws.specs.Weights.{zeroF, oneF}
-use Rattle.laws.specs.Cleared.{cleared, SameBeyond, beyond-trans, cleared-forgets}
+use Rattle.laws.specs.Words.{zeroF, oneF, cleared}
+use Rattle.laws.specs.Cleared.{SameBeyond, beyond-trans, cleared-forgets}
 use Rattle.board.specs.Hits.{EdgeList, Board, size}
 use Rattle.board.specs.Transform.{mat}
 use Rattle.board.specs.Sides.{periodOf}

@@ -5,7 +5,7 @@ use native.Mathlib.Omega.{arith}
 use lib.ListN.{getD}
 use lib.IntN.{pos}
 use lib.Ieee.{binary32, ofInt}
-use Rattle.laws.specs.Weights.{oneF}
+use Rattle.laws.specs.Words.{oneF}
 use Rattle.laws.specs.WithinLaws.{within-finite, whole-within}
 use Rattle.board.specs.Hits.{size}
 use Rattle.board.specs.HitsLaws.{hits-le}

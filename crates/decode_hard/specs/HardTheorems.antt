@@ -9,7 +9,7 @@ use lib.IntN.{pos}
 use lib.Ieee.{binary32, ofInt}
 use borrow.Author.Tests.{eq-eqb, eqb-true}
 use Rattle.laws.specs.Tests.{and-true}
-use Rattle.laws.specs.Weights.{oneF}
+use Rattle.laws.specs.Words.{oneF}
 use Rattle.board.specs.declared.edge.Placing.{Placing}
 use Rattle.board.specs.Hits.{size}
 use Rattle.admission.specs.Calls.{HardCall}

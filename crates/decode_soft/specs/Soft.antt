@@ -6,7 +6,7 @@ use Prim.Native.Nat.{ℕ, _+_, _*_, _%_}
 use lib.ListN.{getD, length}
 use lib.IntN.{ℤ, pos}
 use lib.Ieee.{Float, nan, binary32, add, div, ofInt}
-use Rattle.laws.specs.Weights.{zeroF}
+use Rattle.laws.specs.Words.{zeroF}
 use Rattle.laws.specs.Cleared.{SameBeyond}
 use Rattle.board.specs.Hits.{EdgeList, Board, size}
 use Rattle.board.specs.Sides.{periodOf}

@@ -9,7 +9,7 @@ use lib.ListN.{getD, length}
 use lib.IntN.{ℤ, pos}
 use lib.Signed.{ltZ}
 use lib.Ieee.{Float, binary32, lt, ofInt}
-use Rattle.laws.specs.Grid.{origins}
+use Rattle.laws.specs.Words.{origins}
 use Rattle.board.specs.declared.edge.Placing.{Placing}
 use Rattle.board.specs.Hits.{EdgeList, Board, size, hitsAt}
 use Rattle.board.specs.Sides.{periodOf}

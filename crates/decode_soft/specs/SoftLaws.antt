@@ -11,10 +11,10 @@ use lib.ListN.{getD, length, take, drop}
 use lib.Seq.{getD-take, getD-drop}
 use lib.IntN.{ℤ, pos}
 use lib.Ieee.{Float, nan, binary32, add, eq}
-use Rattle.laws.specs.Weights.{zeroF}
+use Rattle.laws.specs.Words.{zeroF, cleared}
 use Rattle.laws.specs.Part.{view}
 use Rattle.laws.specs.GridLaws.{h-below, v-below}
-use Rattle.laws.specs.Cleared.{cleared, SameBeyond, beyond-refl, beyond-trans, cleared-forgets}
+use Rattle.laws.specs.Cleared.{SameBeyond, beyond-refl, beyond-trans, cleared-forgets}
 use Rattle.board.specs.Hits.{EdgeList, Board, size}
 use Rattle.board.specs.Sides.{periodOf}
 use Rattle.board.specs.Domain.{ListOk, BoardOk}

@@ -11,7 +11,7 @@ use lib.IntN.{ℤ, pos}
 use lib.Ieee.{Float, binary32, sub, div, ofInt}
 use borrow.Author.Tests.{eq-eqb, eqb-true, eqb-false}
 use Rattle.laws.specs.Tests.{and-true}
-use Rattle.laws.specs.Grid.{Grid, origins}
+use Rattle.laws.specs.Words.{Grid, origins}
 use Rattle.board.specs.declared.edge.Placing.{Placing}
 use Rattle.board.specs.Hits.{EdgeList, Board, size, hits, hitsAt}
 use Rattle.board.specs.Sides.{periodOf}

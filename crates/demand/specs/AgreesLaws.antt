@@ -6,7 +6,7 @@ use mathlib.Core.Logic.{⊎-elim}
 use Prim.Native.Nat.{ℕ, _≤_, _<_}
 use native.Mathlib.Omega.{arith}
 use lib.ListN.{getD, length}
-use Rattle.laws.specs.Weights.{oneF}
+use Rattle.laws.specs.Words.{oneF}
 use Rattle.board.specs.declared.edge.Placing.{Placing}
 use Rattle.board.specs.Hits.{EdgeList, Board, size, hits, hitsAt}
 use Rattle.board.specs.Domain.{ListOk, BoardOk}

@@ -1,7 +1,7 @@
 -- What a call leaves in the room that it was lent.
 use mathlib.Core.List.{List}
 use Prim.Native.Nat.{ℕ}
-use Rattle.laws.specs.Cleared.{cleared}
+use Rattle.laws.specs.Words.{cleared}
 use Rattle.refusals.specs.declared.Admission.{Admission}
 use Rattle.refusals.specs.declared.Admission.the-variants as admission
 

@@ -5,8 +5,8 @@ use Prim.Native.Nat.{ℕ, _≤_, _<_}
 use native.Mathlib.Nat.{le-trans, le-of-eq}
 use lib.ListN.{length}
 use lib.Ieee.{Float, nan}
-use Rattle.laws.specs.Weights.{oneF}
-use Rattle.laws.specs.Cleared.{cleared, SameBeyond}
+use Rattle.laws.specs.Words.{oneF, cleared}
+use Rattle.laws.specs.Cleared.{SameBeyond}
 use Rattle.board.specs.Hits.{EdgeList, Board, size}
 use Rattle.board.specs.Domain.{ListOk, BoardOk}
 use Rattle.room.specs.Room.{tablesRoom}

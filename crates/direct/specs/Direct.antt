@@ -1,7 +1,7 @@
 -- Document 01, 'Hard selection': "From 1,025, all origins are tried in row-major order, each rate-tested, with rounded weight sums."
 use Prim.Native.Nat.{ℕ, zero, suc, _+_, _*_, _/_, _%_}
 use lib.Ieee.{Float, add, div, binary32}
-use Rattle.laws.specs.Grid.{Grid, origins}
+use Rattle.laws.specs.Words.{Grid, origins}
 use Rattle.best.specs.CellTables.{CellTables, cAt, wAt}
 use Rattle.scan.specs.Scan.{offeredWithin}
 use Rattle.scan.specs.declared.scan.Candidate.{Candidate}

@@ -7,7 +7,7 @@ use flat::flat::FlatAnswer;
 
 // Soft decode: which square the camera faces by the likelihoods of the physical list, confirmed by the hits of the logical list, or a refusal.
 #[no_mangle]
-pub extern "C" fn samburext_decode_soft<'a>(
+pub extern "C" fn samburext_decode_soft_2<'a>(
     lrows: &[i32],
     lcols: &[i32],
     lorientations: &[u8],

@@ -17,7 +17,7 @@ fn narrowed(transform: u32) -> u8
 
 // Match statistics: how a list fits one known transform and origin, or a refusal.
 #[no_mangle]
-pub extern "C" fn samburext_match_stats<'a>(
+pub extern "C" fn samburext_match_stats_2<'a>(
     rows: &[i32],
     cols: &[i32],
     orientations: &[u8],

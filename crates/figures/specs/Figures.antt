@@ -6,8 +6,7 @@ use lib.Dec.{eqb}
 use lib.ListN.{getD, length}
 use lib.IntN.{pos}
 use lib.Ieee.{Float, nan, binary32, add, div, ofInt, eq}
-use Rattle.laws.specs.Fold.{fold, all}
-use Rattle.laws.specs.Weights.{zeroF}
+use Rattle.laws.specs.Words.{fold, all, zeroF}
 use Rattle.board.specs.Hits.{EdgeList}
 
 -- "Rate = misses / edges, one f32 division"

@@ -4,8 +4,8 @@ use mathlib.Core.List.{List}
 use Prim.Native.Nat.{ℕ, _+_}
 use lib.ListN.{getD}
 use lib.Ieee.{Float, nan, binary32, add}
-use Rattle.laws.specs.Fold.{all, fold-zero, fold-hit}
-use Rattle.laws.specs.Weights.{zeroF}
+use Rattle.laws.specs.Words.{all, zeroF}
+use Rattle.laws.specs.Fold.{fold-zero, fold-hit}
 use Rattle.figures.specs.Figures.{confidenceTo}
 
 pub confidence-none : (ws : List Float) → zeroF ≡ confidenceTo ws 0

@@ -12,7 +12,8 @@ use lib.Ieee.Back.{round-whole}
 use lib.Ieee.Positive.{first-pos}
 use lib.Ieee.Scale.{round-same}
 use borrow.Author.Tests.{ne-eqb, eqb-false}
-use Rattle.laws.specs.Weights.{zeroF, Within}
+use Rattle.laws.specs.Words.{zeroF}
+use Rattle.laws.specs.Weights.{Within}
 use Rattle.laws.specs.WithinLaws.{round-within, div-within}
 use Rattle.figures.specs.Figures.{rateOf, meanOf}
 

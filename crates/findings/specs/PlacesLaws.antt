@@ -9,7 +9,8 @@ use lib.ListN.{length}
 use lib.Ieee.{Float}
 use borrow.Author.Tests.{ltb-true, ltb-false, eqb-true, not-false}
 use Rattle.laws.specs.Tests.{and-true}
-use Rattle.laws.specs.First.{first, first-passes, first-before, first-none}
+use Rattle.laws.specs.Words.{first}
+use Rattle.laws.specs.First.{first-passes, first-before, first-none}
 use Rattle.board.specs.Hits.{EdgeList, size}
 use Rattle.refusals.specs.declared.Refusal.{Refusal}
 use Rattle.refusals.specs.declared.Admission.{Admission}

@@ -3,8 +3,8 @@ use Prim.Native.Nat.{ℕ, _*_, _≤_}
 use mathlib.Core.Bool.{true, false}
 use native.Mathlib.Nat.{mul-le-mul}
 use native.Mathlib.Omega.{arith}
-use Rattle.laws.specs.Grid.{Laws, origins}
-use Rattle.laws.specs.GridLaws.{origins-laws}
+use Rattle.laws.specs.Words.{origins}
+use Rattle.laws.specs.GridLaws.{Laws, origins-laws}
 use Rattle.board.specs.Hits.{Board}
 use Rattle.board.specs.Sides.{periodOf}
 use Rattle.board.specs.Domain.{BoardOk}

@@ -5,8 +5,8 @@ use Prim.Native.Nat.{ℕ, zero, suc, _*_, _/_, _≤_, _<_}
 use native.Mathlib.Nat.{mod-le, mul-le-mul-right}
 use native.Mathlib.Numerals.{add-one}
 use native.Mathlib.Omega.{arith}
-use Rattle.laws.specs.Grid.{rowOf, origins}
-use Rattle.laws.specs.Residues.{joint, joint-long}
+use Rattle.laws.specs.Words.{joint, rowOf, origins}
+use Rattle.laws.specs.Residues.{joint-long}
 use Rattle.best.specs.CellTables.{Period}
 use Rattle.grid.specs.RowMajor.{lowest}
 use Rattle.grid.specs.RowMajorLaws.{lowest-no, lowest-old}

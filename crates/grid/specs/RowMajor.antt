@@ -3,7 +3,7 @@
 use mathlib.Core.Bool.{Bool, cond}
 use Prim.Native.Nat.{ℕ, zero, suc}
 use lib.Dec.{ltb}
-use Rattle.laws.specs.Grid.{Grid}
+use Rattle.laws.specs.Words.{Grid}
 
 -- the lower of two keys
 abbrev pub lower : ℕ → ℕ → ℕ

@@ -8,9 +8,8 @@ use native.Mathlib.Numerals.{add-one}
 use lib.Dec.{ltb}
 use borrow.Author.Tests.{ltb-true, ltb-false, le-ltb}
 use Rattle.laws.specs.Tests.{clash, split}
-use Rattle.laws.specs.Fold.{count}
+use Rattle.laws.specs.Words.{count, Grid}
 use Rattle.laws.specs.Counting.{count-one}
-use Rattle.laws.specs.Grid.{Grid}
 use Rattle.grid.specs.RowMajor.{lower, lowest, rowMajor}
 
 -- ---- one cell more

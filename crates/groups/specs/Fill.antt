@@ -5,14 +5,13 @@ use Prim.Native.Nat.{ℕ, _+_, _≤_, _<_}
 use lib.Dec.{eqb}
 use lib.ListN.{length}
 use lib.Ieee.{Float, nan, binary32, add}
-use Rattle.laws.specs.Fold.{fold, one}
-use Rattle.laws.specs.Weights.{zeroF}
+use Rattle.laws.specs.Words.{fold, one, zeroF}
 use Rattle.laws.specs.Zone.{Zone}
 use Rattle.board.specs.Hits.{EdgeList, seen, look}
 use Rattle.board.specs.Domain.{ListOk}
 use Rattle.groups.specs.Groups.{confidenceAt, placeOf}
 use Rattle.room.specs.Room.{PeriodsOk, rowLength}
-use Rattle.groups.specs.Terms.{placesN, placesF}
+use Rattle.terms.specs.Terms.{placesN, placesF}
 
 -- where edge i's group stands in that row
 abbrev pub placeAt : ℕ → ℕ → EdgeList → ℕ → ℕ → ℕ

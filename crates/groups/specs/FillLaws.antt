@@ -10,11 +10,11 @@ use lib.IntN.{ℤ}
 use lib.ListN.{length, getD, set}
 use lib.Ieee.{Float, nan, binary32, add}
 use borrow.Author.Tests.{eq-eqb, ne-eqb, eqb-true, eqb-false}
-use Rattle.laws.specs.Fold.{fold, one, fold-hit, fold-miss, fold-zero}
+use Rattle.laws.specs.Words.{fold, one, zeroF}
+use Rattle.laws.specs.Fold.{fold-hit, fold-miss, fold-zero}
 use Rattle.laws.specs.Counting.{count-le}
 use Rattle.laws.specs.DoubleCounting.{fold-ext}
 use Rattle.laws.specs.RemainderLaws.{emod-lt}
-use Rattle.laws.specs.Weights.{zeroF}
 use Rattle.laws.specs.Zone.{Zone, zone-none, zone-set}
 use Rattle.board.specs.declared.edge.Edge.{Edge}
 use Rattle.board.specs.declared.transform.EdgeLookup.{EdgeLookup}

@@ -5,9 +5,7 @@ use lib.Dec.{eqb}
 use lib.ListN.{getD}
 use lib.IntN.{ℤ}
 use lib.Ieee.{Float, nan, binary32, add}
-use Rattle.laws.specs.Fold.{fold, one}
-use Rattle.laws.specs.Remainder.{emod}
-use Rattle.laws.specs.Weights.{zeroF}
+use Rattle.laws.specs.Words.{fold, one, emod, zeroF}
 use Rattle.board.specs.declared.transform.EdgeLookup.{EdgeLookup}
 use Rattle.board.specs.Hits.{EdgeList, Board, size, seen, horizontal}
 use Rattle.board.specs.Sides.{onSide, periodOf, longOf, shortOf}

@@ -1,5 +1,3 @@
 pub mod Fill
 pub mod FillLaws
 pub mod Groups
-pub mod Terms
-pub mod TermsLaws

@@ -10,7 +10,7 @@ use lib.Dec.{ltb, eqb}
 use lib.Ieee.{Float, lt}
 use borrow.Author.Tests.{ltb-true, ltb-false, eqb-true}
 use Rattle.laws.specs.Tests.{clash, cases, compared, split, or-true, or-false, and-true}
-use Rattle.laws.specs.Grid.{origins}
+use Rattle.laws.specs.Words.{origins}
 use Rattle.best.specs.CellTables.{CellTables}
 use Rattle.best.specs.Lex.{lexOf}
 use Rattle.scan.specs.Scan.{overLimit, takes, replaced, offeredWithin, emptyScan, SoundKept, SoundScan}

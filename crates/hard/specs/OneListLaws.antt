@@ -6,7 +6,7 @@ use Prim.Native.Nat.{ℕ, _≤_, _<_}
 use lib.Ieee.{Float}
 use native.Mathlib.Nat.{le-trans}
 use Rattle.laws.specs.Tests.{clash, not-so}
-use Rattle.laws.specs.Grid.{origins}
+use Rattle.laws.specs.Words.{origins}
 use Rattle.best.specs.CellTables.{CellTables, Period, TablesOk}
 use Rattle.figures.specs.Gate.{passed}
 use Rattle.scan.specs.Scan.{overLimit, runnerUp}

@@ -15,7 +15,8 @@ use lib.Ieee.Positive.{num, den, through}
 use lib.Ieee.Scale.{round-val, round-under, finite}
 use borrow.Author.Tests.{ltb-true, ltb-false, lt-ltb, le-ltb}
 use Rattle.laws.specs.Tests.{clash, not-so, compared, or-true}
-use Rattle.laws.specs.Weights.{zeroF, oneF, Weight, weightlike}
+use Rattle.laws.specs.Words.{zeroF, oneF, Weight}
+use Rattle.laws.specs.Weights.{weightlike}
 use Rattle.laws.specs.WeightLaws.{confidence, lt-cross, eq-level}
 use Rattle.figures.specs.Figures.{rateOf}
 use Rattle.figures.specs.RangeLaws.{rate-is}

@@ -11,9 +11,9 @@ use lib.ListN.{length}
 use lib.Ieee.{Float}
 use borrow.Author.Tests.{ltb-true, ltb-false, eq-eqb, eqb-true, lt-ltb}
 use Rattle.laws.specs.Tests.{compared, decided, clash}
-use Rattle.laws.specs.Fold.{count, fold, put}
+use Rattle.laws.specs.Words.{put, fold, count, Grid, origins}
 use Rattle.laws.specs.Counting.{count-pos, count-one, other-passes}
-use Rattle.laws.specs.Grid.{Grid, Laws, origins}
+use Rattle.laws.specs.GridLaws.{Laws}
 use Rattle.laws.specs.Weights.{weightlike}
 use Rattle.best.specs.CellTables.{CellTables, Period, TablesOk, cAt, wAt}
 use Rattle.best.specs.Lex.{tiedCount, optimal, lexBest, lexSecond, lexOf}

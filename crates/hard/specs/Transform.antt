@@ -4,7 +4,7 @@ use Prim.Native.Nat.{ℕ, zero, suc, _+_, _*_, _/_, _%_, _≤_, _<_}
 use lib.Dec.{ltb}
 use lib.ListN.{length}
 use lib.Ieee.{Float, add, binary32}
-use Rattle.laws.specs.Grid.{Grid, origins}
+use Rattle.laws.specs.Words.{Grid, origins}
 use Rattle.best.specs.CellTables.{Period, CellTables, TablesOk}
 use Rattle.best.specs.Lex.{optimal, lexOf}
 use Rattle.grid.specs.RowMajor.{rowMajor}

@@ -12,10 +12,9 @@ use lib.Seq.{getD-set-same, getD-set-other}
 use lib.Ieee.{Float}
 use borrow.Author.Tests.{lt-ltb, le-ltb}
 use Rattle.laws.specs.Tests.{split}
-use Rattle.laws.specs.Fold.{count}
+use Rattle.laws.specs.Words.{count, origins}
 use Rattle.laws.specs.Counting.{count-le}
 use Rattle.laws.specs.Weights.{weightlike}
-use Rattle.laws.specs.Grid.{origins}
 use Rattle.best.specs.CellTables.{CellTables, Period, TablesOk, cAt, wAt}
 use Rattle.best.specs.Lex.{TableOk, tiedCount, optimal, lexBest, lexSecond, lexOf}
 use Rattle.best.specs.LexLaws.{cell-in, best-optimal, second-inside}

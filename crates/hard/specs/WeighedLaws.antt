@@ -9,7 +9,7 @@ use native.Mathlib.Omega.{arith}
 use lib.ListN.{getD, length}
 use lib.Ieee.{Float, nan, binary32, add, div}
 use lib.Ieee.Back.{round-whole}
-use Rattle.laws.specs.Grid.{origins}
+use Rattle.laws.specs.Words.{origins}
 use Rattle.laws.specs.Weights.{Upto, Within}
 use Rattle.laws.specs.WeightLaws.{Bounds, by-counts}
 use Rattle.laws.specs.WithinLaws.{upto-within, within-more}

@@ -11,7 +11,7 @@ use lib.Ieee.{Float}
 use lib.ListN.{getD}
 use borrow.Author.Tests.{ltb-true, lt-ltb}
 use Rattle.laws.specs.Tests.{clash, cases, compared, decided, not-so}
-use Rattle.laws.specs.Grid.{origins}
+use Rattle.laws.specs.Words.{origins}
 use Rattle.best.specs.CellTables.{CellTables, Period, TablesOk}
 use Rattle.best.specs.Lex.{lexOf}
 use Rattle.figures.specs.Gate.{passed}

@@ -1,7 +1,7 @@
 // One transform's four tables, folded into the scan.
 ghost use mathlib.Core.Path.{_≡_};
 ghost use Prim.Native.Nat.{_+_, _≤_};
-ghost use Rattle.laws.specs.Grid.{origins};
+ghost use Rattle.laws.specs.Words.{origins};
 ghost use Rattle.best.specs.CellTables.{Period, TablesOk, cells};
 ghost use Rattle.hard.specs.Transform.{BestOk, firstOf, runnerUpWithin, competitorOf, summaryOf, offeredBy, foldTransform, FoldReady};
 ghost use Rattle.hard.specs.TransformLaws.{PairOk};

@@ -1,7 +1,7 @@
 -- The first best index below n, for a test `b i j` that says i beats j, and its laws for a strict weak order: nothing beats it, and it beats
 -- every earlier one. Counts, (count, weight) and sums are ordered so.
 use mathlib.Core.Path.{_≡_, refl, sym, _∙_}
-use mathlib.Core.Bool.{Bool, true, false, _&&_, _||_, cond}
+use mathlib.Core.Bool.{Bool, true, false, _&&_, cond}
 use mathlib.Core.Logic.{_⊎_, inl, inr, ⊎-elim}
 use Prim.Native.Nat.{ℕ, zero, suc, _+_, _≤_, _<_}
 use native.Mathlib.Omega.{arith}
@@ -9,15 +9,7 @@ use native.Mathlib.Numerals.{add-one}
 use lib.Dec.{ltb, eqb}
 use borrow.Author.Tests.{ltb-true, ltb-false, lt-ltb, le-ltb, eq-eqb, eqb-true}
 use Rattle.laws.specs.Tests.{clash, cases, compared, split, or-true, or-false, and-true, and-false}
-
--- i where it beats a, else a
-abbrev pub better : (ℕ → ℕ → Bool) → ℕ → ℕ → ℕ
-better b i a = cond (b i a) i a
-
--- the first index below n that no index below n beats
-unfoldable pub firstBest : (ℕ → ℕ → Bool) → ℕ → ℕ
-firstBest b zero = 0
-firstBest b (suc i) = better b i (firstBest b i)
+use Rattle.laws.specs.Words.{firstBest, above, lexBeats}
 
 -- b is a strict weak order of the indices below n
 pub record Weak (n : ℕ) (b : ℕ → ℕ → Bool) : Type 0 where
@@ -63,17 +55,11 @@ module _ (b : ℕ → ℕ → Bool) where
         go false e ih l = ih l
 
 -- ---- orders on cells: by a number, and by a number and then another order
-abbrev pub above : (ℕ → ℕ) → ℕ → ℕ → Bool
-above f i j = ltb (f j) (f i)
-
 pub above-weak : (n : ℕ) (f : ℕ → ℕ) → Weak n (above f)
 above-weak n f = record {
   asym = λ i j hi hj h. le-ltb (f i) (f j) (omega (arith, ltb-true (f j) (f i) h));
   neg = λ i j k hi hj hk h g. lt-ltb (f j) (f i) (omega (arith, ltb-true (f k) (f i) h, ltb-false (f k) (f j) g));
 }
-
-abbrev pub lexBeats : (ℕ → ℕ) → (ℕ → ℕ → Bool) → ℕ → ℕ → Bool
-lexBeats f w i j = ltb (f j) (f i) || (eqb (f i) (f j) && w i j)
 
 module _ (f : ℕ → ℕ) (w : ℕ → ℕ → Bool) where
   pub lex-says : (i j : ℕ) → lexBeats f w i j ≡ true → (f j < f i) ⊎ ((f i ≡ f j) × (w i j ≡ true))

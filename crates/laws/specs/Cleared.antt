@@ -1,20 +1,13 @@
 -- The first n places of a list set to one value.
 use mathlib.Core.Path.{_≡_, refl, sym, ap, _∙_}
-use mathlib.Core.List.{List, [], _∷_, _++_}
+use mathlib.Core.List.{List, _∷_, _++_}
 use Prim.Native.Nat.{ℕ, zero, suc, _+_, _-_, _≤_, _<_}
-use lib.ListN.{length, take, drop, set, getD, replicate, length-append, length-replicate, length-drop, length-set, List·getD-append}
+use lib.ListN.{length, drop, set, getD, replicate, length-append, length-replicate, length-drop, length-set, List·getD-append}
 use native.Mathlib.Omega.{arith}
 use native.Mathlib.Numerals.{add-one}
 use lib.Seq.{set-at, drop-cons, getD-append-add, getD-drop}
 use Rattle.laws.specs.Written.{Written, written-unique}
-
--- what lies past the first n places; shut, since a literal n would unroll
-unfoldable pub surplus : {A : Type 0} → ℕ → List A → List A
-surplus n l = drop n l
-
--- the first n places hold a, the surplus what it held
-unfoldable pub cleared : {A : Type 0} → A → ℕ → List A → List A
-cleared a n l = replicate n a ++ surplus n l
+use Rattle.laws.specs.Words.{surplus, cleared}
 
 -- one place more: the place n of a list whose first n places are cleared
 pub cleared-more : {A : Type 0} (a : A) (n : ℕ) (l : List A) → n < length l → set (cleared a n l) n a ≡ cleared a (n + 1) l

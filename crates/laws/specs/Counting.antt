@@ -6,7 +6,7 @@ use Prim.Native.Nat.{ℕ, zero, suc, _+_, _≤_, _<_}
 use native.Mathlib.Numerals.{add-one}
 use native.Mathlib.Omega.{arith}
 use Rattle.laws.specs.Tests.{clash, apart, split}
-use Rattle.laws.specs.Fold.{fold, put, count}
+use Rattle.laws.specs.Words.{put, fold, count}
 
 -- at most n
 pub count-le : (p : ℕ → Bool) (n : ℕ) → count n p ≤ n

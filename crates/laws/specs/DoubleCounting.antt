@@ -10,7 +10,8 @@ use lib.Dec.{ltb, eqb}
 use lib.Arith.{digits-div, digits-mod}
 use borrow.Author.Tests.{lt-ltb, le-ltb, eq-eqb, ne-eqb, eqb-true, eqb-false}
 use Rattle.laws.specs.Tests.{and-assoc}
-use Rattle.laws.specs.Fold.{fold, put, all, fold-zero}
+use Rattle.laws.specs.Words.{put, fold, all}
+use Rattle.laws.specs.Fold.{fold-zero}
 
 -- folds that choose the same and add the same are the same
 module _ {A : Type 0} (op : A → A → A) (z : A) where

@@ -5,14 +5,7 @@ use mathlib.Core.Logic.{_⊎_, inl, inr, ⊎-elim}
 use Prim.Native.Nat.{ℕ, zero, suc, _+_, _≤_, _<_}
 use native.Mathlib.Nat.{eq-or-lt-of-le}
 use native.Mathlib.Omega.{arith}
-
--- k tests from index i on
-unfoldable pub firstFrom : (ℕ → Bool) → ℕ → ℕ → ℕ
-firstFrom p i zero = i
-firstFrom p i (suc k) = cond (p i) i (firstFrom p (suc i) k)
-
-unfoldable pub first : (ℕ → Bool) → ℕ → ℕ
-first p n = firstFrom p 0 n
+use Rattle.laws.specs.Words.{firstFrom, first}
 
 -- a search that passed the indices below r and stopped there
 from-least : (p : ℕ → Bool) (i k r : ℕ) → i ≤ r → r ≤ i + k → ((j : ℕ) → j < r → p j ≡ false) → (r < i + k → p r ≡ true) → firstFrom p i k ≡ r

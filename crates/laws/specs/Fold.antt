@@ -7,16 +7,7 @@ use native.Mathlib.Omega.{arith}
 use native.Mathlib.Nat.{le-refl, add-le-add}
 use native.Mathlib.Decide.{le-ind}
 use native.Mathlib.Numerals.{add-one}
-
--- x is added to a where it is chosen
-abbrev pub put {ℓ} : {A : Type ℓ} → (A → A → A) → Bool → A → A → A
-put op true a x = op a x
-put op false a x = a
-
--- the fold itself
-unfoldable pub fold {ℓ} : {A : Type ℓ} → (A → A → A) → A → ℕ → (ℕ → Bool) → (ℕ → A) → A
-fold op z zero p f = z
-fold op z (suc n) p f = put op (p n) (fold op z n p f) (f n)
+use Rattle.laws.specs.Words.{put, fold, all}
 
 module _ {ℓ} {A : Type ℓ} (op : A → A → A) (z : A) (p : ℕ → Bool) (f : ℕ → A) where
   pub fold-zero : fold op z 0 p f ≡ z
@@ -32,19 +23,6 @@ module _ {ℓ} {A : Type ℓ} (op : A → A → A) (z : A) (p : ℕ → Bool) (f
 
   pub fold-miss : (n : ℕ) → p n ≡ false → fold op z (n + 1) p f ≡ fold op z n p f
   fold-miss n h = rw (fold-more, h)
-
--- ---- what is chosen and what is added
--- everything is chosen
-abbrev pub all : ℕ → Bool
-all i = true
-
--- each adds one
-abbrev pub one : ℕ → ℕ
-one i = 1
-
--- how many below n are chosen
-abbrev pub count : ℕ → (ℕ → Bool) → ℕ
-count n p = fold _+_ 0 n p one
 
 -- ---- sums of numbers
 put-le : (b : Bool) (a x c : ℕ) → a ≤ c → put _+_ b a x ≤ c + x

@@ -1,13 +1,22 @@
 -- The board's origins are a grid, for any two periods that are no multiples of 3.
-use mathlib.Core.Path.{_≡_, sym, ap, ap₂, _∙_}
+use mathlib.Core.Path.{_≡_, ap₂, _∙_}
 use mathlib.Core.Logic.{_≢_}
 use Prim.Native.Nat.{ℕ, _+_, _*_, _/_, _%_, _<_}
 use native.Mathlib.Omega.{arith}
-use native.Mathlib.Nat.{mod-lt, div-lt-iff-lt-mul, div-add-mod', mul-comm}
+use native.Mathlib.Nat.{mod-lt, div-lt-iff-lt-mul, div-add-mod'}
 use lib.Arith.{digits-div, digits-mod, digits-lt}
 use lib.Dec.{lit<}
-use Rattle.laws.specs.Residues.{joint, joint-long, joint-short, joint-below, joint-back}
-use Rattle.laws.specs.Grid.{Grid, Laws, rowOf, colOf, origins}
+use Rattle.laws.specs.Words.{joint, Grid, rowOf, colOf, origins}
+use Rattle.laws.specs.Residues.{joint-long, joint-short, joint-below, joint-back}
+
+-- what a selection needs of a grid of hn horizontal and vn vertical cells: keys and pairs of cells are the same thing
+pub record Laws (G : Grid) (hn vn : ℕ) : Type 0 where
+  pub under : (h v : ℕ) → h < hn → v < vn → G .key h v < G .none
+  pub h-in : (k : ℕ) → G .hOf k < hn
+  pub v-in : (k : ℕ) → G .vOf k < vn
+  pub h-key : (h v : ℕ) → h < hn → v < vn → G .hOf (G .key h v) ≡ h
+  pub v-key : (h v : ℕ) → h < hn → v < vn → G .vOf (G .key h v) ≡ v
+  pub back : (k : ℕ) → k < G .none → G .key (G .hOf k) (G .vOf k) ≡ k
 
 -- every origin's horizontal cell stands in the table of 3L cells
 pub h-below : (L : ℕ) → 0 < L → (row col : ℕ) → row % L * 3 + col % 3 < 3 * L

@@ -1,3 +1,4 @@
+pub mod Words
 pub mod Tests
 pub mod Fold
 pub mod Counting
@@ -11,11 +12,9 @@ pub mod Part
 pub mod Zone
 pub mod Whole
 pub mod Signed
-pub mod Remainder
 pub mod RemainderLaws
 pub mod Modulus
 pub mod Residues
-pub mod Grid
 pub mod GridLaws
 pub mod Weights
 pub mod WeightLaws

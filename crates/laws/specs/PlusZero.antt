@@ -14,8 +14,8 @@ use lib.Ieee.Exact.{HasValue, round-exact}
 use lib.Ieee.Bits.{ofBits-toBits}
 use lib.Ieee.Nearest.{div-same}
 use lib.Ieee.Digits.{back}
-use Rattle.laws.specs.Fold.{fold, put}
-use Rattle.laws.specs.Weights.{zeroF, Unsigned}
+use Rattle.laws.specs.Words.{put, fold, zeroF}
+use Rattle.laws.specs.Weights.{Unsigned}
 
 -- ---- a format holds a value once
 cross-pow : (x c a d l : ℕ) → x * c ≡ a * d → x * l * c ≡ a * l * d

@@ -6,7 +6,7 @@ use native.Mathlib.Nat.{mod-lt, mod-eq-of-lt, mod-add-mod, add-mod-mod, mod-eq-s
 use lib.Dec.{ltb, ltb→lt, nltb→le}
 use lib.IntN.{ℤ, pos, negsuc, natAbs, subℕ, _+ℤ_, pos-ne-negsuc, +ℤ-assoc, +ℤ-comm}
 use Rattle.laws.specs.Tests.{by-test}
-use Rattle.laws.specs.Remainder.{emod}
+use Rattle.laws.specs.Words.{emod}
 
 pub emod-lt : (z : ℤ) (n : ℕ) → 0 < n → emod z n < n
 unfolding emod

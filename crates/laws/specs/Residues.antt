@@ -6,14 +6,7 @@ use native.Mathlib.Omega.{arith}
 use native.Mathlib.Nat.{mod-lt, add-comm, add-mod, mod-mod-of-dvd, mul-add-mod-self-left, mod-eq-of-lt, div-add-mod, div-lt-iff-lt-mul, dvd-mul-left, dvd-mul-right}
 use lib.Dec.{lit<}
 use borrow.Author.Tests.{eqb-false}
-
--- a sum with the residue s by 3 and l by L
-unfoldable pub numer : ℕ → ℕ → ℕ → ℕ
-numer L s l = L % 3 * L * s + ((3 - L % 3) * L + 1) * l
-
--- the number below 3 L with the residue s by 3 and l by L
-unfoldable pub joint : ℕ → ℕ → ℕ → ℕ
-joint L s l = numer L s l % (3 * L)
+use Rattle.laws.specs.Words.{numer, joint}
 
 -- document 01: origin row = (334·va + 168·ha) mod 501, and the same of the column
 pub joint-167 : (s l : ℕ) → joint 167 s l ≡ (334 * s + 168 * l) % 501

@@ -8,16 +8,8 @@ use native.Mathlib.Numerals.{add-one}
 use lib.Dec.{eqb}
 use borrow.Author.Tests.{ne-eqb, eq-eqb, eqb-true, eqb-false}
 use Rattle.laws.specs.Tests.{cases, split}
-use Rattle.laws.specs.Best.{better, Weak, irrefl}
-
--- the first index but k, from which the search for a second starts
-abbrev pub other : ℕ → ℕ
-other k = cond (eqb k 0) 1 0
-
--- the first best of the first n indexs but k
-unfoldable pub second : (ℕ → ℕ → Bool) → ℕ → ℕ → ℕ
-second b k zero = other k
-second b k (suc i) = cond (eqb i k) (second b k i) (better b i (second b k i))
+use Rattle.laws.specs.Words.{other, second}
+use Rattle.laws.specs.Best.{Weak, irrefl}
 
 -- ---- laws
 module _ (b : ℕ → ℕ → Bool) (N k : ℕ) (two : 1 < N) where

@@ -17,9 +17,9 @@ use lib.Ieee.Digits.{back}
 use lib.Ieee.Positive.{first-pos}
 use borrow.Author.Tests.{ne-eqb, le-ltb}
 use Rattle.laws.specs.Tests.{compared, split, clash}
-use Rattle.laws.specs.Fold.{fold, all, one}
+use Rattle.laws.specs.Words.{fold, all, one, zeroF, Weight}
 use Rattle.laws.specs.Counting.{count-le}
-use Rattle.laws.specs.Weights.{zeroF, Upto, Weight, UptoOver, WeightOver, Within}
+use Rattle.laws.specs.Weights.{Upto, UptoOver, WeightOver, Within}
 use Rattle.laws.specs.WeightLaws.{lt-or-eq, Held, Bounds, add-over, sum-upto}
 use Rattle.laws.specs.WithinLaws.{round-within}
 use Rattle.laws.specs.PlusZero.{sum-fits}

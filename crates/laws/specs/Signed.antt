@@ -11,7 +11,8 @@ use borrow.Author.Tests.{le-leb, eqb-true, eqb-false}
 use mir.Syntax.{Width}
 use mir.Val.{SFits, hbits, toZ, ofZ}
 use mir.Facts.{toZ-ofZ}
-use Rattle.laws.specs.Whole.{eqZ, eq-eqZ, ne-eqZ}
+use Rattle.laws.specs.Words.{eqZ}
+use Rattle.laws.specs.Whole.{eq-eqZ, ne-eqZ}
 
 -- what is kept of z, read back
 abbrev pub read : Width → ℤ → ℤ

@@ -16,9 +16,9 @@ use lib.Ieee.Back.{round-whole}
 use lib.Ieee.Order.{round-mono}
 use lib.Ieee.Positive.{num, den, den-pos, through}
 use Rattle.laws.specs.Tests.{compared, and-comm}
-use Rattle.laws.specs.Fold.{fold, put}
+use Rattle.laws.specs.Words.{put, fold, zeroF, oneF, Weight, heavier}
 use Rattle.laws.specs.Best.{Weak}
-use Rattle.laws.specs.Weights.{zeroF, oneF, Upto, Weight, UptoOver, WeightOver, weightlike, heavier}
+use Rattle.laws.specs.Weights.{Upto, UptoOver, WeightOver, weightlike}
 
 -- ---- what is not negative rounds to what has no minus sign
 abbrev plain : Float → Bool

@@ -3,16 +3,7 @@ use mathlib.Core.Path.{_≡_}
 use mathlib.Core.Bool.{Bool, true, false}
 use Prim.Native.Nat.{ℕ, _*_, _≤_}
 use lib.Dec.{T}
-use lib.IntN.{pos}
-use lib.Ieee.{Float, nan, inf, fin, binary32, up, down, lt, fits}
-use lib.Ieee.Scale.{finite}
-
--- 0 and 1
-abbrev pub zeroF : Float
-zeroF = fin false 0 (pos 0)
-
-abbrev pub oneF : Float
-oneF = fin false 1 (pos 0)
+use lib.Ieee.{Float, nan, inf, fin, binary32, up, down, fits}
 
 -- finite, with no minus sign, and at most a
 abbrev pub Upto : Float → ℕ → Type 0
@@ -20,13 +11,6 @@ Upto nan a = ⊥
 Upto (inf s) a = ⊥
 Upto (fin true m e) a = ⊥
 Upto (fin false m e) a = m * up e ≤ a * down e
-
--- the same, or -0
-abbrev pub Weight : Float → ℕ → Type 0
-Weight nan a = ⊥
-Weight (inf s) a = ⊥
-Weight (fin true m e) a = m ≡ 0
-Weight (fin false m e) a = m * up e ≤ a * down e
 
 -- finite, with no minus sign, and at most the fraction a / c
 abbrev pub UptoOver : Float → ℕ → ℕ → Type 0
@@ -41,10 +25,6 @@ WeightOver nan a c = ⊥
 WeightOver (inf s) a c = ⊥
 WeightOver (fin true m e) a c = m ≡ 0
 WeightOver (fin false m e) a c = m * up e * c ≤ a * down e
-
--- no NaN and no infinity
-abbrev pub Finite : Float → Type 0
-Finite x = T (finite x)
 
 -- finite, and at most a in size, whatever the sign
 abbrev pub Within : Float → ℕ → Type 0
@@ -63,7 +43,3 @@ weightlike (fin false m e) = true
 -- sign. `add-plus-zero` (PlusZero.antt) is the sentence itself.
 abbrev pub Unsigned : Float → Type 0
 Unsigned x = T (weightlike x) × T (fits binary32 x)
-
--- weight i is greater than weight j
-abbrev pub heavier : (ℕ → Float) → ℕ → ℕ → Bool
-heavier w i j = lt (w j) (w i)

@@ -5,11 +5,12 @@ use mathlib.Core.Bool.{Bool, true, false, true≢false}
 use Prim.Native.Nat.{ℕ, zero, suc, _+_, _*_, _-_, _≤_, _<_}
 use native.Mathlib.Nat.{le-refl}
 use native.Mathlib.Omega.{arith}
-use lib.Dec.{ltb, eqb, ltb→lt, nltb→le}
+use lib.Dec.{ltb, ltb→lt, nltb→le}
 use lib.IntN.{ℤ, pos, negsuc, negℤ, natAbs, subℕ, _+ℤ_, _-ℤ_, _*ℤ_}
 use lib.Signed.{ltZ}
 use borrow.Author.Tests.{ltb-true, ltb-false, lt-ltb, le-ltb, eqb-true, eq-eqb}
 use Rattle.laws.specs.Tests.{by-test}
+use Rattle.laws.specs.Words.{eqZ}
 
 -- ---- size
 pub abs-neg : (z : ℤ) → natAbs (negℤ z) ≡ natAbs z
@@ -51,12 +52,6 @@ abs-mul (negsuc a) (pos b) = abs-neg (pos (suc a * b))
 abs-mul (negsuc a) (negsuc b) = refl
 
 -- ---- equality as a test
-abbrev pub eqZ : ℤ → ℤ → Bool
-eqZ (pos a) (pos b) = eqb a b
-eqZ (pos a) (negsuc b) = false
-eqZ (negsuc a) (pos b) = false
-eqZ (negsuc a) (negsuc b) = eqb a b
-
 pub eqZ-true : (a b : ℤ) → eqZ a b ≡ true → a ≡ b
 eqZ-true (pos a) (pos b) e = ap pos (eqb-true a b e)
 eqZ-true (pos a) (negsuc b) e = absurd (true≢false (sym e))

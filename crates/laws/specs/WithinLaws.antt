@@ -12,7 +12,8 @@ use lib.Ieee.Exact.{HasValue}
 use lib.Ieee.Back.{round-whole}
 use lib.Ieee.Positive.{first-pos}
 use borrow.Author.Tests.{ne-eqb}
-use Rattle.laws.specs.Weights.{Upto, Finite, Within}
+use Rattle.laws.specs.Words.{Finite}
+use Rattle.laws.specs.Weights.{Upto, Within}
 use Rattle.laws.specs.WeightLaws.{Held, round-over, cross, over-upto}
 
 -- what is within a bound is no NaN and no infinity

@@ -2,7 +2,7 @@
 ghost use mathlib.Core.Path.{_≡_};
 ghost use Prim.Native.Nat.{_+_, _<_, _≤_, _%_};
 ghost use lib.IntN.{pos, natAbs, _+ℤ_};
-ghost use Rattle.laws.specs.Remainder.{emod};
+ghost use Rattle.laws.specs.Words.{emod};
 ghost use Rattle.laws.specs.Modulus.{modulusOf, ModulusOk};
 
 // The lengths of a board's two pattern tables: how far the horizontal patterns go before they come again, and the vertical ones.

@@ -7,7 +7,7 @@ use lib.IntN.{ℤ, pos, natAbs, _+ℤ_}
 use lib.Ieee.{Float}
 use mir.Syntax.{w64}
 use mir.Val.{SFits}
-use Rattle.laws.specs.Fold.{fold, put, count}
+use Rattle.laws.specs.Words.{put, fold, count}
 use Rattle.laws.specs.Counting.{count-le}
 use Rattle.laws.specs.Signed.{fits-abs}
 use Rattle.laws.specs.Tests.{clash}

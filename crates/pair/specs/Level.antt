@@ -5,10 +5,7 @@ use Prim.Native.Nat.{ℕ}
 use lib.IntN.{ℤ, pos}
 use lib.ListN.{getD, length}
 use lib.Signed.{ltZ}
-use Rattle.laws.specs.Fold.{count}
-use Rattle.laws.specs.Best.{firstBest}
-use Rattle.laws.specs.Second.{second}
-use Rattle.laws.specs.Whole.{eqZ}
+use Rattle.laws.specs.Words.{count, firstBest, second, eqZ}
 use Rattle.pair.specs.declared.level.LevelMax.{LevelMax}
 
 -- the sum of cell i

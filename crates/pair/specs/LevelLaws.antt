@@ -13,7 +13,8 @@ use Rattle.laws.specs.Tests.{clash, not-so}
 use Rattle.laws.specs.Counting.{count-le, count-pos}
 use Rattle.laws.specs.Best.{Weak, in-bound, nothing-beats}
 use Rattle.laws.specs.Second.{second-in, second-not, second-best, second-first}
-use Rattle.laws.specs.Whole.{eqZ, eqZ-true, eqZ-refl, lt-raised, le-raised, raised-lt, raised-le}
+use Rattle.laws.specs.Words.{eqZ}
+use Rattle.laws.specs.Whole.{eqZ-true, eqZ-refl, lt-raised, le-raised, raised-lt, raised-le}
 use Rattle.pair.specs.Level.{sAt, larger, levelBest, tiedSum, levelSecond, levelOf}
 
 -- ---- whole numbers in their order are weakly ordered

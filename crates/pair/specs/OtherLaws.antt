@@ -8,7 +8,8 @@ use native.Mathlib.Omega.{arith}
 use lib.Dec.{eqb}
 use borrow.Author.Tests.{eqb-true, eqb-false, eq-eqb, ne-eqb}
 use Rattle.laws.specs.Tests.{clash, split}
-use Rattle.laws.specs.Grid.{Grid, Laws}
+use Rattle.laws.specs.Words.{Grid}
+use Rattle.laws.specs.GridLaws.{Laws}
 use Rattle.pair.specs.Pair.{filled, otherIn, otherPair}
 
 -- what was found before stays

@@ -8,7 +8,7 @@ use lib.Dec.{ltb, eqb}
 use lib.IntN.{ℤ, natAbs, _+ℤ_}
 use lib.ListN.{length}
 use lib.Signed.{ltZ}
-use Rattle.laws.specs.Grid.{Grid}
+use Rattle.laws.specs.Words.{Grid}
 use Rattle.grid.specs.RowMajor.{rowMajor}
 use Rattle.pair.specs.Level.{sAt, tiedSum, levelBest, levelOf}
 use Rattle.pair.specs.declared.level.LevelMax.{LevelMax}

@@ -14,7 +14,8 @@ use lib.Signed.{ltZ}
 use mir.Syntax.{w64}
 use borrow.Author.Tests.{lt-ltb, le-ltb, ne-eqb}
 use Rattle.laws.specs.Tests.{compared}
-use Rattle.laws.specs.Grid.{Grid, Laws, origins}
+use Rattle.laws.specs.Words.{Grid, origins}
+use Rattle.laws.specs.GridLaws.{Laws}
 use Rattle.laws.specs.Signed.{read}
 use Rattle.best.specs.CellTables.{Period}
 use Rattle.grid.specs.RowMajor.{rowMajor}

@@ -4,7 +4,7 @@ use mathlib.Core.List.{List}
 use Prim.Native.Nat.{ℕ, _+_, _*_, _^_, _≤_, _<_}
 use lib.IntN.{ℤ, natAbs, _+ℤ_}
 use lib.ListN.{length}
-use Rattle.laws.specs.Grid.{Grid}
+use Rattle.laws.specs.Words.{Grid}
 use Rattle.pair.specs.Level.{sAt}
 
 -- horizontal and vertical sums

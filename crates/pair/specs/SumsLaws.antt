@@ -12,7 +12,8 @@ use mir.Syntax.{w64}
 use mir.Val.{SFits}
 use mir.Facts.{toZ-ofZ}
 use Rattle.laws.specs.Tests.{compared}
-use Rattle.laws.specs.Whole.{abs-add, eqZ}
+use Rattle.laws.specs.Words.{eqZ}
+use Rattle.laws.specs.Whole.{abs-add}
 use Rattle.laws.specs.Signed.{read, fits-abs, fit-at, read-at}
 use Rattle.pair.specs.Level.{sAt}
 use Rattle.pair.specs.Sums.{SumsOk}

@@ -2,7 +2,7 @@
 ghost use mathlib.Core.Path.{_≡_};
 ghost use Prim.Native.Nat.{_<_};
 ghost use lib.ListN.{length};
-ghost use Rattle.laws.specs.Whole.{eqZ};
+ghost use Rattle.laws.specs.Words.{eqZ};
 ghost use Rattle.pair.specs.Level.{levelBest, levelAround, levelOf};
 ghost use Rattle.pair.specs.LevelLaws.{Top};
 

@@ -4,7 +4,7 @@ ghost use mathlib.Core.Bool.{not, _&&_};
 ghost use Prim.Native.Nat.{_*_, _<_};
 ghost use lib.Dec.{eqb};
 ghost use lib.ListN.{length};
-ghost use Rattle.laws.specs.Grid.{origins};
+ghost use Rattle.laws.specs.Words.{origins};
 ghost use Rattle.best.specs.CellTables.{Period};
 ghost use Rattle.grid.specs.RowMajor.{lowest, rowMajor};
 ghost use Rattle.pair.specs.Level.{tiedSum};

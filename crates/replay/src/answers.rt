@@ -3,6 +3,7 @@
 // leaves empty holds 0xffffffff.
 use answer::Answer;
 use answer::Decoded;
+use answer::MatchStats;
 use answer::StatsAnswer;
 use console::print::bits_of;
 use flat::flat::NOTHING;
@@ -15,13 +16,6 @@ use scan::scan::RunnerUp;
 
 // The place of the number in an answer that is no refusal.
 const NOT_REFUSED: u32 = 0;
-
-// No refusal, and nothing else yet.
-fn empty() -> [u32; 17] {
-    let mut words = [NOTHING; 17];
-    words[0] = NOT_REFUSED;
-    words
-}
 
 // A refusal: its number and its place, and nothing else.
 fn refused(refusal: Refusal) -> [u32; 17] {
@@ -64,17 +58,33 @@ pub(crate) fn words_of(a: Answer) -> [u32; 17] {
     }
 }
 
+// What match statistics counted.
+fn counted(m: MatchStats) -> [u32; 17] {
+    [
+        NOT_REFUSED,
+        NOTHING,
+        NOTHING,
+        NOTHING,
+        m.hits,
+        m.edges,
+        NOTHING,
+        bits_of(m.error_rate),
+        bits_of(m.mean_confidence),
+        NOTHING,
+        NOTHING,
+        NOTHING,
+        NOTHING,
+        NOTHING,
+        NOTHING,
+        NOTHING,
+        NOTHING,
+    ]
+}
+
 // Match statistics.
 pub(crate) fn words_of_stats(a: StatsAnswer) -> [u32; 17] {
     match a {
-        StatsAnswer::Counted(m) => {
-            let mut words = empty();
-            words[4] = m.hits;
-            words[5] = m.edges;
-            words[7] = bits_of(m.error_rate);
-            words[8] = bits_of(m.mean_confidence);
-            words
-        }
+        StatsAnswer::Counted(m) => counted(m),
         StatsAnswer::Refused(r) => refused(r),
     }
 }
@@ -101,22 +111,26 @@ fn mean(hits: u32, weight: f32) -> f32 {
 // A winner under its transform, with its runner-up, of a list of so many edges. A tie inside the winner's transform is a runner-up whose place never shows, for the gate
 // refuses: its row and column are left empty.
 fn selected(transform: u8, w: Candidate, next: RunnerUp, edges: u32) -> [u32; 17] {
-    let mut words = empty();
-    words[1] = transform as u32;
-    words[2] = w.placing.row;
-    words[3] = w.placing.col;
-    words[4] = w.hits;
-    words[5] = edges;
-    words[6] = bits_of(w.score);
-    words[7] = bits_of(rate(edges, w.hits));
-    words[8] = bits_of(mean(w.hits, w.weight));
-    words[10] = next.hits;
-    words[12] = next.transform as u32;
-    if next.hits != w.hits || next.transform != transform {
-        words[13] = next.row;
-        words[14] = next.col;
-    }
-    words
+    let shown = next.hits != w.hits || next.transform != transform;
+    [
+        NOT_REFUSED,
+        transform as u32,
+        w.placing.row,
+        w.placing.col,
+        w.hits,
+        edges,
+        bits_of(w.score),
+        bits_of(rate(edges, w.hits)),
+        bits_of(mean(w.hits, w.weight)),
+        NOTHING,
+        next.hits,
+        NOTHING,
+        next.transform as u32,
+        if shown { next.row } else { NOTHING },
+        if shown { next.col } else { NOTHING },
+        NOTHING,
+        NOTHING,
+    ]
 }
 
 // The transform at a place of the list; 255 where there is none.

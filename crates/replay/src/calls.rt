@@ -2,11 +2,18 @@
 use crate::answers::words_of;
 use crate::answers::words_of_selection;
 use crate::answers::words_of_stats;
+use crate::columns::FIFTH;
+use crate::columns::FIRST;
+use crate::columns::FOURTH;
+use crate::columns::SECOND;
+use crate::columns::SEVENTH;
+use crate::columns::SIXTH;
 use crate::columns::Sizes;
+use crate::columns::THIRD;
 use crate::selection::select;
-use console::part::front_f32;
-use console::part::front_i32;
-use console::part::front_u8;
+use console::part::part_f32;
+use console::part::part_i32;
+use console::part::part_u8;
 use console::part::room_f32;
 use console::part::room_i64;
 use console::part::room_u32;
@@ -41,110 +48,146 @@ fn counted(n: usize) -> u32 {
     if n < 8194 { n as u32 } else { 8194 }
 }
 
-// The call's answer, by its kind: 1 hard decode, 2 soft decode, 3 match statistics of the physical list, else hard selection on the logical list before the gate.
-pub(crate) fn call<'a>(
-    kind: u32,
-    lrows: &[i32; 8193],
-    lcols: &[i32; 8193],
-    lorientations: &[u8; 8193],
-    lbits: &[u8; 8193],
-    lconfidences: &[f32; 8193],
+// Hard decode.
+fn hard_call(
     l: Sizes,
-    prows: &[i32; 8193],
-    pcols: &[i32; 8193],
-    porientations: &[u8; 8193],
-    pbits: &[u8; 8193],
-    pconfidences: &[f32; 8193],
     p: Sizes,
-    matches: &[f32; 8193],
-    mismatches: &[f32; 8193],
-    transforms: &[u8; 8193],
-    h: &'a [u8; 8193],
-    v: &'a [u8; 8193],
     n: Lengths,
-    s: Settings,
+    limit: f32,
     room: Room,
+    wholes: &[i32],
+    bytes: &[u8],
+    floats: &[f32],
+) -> [u32; 17] {
+    let mut counts = [7u32; 3010];
+    let mut weights = [7.0f32; 3010];
+    words_of(decode_hard::decode_hard(
+        part_i32(wholes, FIRST, l.rows),
+        part_i32(wholes, SECOND, l.cols),
+        part_u8(bytes, FIRST, l.orientations),
+        part_u8(bytes, SECOND, l.bits),
+        part_f32(floats, FIRST, l.confidences),
+        part_i32(wholes, THIRD, p.rows),
+        part_i32(wholes, FOURTH, p.cols),
+        part_u8(bytes, THIRD, p.orientations),
+        part_u8(bytes, FOURTH, p.bits),
+        part_f32(floats, SECOND, p.confidences),
+        part_u8(bytes, FIFTH, n.transforms),
+        part_u8(bytes, SIXTH, n.h),
+        part_u8(bytes, SEVENTH, n.v),
+        limit,
+        room_u32(&mut counts, room.counts),
+        room_f32(&mut weights, room.weights),
+    ))
+}
+
+// Soft decode.
+fn soft_call(
+    l: Sizes,
+    p: Sizes,
+    n: Lengths,
+    limit: f32,
+    margin: f32,
+    room: Room,
+    wholes: &[i32],
+    bytes: &[u8],
+    floats: &[f32],
 ) -> [u32; 17] {
     let mut counts = [7u32; 3010];
     let mut weights = [7.0f32; 3010];
     let mut sums = [7i64; 5014];
+    words_of(decode_soft::decode_soft(
+        part_i32(wholes, FIRST, l.rows),
+        part_i32(wholes, SECOND, l.cols),
+        part_u8(bytes, FIRST, l.orientations),
+        part_u8(bytes, SECOND, l.bits),
+        part_f32(floats, FIRST, l.confidences),
+        part_i32(wholes, THIRD, p.rows),
+        part_i32(wholes, FOURTH, p.cols),
+        part_u8(bytes, THIRD, p.orientations),
+        part_u8(bytes, FOURTH, p.bits),
+        part_f32(floats, SECOND, p.confidences),
+        part_f32(floats, THIRD, n.matches),
+        part_f32(floats, FOURTH, n.mismatches),
+        part_u8(bytes, FIFTH, n.transforms),
+        part_u8(bytes, SIXTH, n.h),
+        part_u8(bytes, SEVENTH, n.v),
+        limit,
+        margin,
+        room_u32(&mut counts, room.counts),
+        room_f32(&mut weights, room.weights),
+        room_i64(&mut sums, room.sums),
+    ))
+}
+
+// Match statistics of the physical list.
+fn stats_call(
+    p: Sizes,
+    n: Lengths,
+    s: Settings,
+    wholes: &[i32],
+    bytes: &[u8],
+    floats: &[f32],
+) -> [u32; 17] {
+    words_of_stats(stats::stats::match_stats(
+        part_i32(wholes, THIRD, p.rows),
+        part_i32(wholes, FOURTH, p.cols),
+        part_u8(bytes, THIRD, p.orientations),
+        part_u8(bytes, FOURTH, p.bits),
+        part_f32(floats, SECOND, p.confidences),
+        s.transform,
+        s.row,
+        s.col,
+        part_u8(bytes, SIXTH, n.h),
+        part_u8(bytes, SEVENTH, n.v),
+    ))
+}
+
+// Hard selection on the logical list before the gate.
+fn selection_call(
+    l: Sizes,
+    n: Lengths,
+    limit: f32,
+    room: Room,
+    wholes: &[i32],
+    bytes: &[u8],
+    floats: &[f32],
+) -> [u32; 17] {
+    let mut counts = [7u32; 3010];
+    let mut weights = [7.0f32; 3010];
+    let transforms = part_u8(bytes, FIFTH, n.transforms);
+    let answer = select(
+        part_i32(wholes, FIRST, l.rows),
+        part_i32(wholes, SECOND, l.cols),
+        part_u8(bytes, FIRST, l.orientations),
+        part_u8(bytes, SECOND, l.bits),
+        part_f32(floats, FIRST, l.confidences),
+        transforms,
+        part_u8(bytes, SIXTH, n.h),
+        part_u8(bytes, SEVENTH, n.v),
+        limit,
+        room_u32(&mut counts, room.counts),
+        room_f32(&mut weights, room.weights),
+    );
+    words_of_selection(answer, transforms, counted(l.rows))
+}
+
+// The call's answer, by its kind: 1 hard decode, 2 soft decode, 3 match statistics of the physical list, else hard selection on the logical list before the gate.
+pub(crate) fn call(
+    kind: u32,
+    l: Sizes,
+    p: Sizes,
+    n: Lengths,
+    s: Settings,
+    room: Room,
+    wholes: &[i32],
+    bytes: &[u8],
+    floats: &[f32],
+) -> [u32; 17] {
     match kind {
-        1 => {
-            let answer = decode_hard::decode_hard(
-                front_i32(lrows, l.rows),
-                front_i32(lcols, l.cols),
-                front_u8(lorientations, l.orientations),
-                front_u8(lbits, l.bits),
-                front_f32(lconfidences, l.confidences),
-                front_i32(prows, p.rows),
-                front_i32(pcols, p.cols),
-                front_u8(porientations, p.orientations),
-                front_u8(pbits, p.bits),
-                front_f32(pconfidences, p.confidences),
-                front_u8(transforms, n.transforms),
-                front_u8(h, n.h),
-                front_u8(v, n.v),
-                s.limit,
-                room_u32(&mut counts, room.counts),
-                room_f32(&mut weights, room.weights),
-            );
-            words_of(answer)
-        }
-        2 => {
-            let answer = decode_soft::decode_soft(
-                front_i32(lrows, l.rows),
-                front_i32(lcols, l.cols),
-                front_u8(lorientations, l.orientations),
-                front_u8(lbits, l.bits),
-                front_f32(lconfidences, l.confidences),
-                front_i32(prows, p.rows),
-                front_i32(pcols, p.cols),
-                front_u8(porientations, p.orientations),
-                front_u8(pbits, p.bits),
-                front_f32(pconfidences, p.confidences),
-                front_f32(matches, n.matches),
-                front_f32(mismatches, n.mismatches),
-                front_u8(transforms, n.transforms),
-                front_u8(h, n.h),
-                front_u8(v, n.v),
-                s.limit,
-                s.margin,
-                room_u32(&mut counts, room.counts),
-                room_f32(&mut weights, room.weights),
-                room_i64(&mut sums, room.sums),
-            );
-            words_of(answer)
-        }
-        3 => {
-            let answer = stats::stats::match_stats(
-                front_i32(prows, p.rows),
-                front_i32(pcols, p.cols),
-                front_u8(porientations, p.orientations),
-                front_u8(pbits, p.bits),
-                front_f32(pconfidences, p.confidences),
-                s.transform,
-                s.row,
-                s.col,
-                front_u8(h, n.h),
-                front_u8(v, n.v),
-            );
-            words_of_stats(answer)
-        }
-        _ => {
-            let answer = select(
-                front_i32(lrows, l.rows),
-                front_i32(lcols, l.cols),
-                front_u8(lorientations, l.orientations),
-                front_u8(lbits, l.bits),
-                front_f32(lconfidences, l.confidences),
-                front_u8(transforms, n.transforms),
-                front_u8(h, n.h),
-                front_u8(v, n.v),
-                s.limit,
-                room_u32(&mut counts, room.counts),
-                room_f32(&mut weights, room.weights),
-            );
-            words_of_selection(answer, transforms, counted(l.rows))
-        }
+        1 => hard_call(l, p, n, s.limit, room, wholes, bytes, floats),
+        2 => soft_call(l, p, n, s.limit, s.margin, room, wholes, bytes, floats),
+        3 => stats_call(p, n, s, wholes, bytes, floats),
+        _ => selection_call(l, n, s.limit, room, wholes, bytes, floats),
     }
 }

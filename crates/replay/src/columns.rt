@@ -1,10 +1,27 @@
-// Columns of a file: a length and that many words, at most 8,193.
-ghost use Prim.Native.Nat.{_≤_};
+// Columns of a file: a length and that many words, at most 8,193. They stand in three arrays, one for each type. Whole numbers: rows and columns of the logical list, then of
+// the physical list. Bytes: orientations and bits of the logical list, then of the physical list, then transforms and the two tables. Floats: confidences of the logical
+// list, then of the physical list, then log likelihoods of a match and of a mismatch.
+ghost use Prim.Native.Nat.{_+_, _≤_};
 use crate::words::Cursor;
 use crate::words::float;
 use crate::words::next_word;
 use crate::words::octet;
 use crate::words::signed;
+
+// Where a column begins in its array.
+pub(crate) const FIRST: usize = 0;
+
+pub(crate) const SECOND: usize = 8193;
+
+pub(crate) const THIRD: usize = 16386;
+
+pub(crate) const FOURTH: usize = 24579;
+
+pub(crate) const FIFTH: usize = 32772;
+
+pub(crate) const SIXTH: usize = 40965;
+
+pub(crate) const SEVENTH: usize = 49158;
 
 // How many words a column has, and where the next word stands.
 pub struct Column {
@@ -29,38 +46,60 @@ fn read_length(buf: &mut [u8; 65536], c: Cursor) -> Column
     Column { n, next }
 }
 
-// A column of coordinates.
-pub(crate) fn read_i32(buf: &mut [u8; 65536], c: Cursor, out: &mut [i32; 8193]) -> Column {
+// A column of coordinates, from a place of its array on.
+pub(crate) fn read_i32(
+    buf: &mut [u8; 65536],
+    c: Cursor,
+    out: &mut [i32; 32772],
+    from: usize,
+) -> Column
+    requires { ⌜ from + 8193 ≤ 32772 ⌝ }
+{
     let head = read_length(buf, c);
     let mut next = head.next;
     for i in 0..head.n {
         let w = next_word(buf, next);
         next = w.next;
-        out[i] = signed(w.value);
+        let x = signed(w.value);
+        out[from + i] = x;
     }
     Column { n: head.n, next }
 }
 
 // A column of bytes.
-pub(crate) fn read_u8(buf: &mut [u8; 65536], c: Cursor, out: &mut [u8; 8193]) -> Column {
+pub(crate) fn read_u8(
+    buf: &mut [u8; 65536],
+    c: Cursor,
+    out: &mut [u8; 57351],
+    from: usize,
+) -> Column
+    requires { ⌜ from + 8193 ≤ 57351 ⌝ }
+{
     let head = read_length(buf, c);
     let mut next = head.next;
     for i in 0..head.n {
         let w = next_word(buf, next);
         next = w.next;
-        out[i] = octet(w.value);
+        out[from + i] = octet(w.value);
     }
     Column { n: head.n, next }
 }
 
 // A column of floats.
-pub(crate) fn read_f32(buf: &mut [u8; 65536], c: Cursor, out: &mut [f32; 8193]) -> Column {
+pub(crate) fn read_f32(
+    buf: &mut [u8; 65536],
+    c: Cursor,
+    out: &mut [f32; 32772],
+    from: usize,
+) -> Column
+    requires { ⌜ from + 8193 ≤ 32772 ⌝ }
+{
     let head = read_length(buf, c);
     let mut next = head.next;
     for i in 0..head.n {
         let w = next_word(buf, next);
         next = w.next;
-        out[i] = float(w.value);
+        out[from + i] = float(w.value);
     }
     Column { n: head.n, next }
 }
@@ -80,21 +119,24 @@ pub struct Listed {
     pub next: Cursor,
 }
 
-// A list: its five columns.
+// A list: its five columns, from a place of the whole numbers and of the bytes on, and of the floats.
 pub(crate) fn read_list(
     buf: &mut [u8; 65536],
     c: Cursor,
-    rows: &mut [i32; 8193],
-    cols: &mut [i32; 8193],
-    orientations: &mut [u8; 8193],
-    bits: &mut [u8; 8193],
-    confidences: &mut [f32; 8193],
-) -> Listed {
-    let a = read_i32(buf, c, rows);
-    let b = read_i32(buf, a.next, cols);
-    let d = read_u8(buf, b.next, orientations);
-    let e = read_u8(buf, d.next, bits);
-    let f = read_f32(buf, e.next, confidences);
+    wholes: &mut [i32; 32772],
+    bytes: &mut [u8; 57351],
+    floats: &mut [f32; 32772],
+    from: usize,
+    confidences: usize,
+) -> Listed
+    requires { ⌜ from + 16386 ≤ 32772 ⌝ }
+    requires { ⌜ confidences + 8193 ≤ 32772 ⌝ }
+{
+    let a = read_i32(buf, c, wholes, from);
+    let b = read_i32(buf, a.next, wholes, from + 8193);
+    let d = read_u8(buf, b.next, bytes, from);
+    let e = read_u8(buf, d.next, bytes, from + 8193);
+    let f = read_f32(buf, e.next, floats, confidences);
     let sizes = Sizes {
         rows: a.n,
         cols: b.n,

@@ -4,6 +4,13 @@ use crate::calls::Lengths;
 use crate::calls::Room;
 use crate::calls::Settings;
 use crate::calls::call;
+use crate::columns::FIFTH;
+use crate::columns::FIRST;
+use crate::columns::FOURTH;
+use crate::columns::SECOND;
+use crate::columns::SEVENTH;
+use crate::columns::SIXTH;
+use crate::columns::THIRD;
 use crate::columns::read_answer;
 use crate::columns::read_f32;
 use crate::columns::read_list;
@@ -68,83 +75,42 @@ fn read_settings(buf: &mut [u8; 65536], c: Cursor) -> Set {
 }
 
 // A call: it is read, made, and its answer compared with the stored one.
-fn entry<'a>(
+fn entry(
     buf: &mut [u8; 65536],
+    place: Place,
     c: Cursor,
     at: u32,
     kind: u32,
-    h: &'a [u8; 8193],
-    v: &'a [u8; 8193],
-    hlen: usize,
-    vlen: usize,
+    wholes: &mut [i32; 32772],
+    bytes: &mut [u8; 57351],
+    floats: &mut [f32; 32772],
     tally: &mut [u32; 96],
 ) -> Cursor {
-    let mut lrows = [0i32; 8193];
-    let mut lcols = [0i32; 8193];
-    let mut lorientations = [0u8; 8193];
-    let mut lbits = [0u8; 8193];
-    let mut lconfidences = [0.0f32; 8193];
-    let mut prows = [0i32; 8193];
-    let mut pcols = [0i32; 8193];
-    let mut porientations = [0u8; 8193];
-    let mut pbits = [0u8; 8193];
-    let mut pconfidences = [0.0f32; 8193];
-    let mut matches = [0.0f32; 8193];
-    let mut mismatches = [0.0f32; 8193];
-    let mut transforms = [0u8; 8193];
     let room = read_room(buf, c);
-    let l = read_list(
-        buf,
-        room.next,
-        &mut lrows,
-        &mut lcols,
-        &mut lorientations,
-        &mut lbits,
-        &mut lconfidences,
-    );
-    let p = read_list(
-        buf,
-        l.next,
-        &mut prows,
-        &mut pcols,
-        &mut porientations,
-        &mut pbits,
-        &mut pconfidences,
-    );
-    let m = read_f32(buf, p.next, &mut matches);
-    let mm = read_f32(buf, m.next, &mut mismatches);
-    let t = read_u8(buf, mm.next, &mut transforms);
+    let l = read_list(buf, room.next, wholes, bytes, floats, FIRST, FIRST);
+    let p = read_list(buf, l.next, wholes, bytes, floats, THIRD, SECOND);
+    let m = read_f32(buf, p.next, floats, THIRD);
+    let mm = read_f32(buf, m.next, floats, FOURTH);
+    let t = read_u8(buf, mm.next, bytes, FIFTH);
     let s = read_settings(buf, t.next);
     let expected = read_answer(buf, s.next);
     let lengths = Lengths {
         matches: m.n,
         mismatches: mm.n,
         transforms: t.n,
-        h: hlen,
-        v: vlen,
+        h: place.h,
+        v: place.v,
     };
     let got = call(
         kind,
-        &lrows,
-        &lcols,
-        &lorientations,
-        &lbits,
-        &lconfidences,
         l.sizes,
-        &prows,
-        &pcols,
-        &porientations,
-        &pbits,
-        &pconfidences,
         p.sizes,
-        &matches,
-        &mismatches,
-        &transforms,
-        h,
-        v,
         lengths,
         s.settings,
         room.room,
+        wholes,
+        bytes,
+        floats,
     );
     let stored = expected.words;
     compare(at, kind, stored, got, tally);
@@ -156,14 +122,15 @@ fn step(
     buf: &mut [u8; 65536],
     place: Place,
     at: u32,
-    h: &mut [u8; 8193],
-    v: &mut [u8; 8193],
+    wholes: &mut [i32; 32772],
+    bytes: &mut [u8; 57351],
+    floats: &mut [f32; 32772],
     tally: &mut [u32; 96],
 ) -> Place {
     let kind = next_word(buf, place.next);
     if kind.value == 0 {
-        let a = read_u8(buf, kind.next, h);
-        let b = read_u8(buf, a.next, v);
+        let a = read_u8(buf, kind.next, bytes, SIXTH);
+        let b = read_u8(buf, a.next, bytes, SEVENTH);
         let next = b.next;
         return Place {
             next,
@@ -173,13 +140,13 @@ fn step(
     }
     let next = entry(
         buf,
+        place,
         kind.next,
         at,
         kind.value,
-        h,
-        v,
-        place.h,
-        place.v,
+        wholes,
+        bytes,
+        floats,
         tally,
     );
     Place {
@@ -192,15 +159,24 @@ fn step(
 // All entries of an open file.
 fn run(fd: i32) {
     let mut buf = io::large_buffer();
-    let mut h = [0u8; 8193];
-    let mut v = [0u8; 8193];
+    let mut wholes = [0i32; 32772];
+    let mut bytes = [0u8; 57351];
+    let mut floats = [0.0f32; 32772];
     let mut tally = [0u32; 96];
     let start = Cursor { fd, at: 0, len: 0 };
     let head = next_word(&mut buf, start);
     let next = head.next;
     let mut place = Place { next, h: 0, v: 0 };
     for at in 0..head.value {
-        place = step(&mut buf, place, at, &mut h, &mut v, &mut tally);
+        place = step(
+            &mut buf,
+            place,
+            at,
+            &mut wholes,
+            &mut bytes,
+            &mut floats,
+            &mut tally,
+        );
     }
     show(&tally);
 }

@@ -1,6 +1,6 @@
 // What was compared, and what differs. A tally has eighteen places for each kind (place 18 · kind + refusal number, 0 for found), the first eighteen of them for sums:
 // 0 cases, 1 cases that differ, 2 cases in which the Rust does not tell 13 from 15.
-use console::form::put_line;
+use console::form::put_form;
 use console::form::put_wholes;
 use console::page::blank;
 use console::page::put;
@@ -15,24 +15,20 @@ fn bump(tally: &mut [u32; 96], at: usize) {
     }
 }
 
-// The name of an answer's word.
-fn put_field(page: &mut [u8; 32768], at: usize, i: usize) -> usize {
-    put_line(
-        page,
-        at,
-        b"refusal\ntransform\nrow\ncolumn\nhits\nedges\nweighted score\nrate\nmean\nbest score\nrunner-up's score\nmargin\n\
-        runner-up's transform\nrunner-up's row\nrunner-up's column\nlist\nposition",
-        (i % 17) as u32,
-    )
-}
-
-// A word that differs.
+// A word that differs, by its name.
 fn print_difference(at: u32, i: usize, theirs: u32, ours: u32) {
     let mut page = blank();
-    let entry = [at];
-    let n = put_wholes(&mut page, 0, b"entry % differs in ", &entry);
-    let n = put_field(&mut page, n, i);
-    let n = put(&mut page, n, b": stored ");
+    let wholes = [at, (i % 17) as u32];
+    let none = [0.0f32; 1];
+    let n = put_form(
+        &mut page,
+        0,
+        b"entry % differs in @: stored ",
+        b"refusal\ntransform\nrow\ncolumn\nhits\nedges\nweighted score\nrate\nmean\nbest score\nrunner-up's score\nmargin\n\
+        runner-up's transform\nrunner-up's row\nrunner-up's column\nlist\nposition",
+        &wholes,
+        &none,
+    );
     let n = put_word(&mut page, n, theirs);
     let n = put(&mut page, n, b", ours ");
     let n = put_word(&mut page, n, ours);
@@ -44,8 +40,10 @@ fn print_difference(at: u32, i: usize, theirs: u32, ours: u32) {
 fn same_words(at: u32, theirs: [u32; 17], ours: [u32; 17]) -> bool {
     let mut same = true;
     for i in 0..17 {
-        if theirs[i] != ours[i] {
-            print_difference(at, i, theirs[i], ours[i]);
+        let x = theirs[i];
+        let y = ours[i];
+        if x != y {
+            print_difference(at, i, x, y);
             same = false;
         }
     }
@@ -80,13 +78,15 @@ pub(crate) fn compare(
     ours: [u32; 17],
     tally: &mut [u32; 96],
 ) {
+    let first = theirs[0];
+    let number = settled(first, ours[0]);
     let mut stored = theirs;
-    stored[0] = settled(theirs[0], ours[0]);
-    if stored[0] != theirs[0] {
+    stored[0] = number;
+    if number != first {
         bump(tally, 2);
     }
     bump(tally, 0);
-    bump(tally, place_of(kind, stored[0]));
+    bump(tally, place_of(kind, number));
     if !same_words(at, stored, ours) {
         bump(tally, 1);
     }
@@ -109,14 +109,16 @@ fn put_refused(page: &mut [u8; 32768], at: usize, count: u32, number: u32) -> us
 // One kind of call: how many were found, and how many refused with each number.
 fn show_kind(tally: &[u32; 96], kind: u32) {
     let mut page = blank();
-    let n = put_line(
+    let found = [kind, count_at(tally, place_of(kind, 0))];
+    let none = [0.0f32; 1];
+    let mut n = put_form(
         &mut page,
         0,
+        b"@: % found",
         b"tables\nhard\nsoft\nstatistics\nselection",
-        kind,
+        &found,
+        &none,
     );
-    let found = [count_at(tally, place_of(kind, 0))];
-    let mut n = put_wholes(&mut page, n, b": % found", &found);
     for number in 1..18u32 {
         n = put_refused(
             &mut page,

@@ -8,7 +8,8 @@ use native.Mathlib.Nat.{le-trans, le-of-eq, suc-mul, mul-zero, mul-le-mul-right,
 use native.Mathlib.Omega.{arith}
 use lib.ListN.{length, getD}
 use lib.Seq.{ext-getD}
-use Rattle.laws.specs.Cleared.{cleared, cleared-written}
+use Rattle.laws.specs.Words.{cleared}
+use Rattle.laws.specs.Cleared.{cleared-written}
 use Rattle.laws.specs.Tests.{compared}
 use Rattle.laws.specs.Written.{Written}
 use Rattle.laws.specs.Zone.{Zone}

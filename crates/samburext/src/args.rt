@@ -1,5 +1,6 @@
 // What the command was asked for.
 use viewtext::text::is_name;
+use viewtext::text::name_of;
 
 // The options, and for each file the argument that names it (0 for none). Wrong: it cannot be understood, as help beside anything else. Awaits: the next
 // argument names the picture.
@@ -56,21 +57,17 @@ fn with_text(o: Options, i: usize, text: &[u8]) -> Options {
     if o.awaits || !is_option(text) {
         return with_file(o, i, text);
     }
-    let n = text.len();
+    let word = name_of(text, 0, text.len(), b"--help\n-h\n--plain\n--map\n");
     let mut out = o;
-    if is_name(text, 0, n, b"--help") || is_name(text, 0, n, b"-h") {
+    if word < 2 {
         out.help = true;
-        return out;
-    }
-    if is_name(text, 0, n, b"--plain") {
+    } else if word == 2 {
         out.plain = true;
-        return out;
-    }
-    if is_name(text, 0, n, b"--map") && o.map == 0 {
+    } else if word == 3 && o.map == 0 {
         out.awaits = true;
-        return out;
+    } else {
+        out.wrong = true;
     }
-    out.wrong = true;
     out
 }
 

@@ -4,26 +4,35 @@ use console::part::part_f32;
 use console::part::part_i32;
 use console::part::part_u8;
 use viewtext::view_file::View;
+use viewtext::view_file::list_of;
 
-// Which part of the columns a list takes up.
+// Which part of the columns a list takes up: where its edges begin in the first, the second and the third column of an array, and how many there are.
 struct Part {
     from: usize,
+    second: usize,
+    third: usize,
     edges: usize,
 }
 
 // The part of a list, or of the other where the view does not have it.
 fn part_of(view: View, physical: bool) -> Part {
-    let own = viewtext::view_file::list_of(view, physical);
-    let other = viewtext::view_file::list_of(view, !physical);
-    if own.given || !other.given {
+    let own = list_of(view, physical);
+    let other = list_of(view, !physical);
+    let theirs = other.given && !own.given;
+    let edges = if theirs { other.edges } else { own.edges };
+    if physical == theirs {
         return Part {
-            from: if physical { 8192 } else { 0 },
-            edges: own.edges,
+            from: 0,
+            second: 16384,
+            third: 32768,
+            edges,
         };
     }
     Part {
-        from: if physical { 0 } else { 8192 },
-        edges: other.edges,
+        from: 8192,
+        second: 24576,
+        third: 40960,
+        edges,
     }
 }
 
@@ -38,70 +47,108 @@ pub(crate) fn is_soft(view: View) -> bool {
     }
 }
 
+// What hard decode says of two parts of the columns.
+fn hard_of(
+    l: Part,
+    p: Part,
+    wholes: &[i32],
+    bytes: &[u8],
+    floats: &[f32],
+    transforms: &[u8],
+    tables: &[u8],
+    limit: f32,
+) -> Answer {
+    let mut counts = [0u32; 3006];
+    let mut weights = [0.0f32; 3006];
+    decode_hard::decode_hard(
+        part_i32(wholes, l.from, l.edges),
+        part_i32(wholes, l.second, l.edges),
+        part_u8(bytes, l.from, l.edges),
+        part_u8(bytes, l.second, l.edges),
+        part_f32(floats, l.from, l.edges),
+        part_i32(wholes, p.from, p.edges),
+        part_i32(wholes, p.second, p.edges),
+        part_u8(bytes, p.from, p.edges),
+        part_u8(bytes, p.second, p.edges),
+        part_f32(floats, p.from, p.edges),
+        transforms,
+        part_u8(tables, 0, 167),
+        part_u8(tables, 167, 167),
+        limit,
+        &mut counts,
+        &mut weights,
+    )
+}
+
+// What soft decode says of two parts of the columns.
+fn soft_of(
+    l: Part,
+    p: Part,
+    wholes: &[i32],
+    bytes: &[u8],
+    floats: &[f32],
+    transforms: &[u8],
+    tables: &[u8],
+    limit: f32,
+    margin: f32,
+) -> Answer {
+    let mut counts = [0u32; 3006];
+    let mut weights = [0.0f32; 3006];
+    let mut sums = [0i64; 5010];
+    decode_soft::decode_soft(
+        part_i32(wholes, l.from, l.edges),
+        part_i32(wholes, l.second, l.edges),
+        part_u8(bytes, l.from, l.edges),
+        part_u8(bytes, l.second, l.edges),
+        part_f32(floats, l.from, l.edges),
+        part_i32(wholes, p.from, p.edges),
+        part_i32(wholes, p.second, p.edges),
+        part_u8(bytes, p.from, p.edges),
+        part_u8(bytes, p.second, p.edges),
+        part_f32(floats, p.from, p.edges),
+        part_f32(floats, p.second, p.edges),
+        part_f32(floats, p.third, p.edges),
+        transforms,
+        part_u8(tables, 0, 167),
+        part_u8(tables, 167, 167),
+        limit,
+        margin,
+        &mut counts,
+        &mut weights,
+        &mut sums,
+    )
+}
+
 // The transforms that are listed.
 fn listed(transforms: &[u8; 8], n: usize) -> &[u8] {
     part_u8(transforms, 0, n)
 }
 
 // What the decoder says of the view.
-pub(crate) fn decode<'a>(
+pub(crate) fn decode(
     view: View,
-    rows: &[i32; 16384],
-    cols: &[i32; 16384],
-    orientations: &[u8; 16384],
-    bits: &[u8; 16384],
-    confidences: &[f32; 16384],
-    hits: &[f32; 16384],
-    misses: &[f32; 16384],
-    h: &'a [u8; 167],
-    v: &'a [u8; 167],
+    wholes: &[i32; 32768],
+    bytes: &[u8; 32768],
+    floats: &[f32; 49152],
+    tables: &[u8; 334],
 ) -> Answer {
     let l = part_of(view, false);
     let p = part_of(view, true);
-    let transforms = view.transforms;
-    let mut counts = [0u32; 3006];
-    let mut weights = [0.0f32; 3006];
-    if !is_soft(view) {
-        return decode_hard::decode_hard(
-            part_i32(rows, l.from, l.edges),
-            part_i32(cols, l.from, l.edges),
-            part_u8(orientations, l.from, l.edges),
-            part_u8(bits, l.from, l.edges),
-            part_f32(confidences, l.from, l.edges),
-            part_i32(rows, p.from, p.edges),
-            part_i32(cols, p.from, p.edges),
-            part_u8(orientations, p.from, p.edges),
-            part_u8(bits, p.from, p.edges),
-            part_f32(confidences, p.from, p.edges),
-            listed(&transforms, view.listed),
-            h,
-            v,
-            view.limit,
-            &mut counts,
-            &mut weights,
+    let settings = view.settings;
+    let transforms = settings.transforms;
+    let some = listed(&transforms, settings.listed);
+    if is_soft(view) {
+        return soft_of(
+            l,
+            p,
+            wholes,
+            bytes,
+            floats,
+            some,
+            tables,
+            settings.limit,
+            settings.margin,
         );
     }
-    let mut sums = [0i64; 5010];
-    decode_soft::decode_soft(
-        part_i32(rows, l.from, l.edges),
-        part_i32(cols, l.from, l.edges),
-        part_u8(orientations, l.from, l.edges),
-        part_u8(bits, l.from, l.edges),
-        part_f32(confidences, l.from, l.edges),
-        part_i32(rows, p.from, p.edges),
-        part_i32(cols, p.from, p.edges),
-        part_u8(orientations, p.from, p.edges),
-        part_u8(bits, p.from, p.edges),
-        part_f32(confidences, p.from, p.edges),
-        part_f32(hits, p.from, p.edges),
-        part_f32(misses, p.from, p.edges),
-        listed(&transforms, view.listed),
-        h,
-        v,
-        view.limit,
-        view.margin,
-        &mut counts,
-        &mut weights,
-        &mut sums,
-    )
+    hard_of(l, p, wholes, bytes, floats, some, tables, settings.limit)
 }

@@ -13,11 +13,18 @@ fn put_use(page: &mut [u8; 32768], at: usize) -> usize {
     )
 }
 
-// The files, with an example.
-fn put_files(page: &mut [u8; 32768], at: usize) -> usize {
-    put(
-        page,
-        at,
+// All of it, as an answer: what it is, how it is used, the files with an example, and what the answer says.
+pub(crate) fn show() {
+    let mut page = blank();
+    let n = put(
+        &mut page,
+        0,
+        b"samburext tells which square of a PuzzleBoard a camera faces, or refuses.\n\n",
+    );
+    let n = put_use(&mut page, n);
+    let n = put(
+        &mut page,
+        n,
         b"\n\
         BOARD has two lines of 167 digits from 0 to 7: the patterns of the horizontal edges, then of the\n\
         vertical edges.\n\
@@ -36,16 +43,8 @@ fn put_files(page: &mut [u8; 32768], at: usize) -> usize {
         \x20   h 0 0 1 0.93 -0.05 -3.2\n\
         \x20   v 0 0 0 0.88 -0.10 -2.6\n\
         \n\
-        A file has at most 1048576 bytes (a board 65536), a list at most 8192 edges.\n",
-    )
-}
-
-// What the answer says.
-fn put_meanings(page: &mut [u8; 32768], at: usize) -> usize {
-    put(
-        page,
-        at,
-        b"\n\
+        A file has at most 1048576 bytes (a board 65536), a list at most 8192 edges.\n\
+        \n\
         The answer is the square of the board (row and column from 0 to 500) on which row 0, column 0 of the\n\
         view lies, and how the board appears in the view. Rows grow downwards, columns to the right.\n\
         \x20 0 as printed                          4 mirrored, left and right swapped\n\
@@ -59,20 +58,7 @@ fn put_meanings(page: &mut [u8; 32768], at: usize) -> usize {
         \x20          earlier run is removed; any other file of that name is left as it is\n\
         \n\
         Exit status: 0 found, 1 refused, 2 bad use or a file that cannot be read.\n",
-    )
-}
-
-// All of it, as an answer.
-pub(crate) fn show() {
-    let mut page = blank();
-    let n = put(
-        &mut page,
-        0,
-        b"samburext tells which square of a PuzzleBoard a camera faces, or refuses.\n\n",
     );
-    let n = put_use(&mut page, n);
-    let n = put_files(&mut page, n);
-    let n = put_meanings(&mut page, n);
     say(&page, n);
 }
 

@@ -7,6 +7,7 @@ use answer::Answer;
 use answertext::map;
 use answertext::telling;
 use args::Options;
+use console::form;
 use console::page;
 use viewfiles::files;
 use viewtext::view_file;
@@ -19,19 +20,20 @@ fn give_up(o: Options) {
     }
 }
 
-// What became of the picture: nothing where none was asked for.
-fn put_map(page: &mut [u8; 32768], at: usize, o: Options, found: bool) -> usize {
+// What became of the picture: 0 where none was asked for, 1 where a refusal has none, 2 where it is written.
+fn map_state(o: Options, found: bool) -> u32 {
     if o.map == 0 {
+        return 0;
+    }
+    if found { 2 } else { 1 }
+}
+
+// The same for people.
+fn put_map(page: &mut [u8; 32768], at: usize, state: u32, i: usize) -> usize {
+    if state == 0 {
         return at;
     }
-    if o.plain {
-        return if found {
-            page::put(page, at, b" map=written")
-        } else {
-            page::put(page, at, b" map=none")
-        };
-    }
-    if !found {
+    if state == 1 {
         return page::put(
             page,
             at,
@@ -39,23 +41,29 @@ fn put_map(page: &mut [u8; 32768], at: usize, o: Options, found: bool) -> usize 
         );
     }
     let n = page::put(page, at, b"  map          ");
-    let n = page::put_argument(page, n, o.map);
-    page::put(page, n, b"\n")
+    let n = page::put_argument(page, n, i);
+    page::put_byte(page, n, b'\n')
+}
+
+// The same for programs, to the end of the line.
+fn put_plain_map(page: &mut [u8; 32768], at: usize, state: u32) -> usize {
+    let n = form::put_line(page, at, b"\n map=none\n map=written", state);
+    page::put_byte(page, n, b'\n')
 }
 
 // The answer written as it was asked for.
 fn tell(o: Options, a: Answer, view: View, found: bool) {
     let soft = decode::is_soft(view);
+    let state = map_state(o, found);
+    let settings = view.settings;
     let mut room = page::blank();
-    if o.plain {
-        let n = telling::put_plain(&mut room, 0, a, view, soft);
-        let n = put_map(&mut room, n, o, found);
-        let n = page::put(&mut room, n, b"\n");
-        page::say(&room, n);
-        return;
-    }
-    let n = telling::put_answer(&mut room, 0, a, view, soft);
-    let n = put_map(&mut room, n, o, found);
+    let n = if o.plain {
+        let n = telling::put_plain(&mut room, 0, a, settings, soft);
+        put_plain_map(&mut room, n, state)
+    } else {
+        let n = telling::put_answer(&mut room, 0, a, settings, soft);
+        put_map(&mut room, n, state, o.map)
+    };
     page::say(&room, n);
 }
 
@@ -64,7 +72,7 @@ fn conclude(o: Options, a: Answer, view: View) {
     match a {
         Answer::Found(d) => {
             if o.map != 0 {
-                if !map::draw(o.map, d, view) {
+                if !map::draw(o.map, d, view.extent) {
                     give_up(o);
                     return;
                 }
@@ -78,40 +86,16 @@ fn conclude(o: Options, a: Answer, view: View) {
 }
 
 // The view of the options on a board whose tables are read: decoded, and the answer written.
-fn face<'a>(o: Options, h: &'a [u8; 167], v: &'a [u8; 167]) {
-    let mut rows = view_file::column_i32();
-    let mut cols = view_file::column_i32();
-    let mut orientations = view_file::column_u8();
-    let mut bits = view_file::column_u8();
-    let mut confidences = view_file::column_f32();
-    let mut hits = view_file::column_f32();
-    let mut misses = view_file::column_f32();
-    let view = files::load_view(
-        o.view,
-        &mut rows,
-        &mut cols,
-        &mut orientations,
-        &mut bits,
-        &mut confidences,
-        &mut hits,
-        &mut misses,
-    );
+fn face(o: Options, tables: &[u8; 334]) {
+    let mut wholes = view_file::columns_i32();
+    let mut bytes = view_file::columns_u8();
+    let mut floats = view_file::columns_f32();
+    let view = files::load_view(o.view, &mut wholes, &mut bytes, &mut floats);
     if view.what != 0 {
         give_up(o);
         return;
     }
-    let a = decode::decode(
-        view,
-        &rows,
-        &cols,
-        &orientations,
-        &bits,
-        &confidences,
-        &hits,
-        &misses,
-        h,
-        v,
-    );
+    let a = decode::decode(view, &wholes, &bytes, &floats, tables);
     conclude(o, a, view);
 }
 
@@ -123,10 +107,9 @@ fn run(o: Options) {
             return;
         }
     }
-    let mut h = [0u8; 167];
-    let mut v = [0u8; 167];
-    if files::load_board(o.board, &mut h, &mut v) {
-        face(o, &h, &v);
+    let mut tables = [0u8; 334];
+    if files::load_board(o.board, &mut tables) {
+        face(o, &tables);
     } else {
         give_up(o);
     }

@@ -5,7 +5,7 @@ use Prim.Native.Nat.{ℕ, _<_}
 use native.Mathlib.Omega.{arith}
 use lib.Ieee.{Float}
 use borrow.Author.Tests.{lt-ltb}
-use Rattle.laws.specs.Weights.{zeroF}
+use Rattle.laws.specs.Words.{zeroF}
 use Rattle.best.specs.Lex.{wins}
 use Rattle.scan.specs.Scan.{takes, behind}
 use Rattle.scan.specs.declared.record.Lead.{Lead}

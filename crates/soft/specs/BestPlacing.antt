@@ -8,7 +8,7 @@ use Prim.Native.Nat.{ℕ, _*_, _/_, _%_, _≤_, _<_}
 use lib.IntN.{ℤ}
 use lib.Signed.{ltZ}
 use lib.Ieee.{lt}
-use Rattle.laws.specs.Grid.{Grid, origins}
+use Rattle.laws.specs.Words.{Grid, origins}
 use Rattle.likelihood.specs.Likelihood.{dequantised}
 use Rattle.margin.specs.declared.slots.SoftCandidate.{SoftCandidate}
 use Rattle.margin.specs.declared.slots.SoftChoice.{SoftChoice}

@@ -10,7 +10,7 @@ use lib.IntN.{ℤ}
 use lib.Signed.{ltZ}
 use lib.Ieee.{lt}
 use Rattle.laws.specs.Best.{Weak}
-use Rattle.laws.specs.Grid.{Grid, origins}
+use Rattle.laws.specs.Words.{Grid, origins}
 use Rattle.likelihood.specs.Likelihood.{dequantised}
 use Rattle.best.specs.CellTables.{Period}
 use Rattle.pair.specs.Sums.{SumTables, SumsOk, sumAt}

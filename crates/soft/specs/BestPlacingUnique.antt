@@ -7,7 +7,8 @@ use native.Mathlib.Omega.{arith}
 use lib.IntN.{ℤ}
 use lib.Signed.{ltZ}
 use Rattle.laws.specs.Tests.{clash, cases, apart, decided}
-use Rattle.laws.specs.Grid.{Grid, Laws, origins}
+use Rattle.laws.specs.Words.{Grid, origins}
+use Rattle.laws.specs.GridLaws.{Laws}
 use Rattle.best.specs.CellTables.{Period}
 use Rattle.grid.specs.BoardGrid.{grid}
 use Rattle.soft.specs.TotalOrderLaws.{not-less, less-through}

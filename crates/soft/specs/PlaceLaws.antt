@@ -9,7 +9,7 @@ use lib.IntN.{ℤ}
 use lib.Ieee.{lt}
 use Rattle.laws.specs.Tests.{clash, split, decided}
 use Rattle.laws.specs.Best.{Weak}
-use Rattle.laws.specs.Grid.{Grid}
+use Rattle.laws.specs.Words.{Grid}
 use Rattle.likelihood.specs.Likelihood.{dequantised}
 use Rattle.soft.specs.TotalOrderLaws.{Small, total-mono, total-less-not, total-not-less, total-less-through}
 use Rattle.soft.specs.BestPlacing.{OwnBest, OwnSecond, FirstPlace, SecondPlace, candidateAt}

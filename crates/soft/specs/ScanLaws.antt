@@ -5,7 +5,7 @@ use Prim.Native.Nat.{ℕ, zero, suc, _+_, _*_, _/_, _%_}
 use native.Mathlib.Numerals.{add-one}
 use lib.IntN.{ℤ}
 use lib.Ieee.{Float}
-use Rattle.laws.specs.Grid.{origins}
+use Rattle.laws.specs.Words.{origins}
 use Rattle.likelihood.specs.Likelihood.{dequantised}
 use Rattle.pair.specs.Sums.{SumTables, sumAt}
 use Rattle.pair.specs.Pair.{winnerOf, secondOf, twoOf}

@@ -14,7 +14,8 @@ use borrow.Author.Tests.{ltb-true, ltb-false, lt-ltb, le-ltb}
 use Rattle.laws.specs.Tests.{clash, compared, apart, decided}
 use Rattle.laws.specs.Counting.{count-one, other-passes}
 use Rattle.laws.specs.Whole.{lt-raised}
-use Rattle.laws.specs.Grid.{Grid, Laws}
+use Rattle.laws.specs.Words.{Grid}
+use Rattle.laws.specs.GridLaws.{Laws}
 use Rattle.pair.specs.Level.{sAt, levelBest, levelOf, levelSecond}
 use Rattle.pair.specs.LevelLaws.{cell-in, best-tied, some-tied, second-inside, second-other, second-early}
 use Rattle.pair.specs.Sums.{sumAt}

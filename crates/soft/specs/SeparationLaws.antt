@@ -12,7 +12,8 @@ use lib.Signed.{ltZ}
 use borrow.Author.Tests.{lt-ltb, le-ltb}
 use Rattle.laws.specs.Tests.{compared}
 use Rattle.laws.specs.Whole.{raised, raised-order, raised-add, raised-same, eqZ-true, eq-eqZ, le-raised}
-use Rattle.laws.specs.Grid.{Grid, Laws, origins}
+use Rattle.laws.specs.Words.{Grid, origins}
+use Rattle.laws.specs.GridLaws.{Laws}
 use Rattle.best.specs.CellTables.{Period}
 use Rattle.grid.specs.RowMajorLaws.{major-le, major-is}
 use Rattle.pair.specs.Level.{sAt, levelBest, levelSecond}

@@ -12,7 +12,7 @@ use lib.Ieee.{Float, fin, binary32, round, lt, ofInt, div, sub}
 use lib.Ieee.Fits.{round-fits}
 use lib.Ieee.Exact.{HasValue}
 use lib.Ieee.Back.{round-whole}
-use Rattle.laws.specs.Fold.{all}
+use Rattle.laws.specs.Words.{all}
 use Rattle.laws.specs.Whole.{abs-neg, le-raised, raised-same}
 use Rattle.laws.specs.Weights.{Within}
 use Rattle.laws.specs.WeightLaws.{Held}

@@ -4,8 +4,7 @@ use Prim.Native.Nat.{ℕ, _+_}
 use lib.Dec.{eqb}
 use lib.ListN.{getD}
 use lib.Ieee.{Float, nan, binary32, add}
-use Rattle.laws.specs.Fold.{fold, put}
-use Rattle.laws.specs.Weights.{zeroF, oneF}
+use Rattle.laws.specs.Words.{put, fold, zeroF, oneF}
 use Rattle.board.specs.Hits.{EdgeList, Board, size, hit, hits}
 use Rattle.figures.specs.Figures.{rateOf, meanOf}
 use Rattle.refusals.specs.declared.Admission.{Admission}

@@ -4,9 +4,9 @@ use mathlib.Core.Bool.{Bool}
 use Prim.Native.Nat.{ℕ, _+_, _≤_}
 use lib.ListN.{getD}
 use lib.Ieee.{Float, nan, binary32, add}
-use Rattle.laws.specs.Fold.{one, count, fold-more, fold-zero}
+use Rattle.laws.specs.Words.{one, count, zeroF}
+use Rattle.laws.specs.Fold.{fold-more, fold-zero}
 use Rattle.laws.specs.Counting.{count-le}
-use Rattle.laws.specs.Weights.{zeroF}
 use Rattle.board.specs.Hits.{EdgeList, Board, size, hit, hits}
 use Rattle.figures.specs.Figures.{meanOf}
 use Rattle.refusals.specs.declared.Refusal.{Refusal}

@@ -8,9 +8,9 @@ use lib.Dec.{eqb}
 use lib.ListN.{getD}
 use lib.Ieee.{nan}
 use borrow.Author.Tests.{eqb-false}
-use Rattle.laws.specs.Fold.{one}
+use Rattle.laws.specs.Words.{one, oneF, Finite}
 use Rattle.laws.specs.Counting.{count-le}
-use Rattle.laws.specs.Weights.{oneF, Upto, Finite}
+use Rattle.laws.specs.Weights.{Upto}
 use Rattle.laws.specs.WeightLaws.{sum-upto}
 use Rattle.laws.specs.WithinLaws.{within-finite, upto-within}
 use Rattle.board.specs.Hits.{EdgeList, Board, size, hit, hits}

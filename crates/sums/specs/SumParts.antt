@@ -5,8 +5,7 @@ use mathlib.Core.List.{List, [], _∷_}
 use Prim.Native.Nat.{ℕ, zero, suc, _+_, _*_, _/_, _%_, _^_, _≤_, _<_}
 use lib.ListN.{getD, length}
 use lib.IntN.{ℤ, pos, natAbs, _+ℤ_}
-use Rattle.laws.specs.Fold.{one}
-use Rattle.laws.specs.Whole.{eqZ}
+use Rattle.laws.specs.Words.{one, eqZ}
 use Rattle.laws.specs.Zone.{Zone}
 use Rattle.board.specs.Hits.{EdgeList, Board}
 use Rattle.board.specs.Sides.{tableOf, periodOf}
@@ -14,7 +13,7 @@ use Rattle.board.specs.Domain.{EdgesOk, BoardOk}
 use Rattle.room.specs.declared.Side.{Side}
 use Rattle.room.specs.Room.{PeriodsOk, rowLength, isHorizontal, strideOf, acrossOf}
 use Rattle.groups.specs.Fill.{rowSum}
-use Rattle.groups.specs.Terms.{termSum}
+use Rattle.terms.specs.Terms.{termSum}
 use Rattle.cells.specs.Cells.{longClass, shortClass, cellSum, family}
 use Rattle.cells.specs.Spread.{Spread}
 use Rattle.cells.specs.Credit.{runPlace, runTerm, RunPlaces, cellPattern, FamilyPlaces}

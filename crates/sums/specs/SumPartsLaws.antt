@@ -13,9 +13,10 @@ use lib.IntN.{ℤ, pos, natAbs, _+ℤ_, +ℤ-idr}
 use lib.ListN.{getD, length, set, drop}
 use borrow.Author.Tests.{lt-ltb, le-ltb, eq-eqb, ne-eqb}
 use Rattle.laws.specs.Tests.{and-true, and-comm, or-false, apart, split}
-use Rattle.laws.specs.Fold.{fold, all, fold-zero, fold-hit, fold-miss}
+use Rattle.laws.specs.Words.{fold, all, eqZ}
+use Rattle.laws.specs.Fold.{fold-zero, fold-hit, fold-miss}
 use Rattle.laws.specs.DoubleCounting.{fold-ext}
-use Rattle.laws.specs.Whole.{eqZ, eqZ-true, eq-eqZ, ne-eqZ}
+use Rattle.laws.specs.Whole.{eqZ-true, eq-eqZ, ne-eqZ}
 use Rattle.laws.specs.Zone.{Zone, zone-none, zone-ext, zone-set}
 use Rattle.board.specs.Hits.{EdgeList, Board, size}
 use Rattle.board.specs.Sides.{tableOf, periodOf}
@@ -24,7 +25,7 @@ use Rattle.likelihood.specs.SumLaws.{cell-size}
 use Rattle.room.specs.declared.Side.{Side}
 use Rattle.room.specs.Room.{rowLength, isHorizontal}
 use Rattle.groups.specs.Fill.{placeAt, rowSum}
-use Rattle.groups.specs.Terms.{agrees, termSum}
+use Rattle.terms.specs.Terms.{agrees, termSum}
 use Rattle.cells.specs.Cells.{longClass, shortClass, family}
 use Rattle.tables.specs.CellsLaws.{cell-none, cell-more, zone-family}
 use Rattle.cells.specs.Spread.{spread-none}

@@ -7,7 +7,7 @@ use Prim.Native.Nat.{ℕ, _*_, _/_, _%_, _<_}
 use lib.ListN.{getD, length}
 use lib.IntN.{ℤ, pos, _+ℤ_}
 use lib.Ieee.{Float, nan}
-use Rattle.laws.specs.Fold.{fold, all}
+use Rattle.laws.specs.Words.{fold, all}
 use Rattle.board.specs.Hits.{EdgeList, Board, size, hit}
 use Rattle.board.specs.Sides.{onSide, periodOf}
 use Rattle.likelihood.specs.Likelihood.{acceptable, quantised}

@@ -8,7 +8,8 @@ use lib.IntN.{ℤ, pos, natAbs, _+ℤ_, +ℤ-idr, +ℤ-assoc, +ℤ-comm}
 use lib.ListN.{getD}
 use borrow.Author.Tests.{eq-eqb, ne-eqb}
 use Rattle.laws.specs.Tests.{and-comm}
-use Rattle.laws.specs.Fold.{all, one, count, fold-hit}
+use Rattle.laws.specs.Words.{all, one, count}
+use Rattle.laws.specs.Fold.{fold-hit}
 use Rattle.laws.specs.Counting.{count-le}
 use Rattle.laws.specs.DoubleCounting.{fold-ext, fold-where, fold-split}
 use Rattle.board.specs.Hits.{EdgeList, Board, size, seen, look, horizontal, bitAt}
@@ -17,8 +18,8 @@ use Rattle.board.specs.HitsLaws.{hit-class}
 use Rattle.likelihood.specs.LikelihoodLaws.{quantised-size}
 use Rattle.likelihood.specs.SumLaws.{sum-size, cell-size}
 use Rattle.groups.specs.Groups.{groupAt, member, groupSum, groupCount}
-use Rattle.groups.specs.Terms.{agrees, termSum}
-use Rattle.groups.specs.TermsLaws.{three-at, same-term}
+use Rattle.terms.specs.Terms.{agrees, termSum}
+use Rattle.terms.specs.TermsLaws.{three-at, same-term}
 use Rattle.cells.specs.Cells.{longClass, shortClass, patternAt, cellSum, family, familyOf}
 use Rattle.tables.specs.CellsLaws.{cell-same, term-all, group-none, families-by-edges, class-by-edges}
 use Rattle.sums.specs.Sums.{Likelihoods, matchAt, mismatchAt, likelihoodAt, gain, score, sideScore, cellScore, LikelihoodsOk}

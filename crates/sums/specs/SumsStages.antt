@@ -6,7 +6,8 @@ use Prim.Native.Nat.{ℕ, _+_, _*_, _^_, _≤_, _<_}
 use native.Mathlib.Omega.{arith}
 use lib.Arith.{digits-div, digits-mod}
 use lib.IntN.{ℤ, pos, natAbs, _+ℤ_}
-use Rattle.laws.specs.Cleared.{cleared, cleared-written}
+use Rattle.laws.specs.Words.{cleared}
+use Rattle.laws.specs.Cleared.{cleared-written}
 use Rattle.laws.specs.Written.{Written}
 use Rattle.laws.specs.Zone.{Zone, zone-ext}
 use Rattle.board.specs.Hits.{EdgeList, Board, size}

@@ -9,8 +9,7 @@ use lib.Arith.{digits-div, digits-mod}
 use lib.Dec.{lit<}
 use lib.IntN.{ℤ, pos, natAbs, _+ℤ_}
 use lib.ListN.{getD, length}
-use Rattle.laws.specs.Cleared.{cleared}
-use Rattle.laws.specs.Grid.{rowOf, colOf, origins}
+use Rattle.laws.specs.Words.{rowOf, colOf, origins, cleared}
 use Rattle.laws.specs.Part.{view}
 use Rattle.laws.specs.GridLaws.{h-below, v-below}
 use Rattle.laws.specs.Residues.{joint-long, joint-short}

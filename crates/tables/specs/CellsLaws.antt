@@ -11,12 +11,12 @@ use lib.ListN.{getD, length}
 use lib.Ieee.{Float, binary32, add, fits}
 use borrow.Author.Tests.{lt-ltb}
 use Rattle.laws.specs.Tests.{and-true, and-comm, and-ext}
-use Rattle.laws.specs.Fold.{fold, put, all, one, count, fold-zero, fold-hit, sum-some, sum-mono, sum-le}
+use Rattle.laws.specs.Words.{put, fold, all, one, count, emod, zeroF, Weight}
+use Rattle.laws.specs.Fold.{fold-zero, fold-hit, sum-some, sum-mono, sum-le}
 use Rattle.laws.specs.Counting.{count-le}
 use Rattle.laws.specs.DoubleCounting.{fold-ext, fold-where, flatten, regroup, edge-by-edge, edge-by-edge-both}
-use Rattle.laws.specs.Remainder.{emod}
 use Rattle.laws.specs.RemainderLaws.{emod-lt, emod-add}
-use Rattle.laws.specs.Weights.{zeroF, Upto, Weight}
+use Rattle.laws.specs.Weights.{Upto}
 use Rattle.laws.specs.WeightLaws.{Bounds, by-counts, sum-bounded}
 use Rattle.laws.specs.PlusZero.{sum-fits}
 use Rattle.laws.specs.Zone.{Zone}
@@ -24,8 +24,8 @@ use Rattle.board.specs.Hits.{EdgeList, Board, size, seen, bitAt, patternBit, hi
 use Rattle.board.specs.Sides.{onSide, tableOf, periodOf, longOf, shortOf, sideHits}
 use Rattle.board.specs.HitsLaws.{hit-side}
 use Rattle.groups.specs.Groups.{group, groupAt, member, groupSum, groupCount, groupWeight, confidenceAt}
-use Rattle.groups.specs.Terms.{agrees, adds, termSum}
-use Rattle.groups.specs.TermsLaws.{same-term}
+use Rattle.terms.specs.Terms.{agrees, adds, termSum}
+use Rattle.terms.specs.TermsLaws.{same-term}
 use Rattle.cells.specs.Cells.{longClass, shortClass, patternAt, cellSum, family, familyOf, familyC, familyW, classSum, cellCount}
 use Rattle.groups.specs.FillLaws.{group-below}
 use Rattle.tables.specs.Side.{total}

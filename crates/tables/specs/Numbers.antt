@@ -3,8 +3,7 @@ use mathlib.Core.Path.{_≡_, refl}
 use mathlib.Core.Bool.{true, false}
 use mathlib.Core.List.{[], _∷_}
 use lib.IntN.{pos}
-use Rattle.laws.specs.Fold.{fold}
-use Rattle.laws.specs.Remainder.{emod}
+use Rattle.laws.specs.Words.{fold, emod}
 use Rattle.board.specs.Transform.{mat, matrices, lookupOf}
 use Rattle.board.specs.Hits.{EdgeList, Board, edges, tables, look, predicted, hit}
 use Rattle.board.specs.Sides.{sideHits}

@@ -5,13 +5,12 @@ use mathlib.Core.List.{List}
 use Prim.Native.Nat.{ℕ, _+_, _*_, _≤_, _<_}
 use lib.ListN.{length}
 use lib.Ieee.{Float, nan, binary32, add}
-use Rattle.laws.specs.Fold.{fold, all}
-use Rattle.laws.specs.Weights.{zeroF, Weight}
+use Rattle.laws.specs.Words.{fold, all, zeroF, Weight}
 use Rattle.laws.specs.Zone.{Zone}
 use Rattle.board.specs.Hits.{Board}
 use Rattle.board.specs.Sides.{tableOf, periodOf}
 use Rattle.board.specs.Domain.{BoardOk}
-use Rattle.groups.specs.Terms.{placesN, placesF}
+use Rattle.terms.specs.Terms.{placesN, placesF}
 use Rattle.cells.specs.Cells.{longClass, shortClass, cellSum, familyC, familyW}
 use Rattle.room.specs.declared.Side.{Side}
 use Rattle.room.specs.Room.{isHorizontal, strideOf, acrossOf}

@@ -7,17 +7,16 @@ use native.Mathlib.Nat.{add-assoc}
 use native.Mathlib.Omega.{arith}
 use lib.ListN.{getD}
 use lib.Ieee.{Float, nan, binary32, add}
-use Rattle.laws.specs.Fold.{all}
+use Rattle.laws.specs.Words.{all, zeroF}
 use Rattle.laws.specs.DoubleCounting.{fold-ext}
-use Rattle.laws.specs.Weights.{zeroF}
 use Rattle.laws.specs.WeightLaws.{upto-weightlike}
 use Rattle.laws.specs.Zone.{Zone, zone-none, zone-ext}
 use Rattle.board.specs.Hits.{Board}
 use Rattle.board.specs.Sides.{tableOf, periodOf}
 use Rattle.room.specs.declared.Side.{Side}
 use Rattle.room.specs.Room.{isHorizontal}
-use Rattle.groups.specs.Terms.{placesN, placesF}
-use Rattle.groups.specs.TermsLaws.{same-term}
+use Rattle.terms.specs.Terms.{placesN, placesF}
+use Rattle.terms.specs.TermsLaws.{same-term}
 use Rattle.cells.specs.Cells.{longClass, shortClass, cellSum, family, familyC, familyW}
 use Rattle.tables.specs.CellsLaws.{cell-none, cell-more, zone-family, cell-total, family-total, total-mono, cell-upto, cell-fits}
 use Rattle.cells.specs.Credit.{cellPattern, gainC, gainW, FamilyReady, FamilyCredited}

@@ -6,10 +6,9 @@ use Prim.Native.Nat.{ℕ, zero, suc, _+_, _*_, _≤_, _<_}
 use native.Mathlib.Nat.{one-mul, zero-mul, zero-add, le-trans, le-of-eq}
 use native.Mathlib.Omega.{arith}
 use lib.Ieee.{Float, nan, binary32, add}
-use Rattle.laws.specs.Cleared.{cleared, cleared-written}
+use Rattle.laws.specs.Words.{fold, all, one, zeroF, cleared}
+use Rattle.laws.specs.Cleared.{cleared-written}
 use Rattle.laws.specs.DoubleCounting.{fold-ext}
-use Rattle.laws.specs.Fold.{fold, all, one}
-use Rattle.laws.specs.Weights.{zeroF}
 use Rattle.laws.specs.WeightLaws.{upto-weight}
 use Rattle.laws.specs.Written.{Written}
 use Rattle.laws.specs.Zone.{Zone, zone-ext}
@@ -20,7 +19,7 @@ use Rattle.laws.specs.declared.Periods.{Periods}
 use Rattle.room.specs.declared.Side.{Side}
 use Rattle.groups.specs.Groups.{member, confidenceAt, groupCount, groupWeight}
 use Rattle.room.specs.Room.{PeriodsOk, rowLength, cellsAt, cellsEnd, used, isHorizontal, sideOf, Stands, Laid}
-use Rattle.groups.specs.Terms.{placesN, placesF}
+use Rattle.terms.specs.Terms.{placesN, placesF}
 use Rattle.cells.specs.Cells.{longClass, shortClass, cellCount, cellWeight}
 use Rattle.tables.specs.CellsLaws.{same-cell, cell-count, total-edges, group-upto}
 use Rattle.groups.specs.Fill.{FillReady, Filled, rowSum}

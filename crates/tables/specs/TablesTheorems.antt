@@ -9,11 +9,10 @@ use lib.Arith.{digits-div, digits-mod, digits-lt}
 use lib.Dec.{T, lit<}
 use lib.ListN.{getD, length}
 use lib.Ieee.{Float, nan}
-use Rattle.laws.specs.Cleared.{cleared}
-use Rattle.laws.specs.Grid.{rowOf, colOf, origins}
+use Rattle.laws.specs.Words.{rowOf, colOf, origins, zeroF, Weight, cleared}
 use Rattle.laws.specs.GridLaws.{h-below, v-below}
 use Rattle.laws.specs.Part.{view}
-use Rattle.laws.specs.Weights.{zeroF, Upto, Weight, weightlike}
+use Rattle.laws.specs.Weights.{Upto, weightlike}
 use Rattle.laws.specs.WeightLaws.{Bounds, by-counts, upto-weightlike}
 use Rattle.board.specs.Hits.{EdgeList, Board, size, look, horizontal, hit, hits}
 use Rattle.board.specs.Sides.{is, tableOf, periodOf, sideHits}

@@ -20,7 +20,7 @@ fn credit_held<'a>(
     let stride = side.stride;
     let across = side.across;
     let cells = side.cells;
-    let terms = groups::terms::fold_family(counts, weights, side.groups + family * 6);
+    let terms = terms::fold_family(counts, weights, side.groups + family * 6);
     let part = board::pattern::patterns_from(h, v, orientation, family);
     let n = part.len();
     cells::run::credit_run(counts, weights, terms, part, n, cells, stride, across);
@@ -50,7 +50,7 @@ pub fn credit_family<'a>(
     requires { ⌜ FamilyReady (tables (now h) (now v)) side family (now counts) (now weights) ⌝ }
     ensures { λ _. ⌜ FamilyCredited (tables (now (h .entry)) (now (v .entry))) side family (now (counts .entry)) (now (counts .exit)) (now (weights .entry)) (now (weights .exit)) ⌝ }
 {
-    if groups::terms::edges_held(counts, side.groups + family * 6) != 0 {
+    if terms::edges_held(counts, side.groups + family * 6) != 0 {
         credit_held(h, v, side, family, counts, weights);
     }
 }

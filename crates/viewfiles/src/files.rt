@@ -36,8 +36,8 @@ fn is_read(fd: i32, i: usize, most: u32) -> bool {
 }
 
 // The tables of a board's text; false after a message where it is at fault.
-fn board_of(i: usize, s: &[u8], h: &mut [u8; 167], v: &mut [u8; 167]) -> bool {
-    let board = read_board(s, h, v);
+fn board_of(i: usize, s: &[u8], tables: &mut [u8; 334]) -> bool {
+    let board = read_board(s, tables);
     if board.what != 0 {
         report(i, s, board.what, board.place);
         return false;
@@ -46,7 +46,7 @@ fn board_of(i: usize, s: &[u8], h: &mut [u8; 167], v: &mut [u8; 167]) -> bool {
 }
 
 // The tables of the board that argument i names, a file of at most 65,536 bytes; false after a message where it cannot be had.
-pub fn load_board(i: usize, h: &mut [u8; 167], v: &mut [u8; 167]) -> bool {
+pub fn load_board(i: usize, tables: &mut [u8; 334]) -> bool {
     let fd = open(i);
     if fd < 0 {
         return false;
@@ -56,7 +56,7 @@ pub fn load_board(i: usize, h: &mut [u8; 167], v: &mut [u8; 167]) -> bool {
     if !is_read(fd, i, 65536) {
         return false;
     }
-    board_of(i, &bytes[..n], h, v)
+    board_of(i, &bytes[..n], tables)
 }
 
 // Room for a view's file.
@@ -69,36 +69,33 @@ fn view_room() -> [u8; 1048576]
 // The view that argument i names, a file of at most 1,048,576 bytes, with its edges in the columns; at fault after a message where it cannot be had.
 pub fn load_view(
     i: usize,
-    rows: &mut [i32; 16384],
-    cols: &mut [i32; 16384],
-    orientations: &mut [u8; 16384],
-    bits: &mut [u8; 16384],
-    confidences: &mut [f32; 16384],
-    hits: &mut [f32; 16384],
-    misses: &mut [f32; 16384],
+    wholes: &mut [i32; 32768],
+    bytes: &mut [u8; 32768],
+    floats: &mut [f32; 49152],
 ) -> View {
     let fd = open(i);
     if fd < 0 {
         return unread();
     }
-    let mut bytes = view_room();
-    let n = io::read_full(fd, &mut bytes);
+    let mut file = view_room();
+    let n = io::read_full(fd, &mut file);
     if !is_read(fd, i, 1048576) {
         return unread();
     }
-    let text = &bytes[..n];
-    let view = read_view(
-        text,
-        rows,
-        cols,
-        orientations,
-        bits,
-        confidences,
-        hits,
-        misses,
-    );
+    view_of(i, &file[..n], wholes, bytes, floats)
+}
+
+// The view of a text; at fault after a message where the text is.
+fn view_of(
+    i: usize,
+    s: &[u8],
+    wholes: &mut [i32; 32768],
+    bytes: &mut [u8; 32768],
+    floats: &mut [f32; 49152],
+) -> View {
+    let view = read_view(s, wholes, bytes, floats);
     if view.what != 0 {
-        report(i, text, view.what, view.place);
+        report(i, s, view.what, view.place);
     }
     view
 }

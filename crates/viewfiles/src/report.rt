@@ -1,11 +1,10 @@
 // The message of a file that is at fault.
-use console::form::put_line;
+use console::form::put_form;
 use console::form::put_wholes;
 use console::page::blank;
 use console::page::put;
 use console::page::put_argument;
 use console::page::put_byte;
-use console::page::put_number;
 use console::page::write;
 use libc::STDERR_FILENO;
 use viewtext::text::Word;
@@ -14,11 +13,14 @@ use viewtext::text::line_of;
 use viewtext::text::next_word;
 use viewtext::text::none;
 
-// What a file should have had, by its number: the numbers of `viewtext::fault` count these lines from 0.
-fn put_expected(page: &mut [u8; 32768], at: usize, what: u32) -> usize {
-    put_line(
+// The line of a fault and what should have stood there, by its number: the numbers of `viewtext::fault` count these phrases from 0.
+fn put_expected(page: &mut [u8; 32768], at: usize, line: u32, what: u32) -> usize {
+    let wholes = [line, what];
+    let none = [0.0f32; 1];
+    put_form(
         page,
         at,
+        b", line %: expected @; found ",
         b"something else\n\
         h, v, logical, physical, transforms, limit or margin\n\
         the row, a whole number from -1000000 to 1000000\n\
@@ -41,7 +43,8 @@ fn put_expected(page: &mut [u8; 32768], at: usize, what: u32) -> usize {
         a line of 167 digits from 0 to 7, the patterns of horizontal edges\n\
         a line of 167 digits from 0 to 7, the patterns of vertical edges\n\
         nothing more after the two lines of patterns",
-        what,
+        &wholes,
+        &none,
     )
 }
 
@@ -67,6 +70,20 @@ fn put_bytes(page: &mut [u8; 32768], at: usize, s: &[u8], from: usize, n: usize)
     end
 }
 
+// The size of a word, which no file lets pass 1,048,576.
+fn counted(n: usize) -> u32 {
+    if n < 1048576 { n as u32 } else { 1048576 }
+}
+
+// What follows a word of a size that was put in quotes, of which 40 bytes are shown.
+fn put_rest(page: &mut [u8; 32768], at: usize, size: usize) -> usize {
+    if size <= 40 {
+        return put(page, at, b"\"\n");
+    }
+    let wholes = [counted(size)];
+    put_wholes(page, at, b"..\" (% bytes)\n", &wholes)
+}
+
 // A word in quotes, cut where it is long.
 fn put_word(page: &mut [u8; 32768], at: usize, s: &[u8], w: Word) -> usize {
     let from = w.from;
@@ -74,42 +91,34 @@ fn put_word(page: &mut [u8; 32768], at: usize, s: &[u8], w: Word) -> usize {
     if from > to {
         return at;
     }
-    let size = to - from;
     let n = put_byte(page, at, b'"');
-    let n = put_bytes(page, n, s, from, size);
-    if size <= 40 {
-        return put_byte(page, n, b'"');
-    }
-    let n = put(page, n, b"..\" (");
-    let n = put_number(page, n, size as u64);
-    put(page, n, b" bytes)")
+    let n = put_bytes(page, n, s, from, to - from);
+    put_rest(page, n, to - from)
 }
 
-// What stands at a place instead.
+// What stands at a place instead, to the end of the message.
 fn put_instead(page: &mut [u8; 32768], at: usize, s: &[u8], place: usize) -> usize {
     let w = next_word(s, place);
     if !none(w) {
         return put_word(page, at, s, w);
     }
-    let k = if w.from < s.len() { 0 } else { 1 };
-    put_line(page, at, b"the end of the line\nthe end of the file", k)
+    if w.from < s.len() {
+        return put(page, at, b"the end of the line\n");
+    }
+    put(page, at, b"the end of the file\n")
 }
 
 // The message of a fault: the file that argument i names, the line, what was expected there and what there is.
-pub fn report(i: usize, s: &[u8], what: u32, place: usize) {
+pub(crate) fn report(i: usize, s: &[u8], what: u32, place: usize) {
     let mut page = blank();
     let n = put_argument(&mut page, 0, i);
-    let line = [line_of(s, place)];
-    let n = put_wholes(&mut page, n, b", line %: expected ", &line);
-    let n = put_expected(&mut page, n, what);
-    let n = put(&mut page, n, b"; found ");
+    let n = put_expected(&mut page, n, line_of(s, place), what);
     let n = put_instead(&mut page, n, s, place);
-    let n = put_byte(&mut page, n, b'\n');
     write(STDERR_FILENO, &page, n);
 }
 
 // The message of a file that is too large.
-pub fn report_size(i: usize, most: u32) {
+pub(crate) fn report_size(i: usize, most: u32) {
     let mut page = blank();
     let n = put_argument(&mut page, 0, i);
     let size = [most];

@@ -105,7 +105,7 @@ fn unsigned(s: &[u8], from: usize, to: usize, minus: bool) -> Decimal {
 }
 
 // The number that a word is; good only if it has a digit and nothing else but a sign in front and one point.
-pub fn number(s: &[u8], w: Word) -> Decimal {
+pub(crate) fn number(s: &[u8], w: Word) -> Decimal {
     let from = w.from;
     let to = w.to;
     if from < to {
@@ -123,31 +123,31 @@ pub fn number(s: &[u8], w: Word) -> Decimal {
 }
 
 // Whether a number is a whole one, written without a point, of at most the given size.
-pub fn whole_to(d: Decimal, most: u32) -> bool {
+pub(crate) fn whole_to(d: Decimal, most: u32) -> bool {
     d.good && !d.point && d.digits <= most
 }
 
 // Whether a number lies from 0 to 1.
-pub fn is_share(d: Decimal) -> bool {
+pub(crate) fn is_share(d: Decimal) -> bool {
     d.good && !d.minus && d.digits <= d.scale
 }
 
 // The f32 nearest to a number, by one division of two whole numbers that are f32 themselves.
-pub fn float(d: Decimal) -> f32
-    ensures { λ r. ⌜ r ≡ floatOf (d .minus) (d .digits) (d .scale) ⌝ }
+pub(crate) fn float(minus: bool, digits: u32, scale: u32) -> f32
+    ensures { λ r. ⌜ r ≡ floatOf minus digits scale ⌝ }
 {
-    let x = std::num::nearest_u32_to_f32(d.digits) / std::num::nearest_u32_to_f32(d.scale);
-    if d.minus { 0.0 - x } else { x }
+    let x = std::num::nearest_u32_to_f32(digits) / std::num::nearest_u32_to_f32(scale);
+    if minus { 0.0 - x } else { x }
 }
 
 // Whether an f32 lies within 65,536 of 0.
-pub fn is_small(d: Decimal) -> bool {
-    let x = float(d);
+pub(crate) fn is_small(d: Decimal) -> bool {
+    let x = float(d.minus, d.digits, d.scale);
     d.good && x >= -65536.0 && x <= 65536.0
 }
 
 // The whole number of the given sign and size, for sizes up to 1,000,000.
-pub fn signed(minus: bool, size: u32) -> i32 {
+pub(crate) fn signed(minus: bool, size: u32) -> i32 {
     if size > 1000000 {
         return 0;
     }

@@ -1,6 +1,7 @@
 // Runs the functions of `likelihood` on document 01's numbers and on the numbers at their edges.
 ghost use Prim.Native.Nat.{_≤_, _^_};
 ghost use lib.IntN.{natAbs};
+use crate::print::print_line;
 use crate::print::print_whole;
 use console::print::print;
 use console::print::print_float;
@@ -14,10 +15,15 @@ fn print_quantised(x: f32) {
     }
 }
 
-// A named likelihood and the whole number that it becomes.
-fn quantise(name: &[u8], x: f32) {
+// The likelihood x by its name, the k-th, and the whole number that it becomes.
+fn quantise(k: u32, x: f32) {
     print(b"quantise ");
-    print(name);
+    print_line(
+        b"-2^-25\n-2^-26\n-65536\n65536\n2^-25\n2^-25 - 2^-49\n5 * 2^-25\n-7 * 2^-25\n\
+        2^-24\n-0.7\n1\n0\n-0\n2^-149\n\
+        65536 - 2^-8\n65536 + 2^-7\n-65536 - 2^-7\ninfinity\n-infinity\nNaN",
+        k,
+    );
     print(b": ");
     print_quantised(x);
     print(b"\n");
@@ -34,39 +40,33 @@ fn back(sum: i64)
     print(b"\n");
 }
 
-// Halves and the ends of the range.
-fn quantise_halves() {
-    quantise(b"-2^-25", -1.0 / 33554432.0);
-    quantise(b"-2^-26", -1.0 / 67108864.0);
-    quantise(b"-65536", -65536.0);
-    quantise(b"65536", 65536.0);
-    quantise(b"2^-25", 1.0 / 33554432.0);
-    quantise(b"2^-25 - 2^-49", 16777215.0 / 562949953421312.0);
-    quantise(b"5 * 2^-25", 5.0 / 33554432.0);
-    quantise(b"-7 * 2^-25", -7.0 / 33554432.0);
-}
-
-// Whole numbers, 0 and the smallest floats.
-fn quantise_small() {
-    quantise(b"2^-24", 1.0 / 16777216.0);
-    quantise(b"-0.7", -0.7);
-    quantise(b"1", 1.0);
-    quantise(b"0", 0.0);
-    quantise(b"-0", -0.0);
-    quantise(
-        b"2^-149",
+// Halves and the ends of the range; whole numbers, 0 and the smallest floats; the last that are taken, and what is refused. Their names stand in the same order.
+fn quantise_all() {
+    let xs = [
+        -1.0f32 / 33554432.0,
+        -1.0 / 67108864.0,
+        -65536.0,
+        65536.0,
+        1.0 / 33554432.0,
+        16777215.0 / 562949953421312.0,
+        5.0 / 33554432.0,
+        -7.0 / 33554432.0,
+        1.0 / 16777216.0,
+        -0.7,
+        1.0,
+        0.0,
+        -0.0,
         1.0 / 1267650600228229401496703205376.0 / 562949953421312.0,
-    );
-}
-
-// The last that are taken, and what is refused.
-fn quantise_ends() {
-    quantise(b"65536 - 2^-8", 65535.99609375);
-    quantise(b"65536 + 2^-7", 65536.0078125);
-    quantise(b"-65536 - 2^-7", -65536.0078125);
-    quantise(b"infinity", 1.0 / 0.0);
-    quantise(b"-infinity", -1.0 / 0.0);
-    quantise(b"NaN", 0.0 / 0.0);
+        65535.99609375,
+        65536.0078125,
+        -65536.0078125,
+        1.0 / 0.0,
+        -1.0 / 0.0,
+        0.0 / 0.0,
+    ];
+    for i in 0..20usize {
+        quantise(i as u32, xs[i]);
+    }
 }
 
 // Sums around 24 significant bits, and the ends of the range.
@@ -90,8 +90,6 @@ fn back_all() {
 
 // Both functions, each on its numbers.
 pub(crate) fn show_all() {
-    quantise_halves();
-    quantise_small();
-    quantise_ends();
+    quantise_all();
     back_all();
 }

@@ -4,6 +4,9 @@ ghost use lib.IntN.{natAbs};
 use answer::Answer;
 use answer::Decoded;
 use answer::StatsAnswer;
+use console::form::put_line;
+use console::page::blank;
+use console::page::say;
 use console::print::print;
 use console::print::print_form;
 use console::print::print_long;
@@ -12,6 +15,13 @@ use refusals::Admission;
 use refusals::ListName;
 use refusals::Place;
 use refusals::Refusal;
+
+// Line k of a text, counted from 0.
+pub(crate) fn print_line(lines: &[u8], k: u32) {
+    let mut page = blank();
+    let n = put_line(&mut page, 0, lines, k);
+    say(&page, n);
+}
 
 // n in decimal digits, with its sign.
 pub(crate) fn print_whole(n: i64)

@@ -1,6 +1,10 @@
 // Tries each refusal from 1 to 9, 16 and 17 alone, each pair of neighbours (those of 4, 16 and 17 in `which_edge`), the limits of every range, and NaN, infinities and -0
 // in each float place. A case is a good call with one or two faults, by number; what hard decode, soft decode and match statistics say of it is written in a line.
+use crate::cut::front_f32;
+use crate::cut::front_i32;
+use crate::cut::front_u8;
 use crate::print::print_admission;
+use crate::print::print_line;
 use crate::print::print_stats;
 use answer::StatsAnswer;
 use console::print::print;
@@ -133,19 +137,6 @@ fn setting(good: f32, a: u32, b: u32, k: u32, top: f32) -> f32 {
         return pick_f32(on(a, b, k + 6), top, x);
     }
     good
-}
-
-// The first n elements of a column; one function for each type.
-fn front_i32(xs: &[i32; 8193], n: usize) -> &[i32] {
-    console::part::front_i32(xs, n)
-}
-
-fn front_u8(xs: &[u8; 8193], n: usize) -> &[u8] {
-    console::part::front_u8(xs, n)
-}
-
-fn front_f32(xs: &[f32; 8193], n: usize) -> &[f32] {
-    console::part::front_f32(xs, n)
 }
 
 // How long the columns of a case are, and how much room it is lent.
@@ -286,8 +277,7 @@ fn stats_of(a: u32, b: u32) -> StatsAnswer {
 }
 
 // What the three calls say of the good input with the faults a and b. Faults of the logical list are 20 to 29 and 50 to 59, of the physical list 30 to 39.
-fn show(name: &[u8], a: u32, b: u32) {
-    print(name);
+fn show_case(a: u32, b: u32) {
     print(b": hard ");
     print_admission(hard_of(a, b));
     print(b", soft ");
@@ -297,116 +287,90 @@ fn show(name: &[u8], a: u32, b: u32) {
     print(b"\n");
 }
 
-// Each fault alone, and the numbers at the ends of the ranges that are taken: the call as it should be, lent room and columns that are too short.
-fn room_and_columns() {
-    show(b"good", 0, 0);
-    show(b"counts short", 10, 0);
-    show(b"weights short", 11, 0);
-    show(b"sums short", 12, 0);
-    show(b"logical columns short", 2, 0);
-    show(b"physical confidences short", 34, 0);
-    show(b"match likelihoods short", 35, 0);
+// The same under its name.
+fn show(name: &[u8], a: u32, b: u32) {
+    print(name);
+    show_case(a, b);
 }
 
-// Lists that are empty, or of the lengths at the limits.
+// n faults, each alone, from one on, under their names, a line each.
+fn show_each(names: &[u8], first: u32, n: u32) {
+    for i in 0..n {
+        print_line(names, i);
+        show_case(std::num::wrapping_add_u32(first, i), 0);
+    }
+}
+
+// Each fault alone, and the numbers at the ends of the ranges that are taken: the call as it should be, lent room and columns that are too short, and lists that are empty
+// or of the lengths at the limits.
 fn sizes() {
+    show(b"good", 0, 0);
+    show_each(b"counts short\nweights short\nsums short", 10, 3);
+    show(b"logical columns short", 2, 0);
+    show_each(
+        b"physical confidences short\nmatch likelihoods short",
+        34,
+        2,
+    );
     show(b"logical empty", 3, 0);
     show(b"physical empty", 33, 0);
-    show(b"1 edge", 60, 0);
-    show(b"8192 edges", 61, 0);
-    show(b"8193 edges", 62, 0);
+    show_each(b"1 edge\n8192 edges\n8193 edges", 60, 3);
 }
 
-// One edge: its row, column, orientation and bit.
+// Edges: row, column, orientation and bit; the same of the physical list. Transforms.
 fn edges() {
-    show(b"row 1000001", 20, 0);
-    show(b"row -1000001", 21, 0);
-    show(b"column 1000001", 22, 0);
-    show(b"row -1000000", 23, 0);
-    show(b"column 1000000", 24, 0);
-    show(b"orientation 2", 25, 0);
-    show(b"bit 2", 26, 0);
-    show(b"one of two edges missed", 27, 0);
+    show_each(
+        b"row 1000001\nrow -1000001\ncolumn 1000001\nrow -1000000\ncolumn 1000000\norientation 2\nbit 2\none of two edges missed",
+        20,
+        8,
+    );
     show(b"the only edge missed", 27, 60);
-}
-
-// The same of the physical list.
-fn physical_edges() {
-    show(b"physical row 1000001", 30, 0);
-    show(b"physical orientation 2", 31, 0);
-    show(b"physical confidence 1.5", 32, 0);
-}
-
-// Transforms.
-fn transforms() {
-    show(b"transform 8", 70, 0);
-    show(b"no transforms", 71, 0);
-    show(b"nine transforms", 72, 0);
+    show_each(
+        b"physical row 1000001\nphysical orientation 2\nphysical confidence 1.5",
+        30,
+        3,
+    );
+    show_each(b"transform 8\nno transforms\nnine transforms", 70, 3);
 }
 
 // Tables, and origins for match statistics.
 fn boards() {
-    show(b"horizontal pattern 8", 80, 0);
-    show(b"vertical pattern 8", 81, 0);
-    show(b"horizontal table 166", 82, 0);
-    show(b"vertical table 168", 83, 0);
-    show(b"origin row 501", 90, 0);
-    show(b"origin column 501", 91, 0);
+    show_each(
+        b"horizontal pattern 8\nvertical pattern 8\nhorizontal table 166\nvertical table 168",
+        80,
+        4,
+    );
+    show_each(b"origin row 501\norigin column 501", 90, 2);
 }
 
-// Each float place with NaN, both infinities, values out of range, -0 and the value at the end of its range: confidences.
-fn confidences() {
-    show(b"confidence NaN", 50, 0);
-    show(b"confidence -0.5", 51, 0);
-    show(b"confidence 1.5", 52, 0);
-    show(b"confidence infinity", 53, 0);
-    show(b"confidence -infinity", 54, 0);
-    show(b"confidence -0", 55, 0);
-    show(b"confidence 1", 56, 0);
-}
-
-// The likelihood of a match.
-fn matches() {
-    show(b"match NaN", 100, 0);
-    show(b"match infinity", 101, 0);
-    show(b"match -infinity", 102, 0);
-    show(b"match above 65536", 103, 0);
-    show(b"match below -65536", 104, 0);
-    show(b"match -0", 105, 0);
-    show(b"match -65536", 106, 0);
-}
-
-// The likelihood of a mismatch.
-fn mismatches() {
-    show(b"mismatch NaN", 110, 0);
-    show(b"mismatch infinity", 111, 0);
-    show(b"mismatch -infinity", 112, 0);
-    show(b"mismatch above 65536", 113, 0);
-    show(b"mismatch below -65536", 114, 0);
-    show(b"mismatch -0", 115, 0);
-    show(b"mismatch -65536", 116, 0);
-}
-
-// The error limit.
-fn limits() {
-    show(b"limit NaN", 120, 0);
-    show(b"limit infinity", 121, 0);
-    show(b"limit -infinity", 122, 0);
-    show(b"limit 1.5", 123, 0);
-    show(b"limit -0.5", 124, 0);
-    show(b"limit -0", 125, 0);
-    show(b"limit 1", 126, 0);
-}
-
-// The soft margin.
-fn margins() {
-    show(b"margin NaN", 130, 0);
-    show(b"margin infinity", 131, 0);
-    show(b"margin -infinity", 132, 0);
-    show(b"margin 98304", 133, 0);
-    show(b"margin -0.5", 134, 0);
-    show(b"margin -0", 135, 0);
-    show(b"margin 65536", 136, 0);
+// Each float place with NaN, both infinities, values out of range, -0 and the value at the end of its range: confidences, the likelihoods of a match and of a mismatch,
+// the error limit and the soft margin.
+fn floats() {
+    show_each(
+        b"confidence NaN\nconfidence -0.5\nconfidence 1.5\nconfidence infinity\nconfidence -infinity\nconfidence -0\nconfidence 1",
+        50,
+        7,
+    );
+    show_each(
+        b"match NaN\nmatch infinity\nmatch -infinity\nmatch above 65536\nmatch below -65536\nmatch -0\nmatch -65536",
+        100,
+        7,
+    );
+    show_each(
+        b"mismatch NaN\nmismatch infinity\nmismatch -infinity\nmismatch above 65536\nmismatch below -65536\nmismatch -0\nmismatch -65536",
+        110,
+        7,
+    );
+    show_each(
+        b"limit NaN\nlimit infinity\nlimit -infinity\nlimit 1.5\nlimit -0.5\nlimit -0\nlimit 1",
+        120,
+        7,
+    );
+    show_each(
+        b"margin NaN\nmargin infinity\nmargin -infinity\nmargin 98304\nmargin -0.5\nmargin -0\nmargin 65536",
+        130,
+        7,
+    );
 }
 
 // Two faults of different numbers: the one that comes first in the order 1, 2, 3, 4, 16, 17, 5, 6, 7, 8, 9 is given, over all lists.
@@ -430,17 +394,10 @@ fn later_pairs() {
 
 // All cases.
 pub(crate) fn show_all() {
-    room_and_columns();
     sizes();
     edges();
-    physical_edges();
-    transforms();
     boards();
-    confidences();
-    matches();
-    mismatches();
-    limits();
-    margins();
+    floats();
     pairs();
     later_pairs();
 }

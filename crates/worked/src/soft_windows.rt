@@ -1,20 +1,19 @@
 // Soft decode run on noisy windows: 12 by 12 squares of which the first edges are missed. Confidences go round by eighths, and an edge's likelihoods are those of a
 // sigmoid of slope 6, not below -6. Both lists have the same edges and the error limit is 1.
 use crate::cut::fill_patterns;
+use crate::cut::front_f32;
+use crate::cut::front_i32;
+use crate::cut::front_u8;
 use crate::cut::put_window;
 use crate::cut::repeat;
 use crate::cut::turn_bits;
 use crate::print::print_answer;
 use crate::room::print_room;
 use crate::room::print_sums;
-use console::part::front_f32;
-use console::part::front_i32;
-use console::part::front_u8;
 use console::print::print;
 
 // Soft decode of the first n edges, with bits of their own for each list, over all transforms.
 fn show<'a>(
-    name: &[u8],
     rows: &[i32; 8193],
     cols: &[i32; 8193],
     orientations: &[u8; 8193],
@@ -32,17 +31,21 @@ fn show<'a>(
     let mut counts = [7u32; 3010];
     let mut weights = [7.0f32; 3010];
     let mut sums = [7i64; 5014];
+    let r = front_i32(rows, n);
+    let c = front_i32(cols, n);
+    let o = front_u8(orientations, n);
+    let k = front_f32(confidences, n);
     let answer = decode_soft::decode_soft(
-        front_i32(rows, n),
-        front_i32(cols, n),
-        front_u8(orientations, n),
+        r,
+        c,
+        o,
         front_u8(lbits, n),
-        front_f32(confidences, n),
-        front_i32(rows, n),
-        front_i32(cols, n),
-        front_u8(orientations, n),
+        k,
+        r,
+        c,
+        o,
         front_u8(pbits, n),
-        front_f32(confidences, n),
+        k,
         front_f32(matches, n),
         front_f32(mismatches, n),
         &transforms,
@@ -54,7 +57,6 @@ fn show<'a>(
         &mut weights,
         &mut sums,
     );
-    print(name);
     print(b": ");
     print_answer(answer);
     print_room(&counts, &weights);
@@ -73,6 +75,7 @@ fn show_noisy(
     confidences: &[f32; 8193],
     margin: f32,
 ) {
+    print(name);
     let mut h = [0u8; 167];
     let mut v = [0u8; 167];
     fill_patterns(&mut h, 1);
@@ -133,7 +136,6 @@ fn show_noisy(
     repeat(&mut matches, &match_of);
     repeat(&mut mismatches, &mismatch_of);
     show(
-        name,
         &rows,
         &cols,
         &orientations,

@@ -2,19 +2,19 @@
 // one, each confidence is 1 and the limit is 1, where a line does not say otherwise. The lent room holds 7 before each call and is four places longer than it need be.
 use crate::cut::fill_ones;
 use crate::cut::fill_patterns;
+use crate::cut::front_f32;
+use crate::cut::front_i32;
+use crate::cut::front_u8;
 use crate::cut::put_window;
 use crate::cut::repeat;
 use crate::cut::turn_bits;
 use crate::print::print_answer;
 use crate::room::print_room;
-use console::part::front_f32;
-use console::part::front_i32;
-use console::part::front_u8;
 use console::print::print;
+use console::print::print_form;
 
 // Hard decode of the first n edges, with bits and confidences of their own for the physical list, over the first `listed` transforms.
 fn show<'a>(
-    name: &[u8],
     rows: &[i32; 8193],
     cols: &[i32; 8193],
     orientations: &[u8; 8193],
@@ -31,25 +31,27 @@ fn show<'a>(
 ) {
     let mut counts = [7u32; 3010];
     let mut weights = [7.0f32; 3010];
+    let r = front_i32(rows, n);
+    let c = front_i32(cols, n);
+    let o = front_u8(orientations, n);
     let answer = decode_hard::decode_hard(
-        front_i32(rows, n),
-        front_i32(cols, n),
-        front_u8(orientations, n),
+        r,
+        c,
+        o,
         front_u8(bits, n),
         front_f32(confidences, n),
-        front_i32(rows, n),
-        front_i32(cols, n),
-        front_u8(orientations, n),
+        r,
+        c,
+        o,
         front_u8(pbits, n),
         front_f32(pconfidences, n),
-        front_u8(transforms, listed),
+        console::part::front_u8(transforms, listed),
         h,
         v,
         limit,
         &mut counts,
         &mut weights,
     );
-    print(name);
     print(b": ");
     print_answer(answer);
     print_room(&counts, &weights);
@@ -58,7 +60,6 @@ fn show<'a>(
 
 // A clean window of some squares, cut at a placing of a random board: its first n edges decoded over the listed transforms, with these confidences.
 fn show_cut(
-    name: &[u8],
     squares: u8,
     n: usize,
     transform: u8,
@@ -90,7 +91,6 @@ fn show_cut(
     );
     let some = if n < count { n } else { count };
     show(
-        name,
         &rows,
         &cols,
         &orientations,
@@ -109,7 +109,6 @@ fn show_cut(
 
 // The same with every confidence 1.
 fn show_window(
-    name: &[u8],
     squares: u8,
     n: usize,
     transform: u8,
@@ -119,11 +118,12 @@ fn show_window(
     listed: usize,
 ) {
     let ones = [1.0f32; 8193];
-    show_cut(name, squares, n, transform, r, c, transforms, listed, &ones);
+    show_cut(squares, n, transform, r, c, transforms, listed, &ones);
 }
 
 // A 12 by 12 window with some logical edges missed, whose physical list is cut at a row of its own.
 fn show_faulty(name: &[u8], missed: usize, row: u32, confidence: f32, limit: f32) {
+    print(name);
     let mut h = [0u8; 167];
     let mut v = [0u8; 167];
     fill_patterns(&mut h, 1);
@@ -161,7 +161,6 @@ fn show_faulty(name: &[u8], missed: usize, row: u32, confidence: f32, limit: f32
     let confidences = [confidence; 8193];
     let transforms = [0u8, 1, 2, 3, 4, 5, 6, 7];
     show(
-        name,
         &rows,
         &cols,
         &orientations,
@@ -181,6 +180,7 @@ fn show_faulty(name: &[u8], missed: usize, row: u32, confidence: f32, limit: f32
 // n edges at row 0 and column 0, all horizontal but the second, each of the same bit, on a board whose tables have so many patterns with one bit set. For two edges of
 // bit 1 the product of both numbers is the number of optimal pairs.
 fn show_pair(name: &[u8], horizontal: usize, vertical: usize, n: usize, bit: u8) {
+    print(name);
     let mut h = [0u8; 167];
     let mut v = [0u8; 167];
     fill_ones(&mut h, horizontal);
@@ -193,7 +193,6 @@ fn show_pair(name: &[u8], horizontal: usize, vertical: usize, n: usize, bit: u8)
     let confidences = [1.0f32; 8193];
     let transforms = [0u8; 8];
     show(
-        name,
         &rows,
         &cols,
         &orientations,
@@ -214,6 +213,7 @@ fn show_pair(name: &[u8], horizontal: usize, vertical: usize, n: usize, bit: u8)
 // bit 0 weigh so little less than those of bit 1 that the rounded sums of all pairs tie; of the physical list they weigh half. Up to 1,024 optimal pairs both lists
 // take the first optimal pair. From 1,025 on the logical list takes the first origin of all that tie, which is another.
 fn show_near_tie(name: &[u8], horizontal: usize, vertical: usize) {
+    print(name);
     let mut h = [0u8; 167];
     let mut v = [0u8; 167];
     fill_ones(&mut h, horizontal);
@@ -230,7 +230,6 @@ fn show_near_tie(name: &[u8], horizontal: usize, vertical: usize) {
     pconfidences[2] = 0.5;
     let transforms = [0u8; 8];
     show(
-        name,
         &rows,
         &cols,
         &orientations,
@@ -247,108 +246,39 @@ fn show_near_tie(name: &[u8], horizontal: usize, vertical: usize) {
     );
 }
 
+// A clean window of 12 by 12 squares over all transforms, under its placing.
+fn show_clean(transform: u8, r: u32, c: u32) {
+    let wholes = [transform as u32, r, c];
+    let none = [0.0f32; 1];
+    print_form(b"12 by 12 under % at %, %", &wholes, &none);
+    let all = [0u8, 1, 2, 3, 4, 5, 6, 7];
+    show_window(12, 8193, transform, r, c, &all, 8);
+}
+
 // A clean window is found at its own square under each transform.
 fn clean() {
-    let all = [0u8, 1, 2, 3, 4, 5, 6, 7];
-    show_window(
-        b"12 by 12 under 0 at 17, 400",
-        12,
-        8193,
-        0,
-        17,
-        400,
-        &all,
-        8,
-    );
-    show_window(b"12 by 12 under 1 at 500, 0", 12, 8193, 1, 500, 0, &all, 8);
-    show_window(b"12 by 12 under 2 at 0, 500", 12, 8193, 2, 0, 500, &all, 8);
-    show_window(
-        b"12 by 12 under 3 at 166, 167",
-        12,
-        8193,
-        3,
-        166,
-        167,
-        &all,
-        8,
-    );
-    show_window(
-        b"12 by 12 under 4 at 333, 334",
-        12,
-        8193,
-        4,
-        333,
-        334,
-        &all,
-        8,
-    );
-    show_window(
-        b"12 by 12 under 5 at 123, 456",
-        12,
-        8193,
-        5,
-        123,
-        456,
-        &all,
-        8,
-    );
-    show_window(
-        b"12 by 12 under 6 at 250, 251",
-        12,
-        8193,
-        6,
-        250,
-        251,
-        &all,
-        8,
-    );
-    show_window(b"12 by 12 under 7 at 1, 2", 12, 8193, 7, 1, 2, &all, 8);
+    show_clean(0, 17, 400);
+    show_clean(1, 500, 0);
+    show_clean(2, 0, 500);
+    show_clean(3, 166, 167);
+    show_clean(4, 333, 334);
+    show_clean(5, 123, 456);
+    show_clean(6, 250, 251);
+    show_clean(7, 1, 2);
 }
 
 // A transform that is listed twice, and the limits of a list's length.
 fn listed_and_long() {
     let twice = [0u8, 1, 1, 3, 0, 0, 0, 0];
-    show_window(
-        b"under 1 at 500, 0, listed twice",
-        12,
-        8193,
-        1,
-        500,
-        0,
-        &twice,
-        4,
-    );
-    show_window(
-        b"under 3 at 166, 167, another listed twice",
-        12,
-        8193,
-        3,
-        166,
-        167,
-        &twice,
-        4,
-    );
+    print(b"under 1 at 500, 0, listed twice");
+    show_window(12, 8193, 1, 500, 0, &twice, 4);
+    print(b"under 3 at 166, 167, another listed twice");
+    show_window(12, 8193, 3, 166, 167, &twice, 4);
     let some = [0u8, 1, 2, 3, 0, 0, 0, 0];
-    show_window(
-        b"8192 edges under 0 at 17, 400",
-        65,
-        8192,
-        0,
-        17,
-        400,
-        &some,
-        4,
-    );
-    show_window(
-        b"8193 edges under 0 at 17, 400",
-        65,
-        8193,
-        0,
-        17,
-        400,
-        &some,
-        4,
-    );
+    print(b"8192 edges under 0 at 17, 400");
+    show_window(65, 8192, 0, 17, 400, &some, 4);
+    print(b"8193 edges under 0 at 17, 400");
+    show_window(65, 8193, 0, 17, 400, &some, 4);
 }
 
 // Many optimal pairs: no square is alone the best.
@@ -385,10 +315,11 @@ fn faulty() {
 
 // A clean 12 by 12 window whose confidences are eight values, one after the other and again.
 fn show_weighted(name: &[u8], eight: &[f32; 8]) {
+    print(name);
     let mut confidences = [0.0f32; 8193];
     repeat(&mut confidences, eight);
     let all = [0u8, 1, 2, 3, 4, 5, 6, 7];
-    show_cut(name, 12, 8193, 0, 17, 400, &all, 8, &confidences);
+    show_cut(12, 8193, 0, 17, 400, &all, 8, &confidences);
 }
 
 // Confidences of 0 and of -0, which count as 0: hits are counted all the same, and a list with no other confidence is refused.

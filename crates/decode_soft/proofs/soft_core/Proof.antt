@@ -6,7 +6,7 @@ use native.Mathlib.Omega.{arith}
 use denote.Ref.{now}
 use lib.ListN.{length}
 use lib.Ieee.{Float, eq, ofBits, binary32}
-use Rattle.laws.specs.Weights.{zeroF}
+use Rattle.laws.specs.Words.{zeroF}
 use Rattle.board.specs.Hits.{edges, tables, size}
 use Rattle.admission.specs.Calls.{SoftCall, softCall}
 use Rattle.likelihood.specs.Likelihood.{likelihoods}

@@ -4,7 +4,7 @@ use Prim.Native.Nat.{ℕ, _+_, _%_}
 use native.Mathlib.Nat.{mod-lt}
 use lib.IntN.{ℤ}
 use mir.Facts.{toZ-ofZ}
-use Rattle.laws.specs.Remainder.{emod}
+use Rattle.laws.specs.Words.{emod}
 use Rattle.laws.specs.RemainderLaws.{emod-add}
 use Rattle.laws.proofs.class_at.Statement.{statement}
 use Rattle.laws.proofs.class_at.Tie as tie

@@ -7,7 +7,7 @@ use lib.IntN.{ℤ, pos, negsuc, natAbs, _-ℤ_}
 use lib.Signed.{leZ, mag}
 use mir.Syntax.{w32}
 use mir.Facts.{toZ-ofZ}
-use Rattle.laws.specs.Remainder.{emod}
+use Rattle.laws.specs.Words.{emod}
 use Rattle.laws.specs.RemainderLaws.{is-sub, emod-lt}
 use Rattle.laws.specs.Signed.{read, is-pos, is-neg, read-at}
 use Rattle.laws.proofs.rem_euclid.Statement.{statement}

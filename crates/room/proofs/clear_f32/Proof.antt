@@ -1,7 +1,7 @@
 use Prim.Native.Nat.{_-_}
 use native.Mathlib.Omega.{arith}
 use lib.Ieee.{ofBits}
-use Rattle.laws.specs.Weights.{zeroF}
+use Rattle.laws.specs.Words.{zeroF}
 use Rattle.laws.specs.Cleared.{Clearing, clearing-none, clearing-more, clearing-done}
 use Rattle.room.proofs.clear_f32.Statement.{statement}
 use Rattle.room.proofs.clear_f32.Tie as tie

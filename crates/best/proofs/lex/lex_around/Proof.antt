@@ -6,10 +6,9 @@ use mathlib.Core.Logic.{⊎-elim}
 use borrow.Author.Tests.{lt-ltb, le-ltb, ne-eqb, eq-eqb}
 use lib.Dec.{eqb}
 use lib.ListN.{length}
-use Rattle.laws.specs.Fold.{fold, count}
+use Rattle.laws.specs.Words.{fold, count, above, second}
 use Rattle.laws.specs.Counting.{count-yes, count-no}
-use Rattle.laws.specs.Best.{above}
-use Rattle.laws.specs.Second.{second, second-skip, second-new, second-low}
+use Rattle.laws.specs.Second.{second-skip, second-new, second-low}
 use Rattle.best.specs.CellTables.{cAt, wAt}
 use Rattle.best.specs.Lex.{tiedCount, optimal, lexSecond}
 use native.Mathlib.Omega.{arith}

@@ -3,8 +3,8 @@ use Prim.Native.Nat.{_≤_, _<_, _-_}
 use mathlib.Core.Path.{_≡_, refl, sym, ap, ap₂, _∙_}
 use mathlib.Core.Logic.{⊎-elim}
 use lib.ListN.{length}
-use Rattle.laws.specs.Best.{firstBest, lex-not, best-new, best-old}
-use Rattle.laws.specs.Weights.{heavier}
+use Rattle.laws.specs.Words.{firstBest, heavier}
+use Rattle.laws.specs.Best.{lex-not, best-new, best-old}
 use Rattle.best.specs.CellTables.{cAt, wAt}
 use Rattle.best.specs.Lex.{wins, order}
 use native.Mathlib.Omega.{arith}

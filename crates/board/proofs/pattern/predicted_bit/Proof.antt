@@ -11,7 +11,7 @@ use borrow.Author.Tests.{eq-eqb, ne-eqb}
 use mir.Syntax.{w32}
 use mir.Val.{toZ, ofZ}
 use denote.Ref.{now}
-use Rattle.laws.specs.Remainder.{emod}
+use Rattle.laws.specs.Words.{emod}
 use Rattle.board.specs.Hits.{Board, tables, bitAt, predicted}
 use Rattle.board.specs.Sides.{tableOf}
 use Rattle.board.specs.Domain.{Patterns, BoardOk}

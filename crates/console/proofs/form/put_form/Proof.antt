@@ -7,10 +7,10 @@ use Rattle.console.proofs.form.put_form.Statement.{statement}
 use Rattle.console.proofs.form.put_form.Tie as tie
 
 abbrev Inv-loop : tie.InvT-loop
-Inv-loop page₀ at form wholes floats r₀ i₀ i-end page r i = (i ≤ length form) × (i-end ≡ length form)
+Inv-loop page₀ at form phrases wholes floats r₀ i₀ i-end page r i = (i ≤ length form) × (i-end ≡ length form)
 
 abbrev μ-loop : tie.MeasureT-loop
-μ-loop page₀ at form wholes floats r₀ i₀ i-end page r i = length form - i
+μ-loop page₀ at form phrases wholes floats r₀ i₀ i-end page r i = length form - i
 
 loop-holds : tie.Need-loop-holds Inv-loop μ-loop
 loop-holds c = search needs

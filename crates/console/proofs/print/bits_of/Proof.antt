@@ -1,27 +1,16 @@
--- `bits_of`: what equals itself is no NaN, so it has bits.
-use mathlib.Core.Path.{sym, subst}
-use mathlib.Core.Bool.{not}
-use lib.Dec.{T}
-use lib.Ieee.{Float, nan, inf, fin, eq, isNan}
-use borrow.Author.Needs.{needs}
+-- `bits_of`: what differs from itself is a NaN, and what does not has bits.
+use Rattle.console.specs.Bits.{bits-nan, no-nan, bits-some}
 use Rattle.console.proofs.print.bits_of.Statement.{statement}
 use Rattle.console.proofs.print.bits_of.Tie as tie
 
--- what equals itself is no NaN
-number : (x : Float) → T (eq x x) → T (not (isNan x))
-unfolding eq isNan
-number nan p = absurd p
-number (inf s) p = tt
-number (fin s m e) p = tt
+returns : tie.Need-returns
+returns c = bits-nan (c .before .args .x) (c .if1 .taken)
 
 float-to-bits-result : tie.Need-float-to-bits-result
-float-to-bits-result c = number (c .before .args .x) (subst T (sym (c .if1 .taken)) tt)
-
-returns : tie.Need-returns
-returns c = search needs
+float-to-bits-result c = no-nan (c .before .args .x) (c .if1 .left)
 
 returns-2 : tie.Need-returns-2
-returns-2 c = search needs
+returns-2 c = bits-some (c .before .args .x) (no-nan (c .before .args .x) (c .if1 .left))
 
 pub bits-of-spec : {M : Type 1} → statement M
-bits-of-spec = tie.close (tie.spec float-to-bits-result returns returns-2)
+bits-of-spec = tie.close (tie.spec returns float-to-bits-result returns-2)

@@ -4,7 +4,7 @@ use native.Mathlib.Nat.{mod-lt, mul-le-mul, mod-eq-sub-div-mul}
 use lib.Dec.{lit<}
 use native.Mathlib.Omega.{arith}
 use borrow.Author.Needs.{needs}
-use Rattle.laws.specs.Residues.{joint}
+use Rattle.laws.specs.Words.{joint}
 use Rattle.grid.proofs.origin.key_of.Statement.{statement}
 use Rattle.grid.proofs.origin.key_of.Tie as tie
 

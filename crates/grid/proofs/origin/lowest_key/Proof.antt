@@ -4,7 +4,7 @@ use borrow.Author.Tests.{leb-true}
 use mathlib.Core.Path.{_≡_, refl, sym, _∙_}
 use mathlib.Core.Logic.{⊎-elim}
 use lib.ListN.{length}
-use Rattle.laws.specs.Grid.{origins}
+use Rattle.laws.specs.Words.{origins}
 use Rattle.best.specs.Lex.{optimal}
 use Rattle.grid.specs.RowMajor.{lowest}
 use Rattle.grid.specs.RowMajorLaws.{lowest-no, lowest-yes}

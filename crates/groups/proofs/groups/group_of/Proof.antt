@@ -4,7 +4,7 @@ use native.Mathlib.Omega.{arith}
 use lib.Dec.{lit<}
 use lib.IntN.{ℤ}
 use mir.Facts.{toZ-ofZ}
-use Rattle.laws.specs.Remainder.{emod}
+use Rattle.laws.specs.Words.{emod}
 use Rattle.laws.specs.Modulus.{modulus-n, modulus-ok}
 use borrow.Author.Needs.{needs}
 use Rattle.groups.proofs.groups.group_of.Statement.{statement}

@@ -2,7 +2,7 @@ use mathlib.Core.Path.{_≡_, ap, sym, _∙_}
 use mathlib.Core.Bool.{Bool, true, false}
 use denote.Ref.{now}
 use lib.Ieee.{Float, eq, ofBits, binary32}
-use Rattle.laws.specs.Weights.{zeroF}
+use Rattle.laws.specs.Words.{zeroF}
 use Rattle.board.specs.Hits.{EdgeList, Board, edges, tables}
 use Rattle.scan.specs.declared.scan.Choice.the-variants.{Nothing, Chosen}
 use Rattle.figures.specs.Figures.{totalConfidence}

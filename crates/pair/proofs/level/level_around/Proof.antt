@@ -10,11 +10,10 @@ use lib.Signed.{leZ, ltZ, mag}
 use mir.Val.{toZ, ofZ}
 use mir.Facts.{toZ-ofZ}
 use mir.Syntax.{w64}
-use Rattle.laws.specs.Fold.{fold, count}
+use Rattle.laws.specs.Words.{fold, count, second, eqZ}
 use Rattle.laws.specs.Counting.{count-yes, count-no}
-use Rattle.laws.specs.Second.{second, second-skip, second-new, second-low}
+use Rattle.laws.specs.Second.{second-skip, second-new, second-low}
 use Rattle.laws.specs.Signed.{read, said-lt}
-use Rattle.laws.specs.Whole.{eqZ}
 use Rattle.pair.specs.Level.{sAt, larger, tiedSum, levelSecond}
 use Rattle.pair.specs.LevelLaws.{larger-weak, not-least, below-top}
 use Rattle.pair.specs.SumsLaws.{read-eq}

@@ -8,7 +8,8 @@ use lib.ListN.{length}
 use lib.Signed.{ltZ, mag}
 use mir.Val.{toZ, ofZ}
 use mir.Syntax.{w64}
-use Rattle.laws.specs.Best.{firstBest, best-new, best-old}
+use Rattle.laws.specs.Words.{firstBest}
+use Rattle.laws.specs.Best.{best-new, best-old}
 use Rattle.laws.specs.Signed.{read, said-lt}
 use Rattle.pair.specs.Level.{sAt, larger}
 use Rattle.pair.proofs.level.level_best.Statement.{statement}

@@ -8,7 +8,7 @@ use lib.ListN.{length}
 use mir.Syntax.{w64}
 use mir.Val.{toZ, ofZ}
 use mir.Facts.{toZ-ofZ}
-use Rattle.laws.specs.Grid.{origins}
+use Rattle.laws.specs.Words.{origins}
 use Rattle.grid.specs.RowMajor.{lowest}
 use Rattle.grid.specs.RowMajorLaws.{lowest-no, lowest-yes}
 use Rattle.pair.specs.Level.{sAt, tiedSum}

@@ -7,7 +7,7 @@ use lib.ListN.{length}
 use mir.Syntax.{w64}
 use mir.Val.{toZ, ofZ}
 use mir.Facts.{toZ-ofZ}
-use Rattle.laws.specs.Grid.{origins}
+use Rattle.laws.specs.Words.{origins}
 use Rattle.grid.specs.RowMajor.{rowMajor}
 use Rattle.grid.specs.RowMajorLaws.{major-no, major-yes}
 use Rattle.grid.specs.BoardGrid.{none-small}

@@ -1,14 +1,14 @@
 -- `read_f32`: the column fits the array.
-use Prim.Native.Nat.{_≤_, _-_}
+use Prim.Native.Nat.{_+_, _-_, _≤_}
 use borrow.Author.Needs.{needs}
 use Rattle.replay.proofs.columns.read_f32.Statement.{statement}
 use Rattle.replay.proofs.columns.read_f32.Tie as tie
 
 abbrev Inv-loop : tie.InvT-loop
-Inv-loop buf₀ out₀ head next₀ i₀ i-end buf out next i = (i ≤ i-end) × (i-end ≤ 8193)
+Inv-loop buf₀ out₀ from head next₀ i₀ i-end buf out next i = (i ≤ i-end) × (i-end ≤ 8193) × (from + 8193 ≤ 32772)
 
 abbrev μ-loop : tie.MeasureT-loop
-μ-loop buf₀ out₀ head next₀ i₀ i-end buf out next i = i-end - i
+μ-loop buf₀ out₀ from head next₀ i₀ i-end buf out next i = i-end - i
 
 read-length-requires : tie.Need-read-length-requires Inv-loop μ-loop
 read-length-requires c κs = search needs
@@ -21,6 +21,9 @@ next-word-requires c κs = search needs
 
 float-requires : tie.Need-float-requires Inv-loop μ-loop
 float-requires c κs = search needs
+
+add-out : tie.Need-add-out Inv-loop μ-loop
+add-out c = search needs
 
 mul-out : tie.Need-mul-out Inv-loop μ-loop
 mul-out c = search needs
@@ -50,6 +53,7 @@ read-f32-spec =
     loop-holds
     next-word-requires
     float-requires
+    add-out
     mul-out
     element-write-out
     add-i

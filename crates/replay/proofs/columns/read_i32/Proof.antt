@@ -1,14 +1,14 @@
 -- `read_i32`: the column fits the array.
-use Prim.Native.Nat.{_≤_, _-_}
+use Prim.Native.Nat.{_+_, _-_, _≤_}
 use borrow.Author.Needs.{needs}
 use Rattle.replay.proofs.columns.read_i32.Statement.{statement}
 use Rattle.replay.proofs.columns.read_i32.Tie as tie
 
 abbrev Inv-loop : tie.InvT-loop
-Inv-loop buf₀ out₀ head next₀ i₀ i-end buf out next i = (i ≤ i-end) × (i-end ≤ 8193)
+Inv-loop buf₀ out₀ from head next₀ i₀ i-end buf out next i = (i ≤ i-end) × (i-end ≤ 8193) × (from + 8193 ≤ 32772)
 
 abbrev μ-loop : tie.MeasureT-loop
-μ-loop buf₀ out₀ head next₀ i₀ i-end buf out next i = i-end - i
+μ-loop buf₀ out₀ from head next₀ i₀ i-end buf out next i = i-end - i
 
 read-length-requires : tie.Need-read-length-requires Inv-loop μ-loop
 read-length-requires c κs = search needs
@@ -22,11 +22,14 @@ next-word-requires c κs = search needs
 signed-requires : tie.Need-signed-requires Inv-loop μ-loop
 signed-requires c κs = search needs
 
-mul-t13 : tie.Need-mul-t13 Inv-loop μ-loop
-mul-t13 c = search needs
+add-x : tie.Need-add-x Inv-loop μ-loop
+add-x c = search needs
 
-element-set-from-out : tie.Need-element-set-from-out Inv-loop μ-loop
-element-set-from-out c = search needs
+mul-x : tie.Need-mul-x Inv-loop μ-loop
+mul-x c = search needs
+
+element-set-from-x : tie.Need-element-set-from-x Inv-loop μ-loop
+element-set-from-x c = search needs
 
 add-i : tie.Need-add-i Inv-loop μ-loop
 add-i c = search needs
@@ -50,8 +53,9 @@ read-i32-spec =
     loop-holds
     next-word-requires
     signed-requires
-    mul-t13
-    element-set-from-out
+    add-x
+    mul-x
+    element-set-from-x
     add-i
     loop-less
     loop-again

@@ -1,14 +1,14 @@
 -- `read_u8`: the column fits the array.
-use Prim.Native.Nat.{_≤_, _-_}
+use Prim.Native.Nat.{_+_, _-_, _≤_}
 use borrow.Author.Needs.{needs}
 use Rattle.replay.proofs.columns.read_u8.Statement.{statement}
 use Rattle.replay.proofs.columns.read_u8.Tie as tie
 
 abbrev Inv-loop : tie.InvT-loop
-Inv-loop buf₀ out₀ head next₀ i₀ i-end buf out next i = (i ≤ i-end) × (i-end ≤ 8193)
+Inv-loop buf₀ out₀ from head next₀ i₀ i-end buf out next i = (i ≤ i-end) × (i-end ≤ 8193) × (from + 8193 ≤ 57351)
 
 abbrev μ-loop : tie.MeasureT-loop
-μ-loop buf₀ out₀ head next₀ i₀ i-end buf out next i = i-end - i
+μ-loop buf₀ out₀ from head next₀ i₀ i-end buf out next i = i-end - i
 
 read-length-requires : tie.Need-read-length-requires Inv-loop μ-loop
 read-length-requires c κs = search needs
@@ -21,6 +21,9 @@ next-word-requires c κs = search needs
 
 octet-requires : tie.Need-octet-requires Inv-loop μ-loop
 octet-requires c κs = search needs
+
+add-out : tie.Need-add-out Inv-loop μ-loop
+add-out c = search needs
 
 element-write-out : tie.Need-element-write-out Inv-loop μ-loop
 element-write-out c = search needs
@@ -47,6 +50,7 @@ read-u8-spec =
     loop-holds
     next-word-requires
     octet-requires
+    add-out
     element-write-out
     add-i
     loop-less

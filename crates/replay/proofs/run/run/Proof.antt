@@ -1,14 +1,16 @@
 -- `run`: the entry's number rises to the count.
-use Prim.Native.Nat.{_≤_, _-_}
+use Prim.Native.Nat.{_-_, _≤_}
 use borrow.Author.Needs.{needs}
 use Rattle.replay.proofs.run.run.Statement.{statement}
 use Rattle.replay.proofs.run.run.Tie as tie
 
 abbrev Inv-loop : tie.InvT-loop
-Inv-loop fd buf₀ h₀ v₀ tally₀ place₀ at₀ at-end buf h v tally place at = at ≤ at-end
+Inv-loop fd buf₀ wholes₀ bytes₀ floats₀ tally₀ place₀ at₀ at-end buf wholes bytes floats tally place at =
+    at ≤ at-end
 
 abbrev μ-loop : tie.MeasureT-loop
-μ-loop fd buf₀ h₀ v₀ tally₀ place₀ at₀ at-end buf h v tally place at = at-end - at
+μ-loop fd buf₀ wholes₀ bytes₀ floats₀ tally₀ place₀ at₀ at-end buf wholes bytes floats tally place at =
+    at-end - at
 
 large-buffer-requires : tie.Need-large-buffer-requires Inv-loop μ-loop
 large-buffer-requires c κs = search needs

@@ -1,5 +1,5 @@
--- `same_words`: the index stays below 17.
-use Prim.Native.Nat.{_≤_, _-_}
+-- `same_words`: seventeen words.
+use Prim.Native.Nat.{_-_, _≤_}
 use borrow.Author.Needs.{needs}
 use Rattle.replay.proofs.tally.same_words.Statement.{statement}
 use Rattle.replay.proofs.tally.same_words.Tie as tie
@@ -13,29 +13,17 @@ abbrev μ-loop : tie.MeasureT-loop
 loop-holds : tie.Need-loop-holds Inv-loop μ-loop
 loop-holds c = search needs
 
-mul-if1 : tie.Need-mul-if1 Inv-loop μ-loop
-mul-if1 c = search needs
+mul-x : tie.Need-mul-x Inv-loop μ-loop
+mul-x c = search needs
 
-array-read-if1 : tie.Need-array-read-if1 Inv-loop μ-loop
-array-read-if1 c = search needs
+array-read-x : tie.Need-array-read-x Inv-loop μ-loop
+array-read-x c = search needs
 
-mul-if1-2 : tie.Need-mul-if1-2 Inv-loop μ-loop
-mul-if1-2 c = search needs
+mul-y : tie.Need-mul-y Inv-loop μ-loop
+mul-y c = search needs
 
-array-read-if1-2 : tie.Need-array-read-if1-2 Inv-loop μ-loop
-array-read-if1-2 c = search needs
-
-mul-print-difference : tie.Need-mul-print-difference Inv-loop μ-loop
-mul-print-difference c = search needs
-
-array-read-print-difference : tie.Need-array-read-print-difference Inv-loop μ-loop
-array-read-print-difference c = search needs
-
-mul-print-difference-2 : tie.Need-mul-print-difference-2 Inv-loop μ-loop
-mul-print-difference-2 c = search needs
-
-array-read-print-difference-2 : tie.Need-array-read-print-difference-2 Inv-loop μ-loop
-array-read-print-difference-2 c = search needs
+array-read-y : tie.Need-array-read-y Inv-loop μ-loop
+array-read-y c = search needs
 
 print-difference-requires : tie.Need-print-difference-requires Inv-loop μ-loop
 print-difference-requires c κs = search needs
@@ -59,14 +47,10 @@ same-words-spec =
     Inv-loop
     μ-loop
     loop-holds
-    mul-if1
-    array-read-if1
-    mul-if1-2
-    array-read-if1-2
-    mul-print-difference
-    array-read-print-difference
-    mul-print-difference-2
-    array-read-print-difference-2
+    mul-x
+    array-read-x
+    mul-y
+    array-read-y
     print-difference-requires
     add-i
     loop-less

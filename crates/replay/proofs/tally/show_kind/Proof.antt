@@ -5,19 +5,13 @@ use Rattle.replay.proofs.tally.show_kind.Statement.{statement}
 use Rattle.replay.proofs.tally.show_kind.Tie as tie
 
 abbrev Inv-loop : tie.InvT-loop
-Inv-loop tally kind page₀ n n₀ number₀ page n' number = number ≤ 18
+Inv-loop tally kind page₀ n₀ number₀ page n number = number ≤ 18
 
 abbrev μ-loop : tie.MeasureT-loop
-μ-loop tally kind page₀ n n₀ number₀ page n' number = 18 - number
+μ-loop tally kind page₀ n₀ number₀ page n number = 18 - number
 
 blank-requires : tie.Need-blank-requires Inv-loop μ-loop
 blank-requires c κs = search needs
-
-slice-aggregate-put-line : tie.Need-slice-aggregate-put-line Inv-loop μ-loop
-slice-aggregate-put-line c = search needs
-
-put-line-requires : tie.Need-put-line-requires Inv-loop μ-loop
-put-line-requires c κs = search needs
 
 place-of-requires : tie.Need-place-of-requires Inv-loop μ-loop
 place-of-requires c κs = search needs
@@ -25,14 +19,20 @@ place-of-requires c κs = search needs
 count-at-requires : tie.Need-count-at-requires Inv-loop μ-loop
 count-at-requires c κs = search needs
 
-slice-aggregate-put-wholes : tie.Need-slice-aggregate-put-wholes Inv-loop μ-loop
-slice-aggregate-put-wholes c = search needs
+slice-aggregate-put-form : tie.Need-slice-aggregate-put-form Inv-loop μ-loop
+slice-aggregate-put-form c = search needs
 
-slice-aggregate-put-wholes-2 : tie.Need-slice-aggregate-put-wholes-2 Inv-loop μ-loop
-slice-aggregate-put-wholes-2 c = search needs
+slice-aggregate-put-form-2 : tie.Need-slice-aggregate-put-form-2 Inv-loop μ-loop
+slice-aggregate-put-form-2 c = search needs
 
-put-wholes-requires : tie.Need-put-wholes-requires Inv-loop μ-loop
-put-wholes-requires c κs = search needs
+slice-aggregate-put-form-3 : tie.Need-slice-aggregate-put-form-3 Inv-loop μ-loop
+slice-aggregate-put-form-3 c = search needs
+
+slice-aggregate-put-form-4 : tie.Need-slice-aggregate-put-form-4 Inv-loop μ-loop
+slice-aggregate-put-form-4 c = search needs
+
+put-form-requires : tie.Need-put-form-requires Inv-loop μ-loop
+put-form-requires c κs = search needs
 
 loop-holds : tie.Need-loop-holds Inv-loop μ-loop
 loop-holds c = search needs
@@ -71,13 +71,13 @@ show-kind-spec =
     Inv-loop
     μ-loop
     blank-requires
-    slice-aggregate-put-line
-    put-line-requires
     place-of-requires
     count-at-requires
-    slice-aggregate-put-wholes
-    slice-aggregate-put-wholes-2
-    put-wholes-requires
+    slice-aggregate-put-form
+    slice-aggregate-put-form-2
+    slice-aggregate-put-form-3
+    slice-aggregate-put-form-4
+    put-form-requires
     loop-holds
     place-of-requires-2
     count-at-requires-2

@@ -3,7 +3,7 @@ use lib.IntN.{ℤ, natAbs}
 use native.Mathlib.Omega.{arith}
 use borrow.Author.Needs.{needs}
 use native.Mathlib.Nat.{div-le-self, mod-le}
-use Rattle.laws.specs.Grid.{origins}
+use Rattle.laws.specs.Words.{origins}
 use Rattle.grid.specs.BoardGrid.{grid}
 use Rattle.pair.specs.Level.{sAt}
 use Rattle.pair.specs.Sums.{sums}

@@ -8,9 +8,9 @@ use lib.IntN.{ℤ, pos, natAbs, _+ℤ_}
 use lib.ListN.{getD, length}
 use mir.Syntax.{w64}
 use mir.Val.{toZ}
-use Rattle.laws.specs.Fold.{fold}
+use Rattle.laws.specs.Words.{fold}
 use Rattle.laws.specs.Signed.{read, fit-at, read-at}
-use Rattle.groups.specs.Terms.{termSum}
+use Rattle.terms.specs.Terms.{termSum}
 use Rattle.sums.specs.SumParts.{placesZ, termZ}
 use Rattle.sums.specs.SumsLaws.{term-more, read-match, read-mismatch, term-small}
 use Rattle.sums.proofs.sums.fold_sum.Statement.{statement}

@@ -5,10 +5,13 @@ use Rattle.viewtext.proofs.board_file.fill.Statement.{statement}
 use Rattle.viewtext.proofs.board_file.fill.Tie as tie
 
 abbrev Inv-loop : tie.InvT-loop
-Inv-loop s from table₀ i₀ table i = i ≤ 167
+Inv-loop s from tables₀ second to i₀ tables i = (i ≤ 167) × (to ≤ 167)
 
 abbrev μ-loop : tie.MeasureT-loop
-μ-loop s from table₀ i₀ table i = 167 - i
+μ-loop s from tables₀ second to i₀ tables i = 167 - i
+
+start-of-requires : tie.Need-start-of-requires Inv-loop μ-loop
+start-of-requires c κs = search needs
 
 loop-holds : tie.Need-loop-holds Inv-loop μ-loop
 loop-holds c = search needs
@@ -19,11 +22,11 @@ byte-after-requires c κs = search needs
 returns : tie.Need-returns Inv-loop μ-loop
 returns c = search needs
 
-returns-2 : tie.Need-returns-2 Inv-loop μ-loop
-returns-2 c = search needs
+add-tables : tie.Need-add-tables Inv-loop μ-loop
+add-tables c = search needs
 
-element-write-table : tie.Need-element-write-table Inv-loop μ-loop
-element-write-table c = search needs
+element-write-tables : tie.Need-element-write-tables Inv-loop μ-loop
+element-write-tables c = search needs
 
 add-i : tie.Need-add-i Inv-loop μ-loop
 add-i c = search needs
@@ -34,8 +37,8 @@ loop-less c = search needs
 loop-again : tie.Need-loop-again Inv-loop μ-loop
 loop-again c = search needs
 
-returns-3 : tie.Need-returns-3 Inv-loop μ-loop
-returns-3 c = search needs
+returns-2 : tie.Need-returns-2 Inv-loop μ-loop
+returns-2 c = search needs
 
 pub fill-spec : {M : Type 1} → statement M
 fill-spec =
@@ -43,12 +46,13 @@ fill-spec =
     (tie.spec
     Inv-loop
     μ-loop
+    start-of-requires
     loop-holds
     byte-after-requires
     returns
-    returns-2
-    element-write-table
+    add-tables
+    element-write-tables
     add-i
     loop-less
     loop-again
-    returns-3)
+    returns-2)

@@ -8,10 +8,10 @@ use Rattle.viewtext.proofs.board_file.read_board.Statement.{statement}
 use Rattle.viewtext.proofs.board_file.read_board.Tie as tie
 
 abbrev Inv-loop : tie.InvT-loop
-Inv-loop s h₀ v₀ board₀ at₀ h v board at = at ≡ at
+Inv-loop s tables₀ board₀ at₀ tables board at = at ≡ at
 
 abbrev μ-loop : tie.MeasureT-loop
-μ-loop s h₀ v₀ board₀ at₀ h v board at = length s - at
+μ-loop s tables₀ board₀ at₀ tables board at = length s - at
 
 start-requires : tie.Need-start-requires Inv-loop μ-loop
 start-requires c κs = search needs

@@ -24,12 +24,12 @@ nearest-u32-to-f32-requires-2 c κs = search needs
 
 returns : tie.Need-returns
 returns c =
-    let d = c .before .before .before .args .d in
+    let d = c .before .before .before .args in
     below (d .minus) (d .digits) (d .scale) _ _ (c .before .before .nearest-u32-to-f32 .ensures) (c .before .nearest-u32-to-f322 .ensures) (c .if1 .taken)
 
 returns-2 : tie.Need-returns-2
 returns-2 c =
-    let d = c .before .before .before .args .d in
+    let d = c .before .before .before .args in
     above (d .minus) (d .digits) (d .scale) _ _ (c .before .before .nearest-u32-to-f32 .ensures) (c .before .nearest-u32-to-f322 .ensures) (c .if1 .left)
 
 pub float-spec : {M : Type 1} → statement M

@@ -8,10 +8,10 @@ use Rattle.viewtext.proofs.view_file.read_view.Statement.{statement}
 use Rattle.viewtext.proofs.view_file.read_view.Tie as tie
 
 abbrev Inv-loop : tie.InvT-loop
-Inv-loop s rows₀ cols₀ orientations₀ bits₀ confidences₀ hits₀ misses₀ view₀ at₀ rows cols orientations bits confidences hits misses view at = at ≡ at
+Inv-loop s wholes₀ bytes₀ floats₀ view₀ at₀ wholes bytes floats view at = at ≡ at
 
 abbrev μ-loop : tie.MeasureT-loop
-μ-loop s rows₀ cols₀ orientations₀ bits₀ confidences₀ hits₀ misses₀ view₀ at₀ rows cols orientations bits confidences hits misses view at = length s - at
+μ-loop s wholes₀ bytes₀ floats₀ view₀ at₀ wholes bytes floats view at = length s - at
 
 fresh-requires : tie.Need-fresh-requires Inv-loop μ-loop
 fresh-requires c κs = search needs

@@ -301,7 +301,7 @@ fn bits(floats: &[f32]) -> Vec<u32> {
 }
 
 /// Room whose floats are all NaN, surplus too: after every call the surplus is what it was, bit for bit, and so is the whole room after
-/// refusals 1 to 9; what was used is 0 elsewhere, and no NaN in the room reaches an answer.
+/// refusals 1 to 9, 16 and 17; what was used is 0 elsewhere, and no NaN in the room reaches an answer.
 #[test]
 fn nan_in_the_room_comes_back_bit_for_bit() {
     let call = call();

@@ -108,7 +108,7 @@ module _ (call : HardCall) (before after : HardRoom) (answer : Answer) (done : H
   taken : InHardDomain call before → HardAccepted call (length (before .counts)) (length (before .weights))
   taken domain = hard-accepted call (length (before .counts)) (length (before .weights)) (hard-accepts .1 domain)
 
-  -- refusals 1 to 9: the number of document 01, and both slices as they were
+  -- an early refusal: handed on whole, with its place, and both slices as they were
   pub hard-refused-early : (refusal : Refusal) → hardChecked call before ≡ admission.Refused refusal → (answer ≡ Refused refusal) × (after .counts ≡ before .counts) × (after .weights ≡ before .weights)
   unfolding hardAnswer
   hard-refused-early x h = (
@@ -202,7 +202,7 @@ module _ (call : SoftCall) (before after : SoftRoom) (answer : Answer) (done : S
   admitted : InSoftDomain call before → SoftAccepted call (length (before .counts)) (length (before .weights)) (length (before .sums))
   admitted domain = soft-accepted call (length (before .counts)) (length (before .weights)) (length (before .sums)) (soft-accepts .1 domain)
 
-  -- refusals 1 to 9: the number of document 01, and all three slices as they were
+  -- an early refusal: handed on whole, with its place, and all three slices as they were
   pub soft-refused-early : (refusal : Refusal) → softChecked call before ≡ admission.Refused refusal
       → (answer ≡ Refused refusal) × (after .counts ≡ before .counts) × (after .weights ≡ before .weights) × (after .sums ≡ before .sums)
   unfolding softAnswer

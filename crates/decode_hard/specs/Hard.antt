@@ -39,7 +39,7 @@ unfoldable pub hardCore : HardCall → Answer
 unfolding judged
 hardCore call = afterLogical call (selection (call .board) (call .logical) (call .transforms) (call .error-limit))
 
--- the answer for all inputs: refusals 1 to 9 come first
+-- the answer for all inputs: the early refusals come first
 unfoldable pub hardAnswer : HardCall → ℕ → ℕ → Answer
 unfolding hardCore
 hardAnswer call m n = whenAccepted (hardAdmission call m n) (hardCore call)

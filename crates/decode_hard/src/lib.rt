@@ -91,7 +91,7 @@ fn hard_core<'a>(
     }
 }
 
-// Which square the camera faces by its two edge lists, or a refusal, for all inputs. After refusals 1 to 9 the lent room is untouched; after every other call
+// Which square the camera faces by its two edge lists, or a refusal, for all inputs. After the early refusals (1 to 9, 16 and 17) the lent room is untouched; after every other call
 // what was used of it is zero: 3,006 u32 and 3,006 f32.
 pub fn decode_hard<'a>(
     lrows: &[i32],

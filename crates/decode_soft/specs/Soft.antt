@@ -74,7 +74,7 @@ unfoldable pub softCore : SoftCall → Answer
 unfolding softJudged
 softCore call = pick (noConfidence (call .hard .physical)) (refusedBy why.noConfidence) (afterSoft (call .hard) (call .soft-margin) (softSelection (call .hard .board) (call .hard .physical) (call .likelihoods) (call .hard .transforms)))
 
--- the answer for all inputs: refusals 1 to 9 come first
+-- the answer for all inputs: the early refusals come first
 unfoldable pub softAnswer : SoftCall → ℕ → ℕ → ℕ → Answer
 unfolding softCore
 softAnswer call m n k =

@@ -252,7 +252,7 @@ fn soft_core<'a>(
 }
 
 // Which square the camera faces by the likelihoods of the physical list, confirmed by the hits of the logical list, or a refusal, for all inputs. After
-// refusals 1 to 9 the lent room is untouched; after every other call what was used of it is zero: 3,006 u32, 3,006 f32 and 5,010 i64.
+// the early refusals (1 to 9, 16 and 17) the lent room is untouched; after every other call what was used of it is zero: 3,006 u32, 3,006 f32 and 5,010 i64.
 pub fn decode_soft<'a>(
     lrows: &[i32],
     lcols: &[i32],

@@ -291,7 +291,7 @@ fn many_pairs() {
     show_near_tie(b"1025 optimal pairs, near tie", 25, 41);
 }
 
-// Faults that are judged after 1 to 9.
+// Faults that are judged after the early refusals.
 fn faulty() {
     show_faulty(b"19 edges missed, margin 20", 19, 17, 1.0, 1.0);
     show_faulty(b"20 edges missed, margin 20", 20, 17, 1.0, 1.0);

@@ -1,14 +1,12 @@
 // The command: which square of a board a camera faces. A program has no exit status; the script `samburext` at the root makes one of the first word written.
 mod decode; // the decoder called on what the files gave
-mod args; // what the command was asked for
-mod help; // what the command says of itself
 
 use answer::Answer;
 use answertext::map;
 use answertext::telling;
-use args::Options;
 use console::form;
 use console::page;
+use options::args::Options;
 use viewfiles::files;
 use viewtext::view_file;
 use viewtext::view_file::View;
@@ -116,14 +114,14 @@ fn run(o: Options) {
 }
 
 fn main() {
-    let o = args::all_options();
+    let o = options::args::all_options();
     if o.wrong {
-        help::show_use();
+        options::help::show_use();
         give_up(o);
         return;
     }
     if o.help {
-        help::show();
+        options::help::show();
         return;
     }
     run(o);

@@ -14,7 +14,7 @@ fn put_use(page: &mut [u8; 32768], at: usize) -> usize {
 }
 
 // All of it, as an answer: what it is, how it is used, the files with an example, and what the answer says.
-pub(crate) fn show() {
+pub fn show() {
     let mut page = blank();
     let n = put(
         &mut page,
@@ -63,7 +63,7 @@ pub(crate) fn show() {
 }
 
 // How it is used, as a message.
-pub(crate) fn show_use() {
+pub fn show_use() {
     let mut page = blank();
     let n = put_use(&mut page, 0);
     let n = put(&mut page, n, b"samburext --help says more\n");

@@ -1,8 +1,8 @@
 -- `all_options`: five arguments are looked at.
 use Prim.Native.Nat.{_-_, _≤_}
 use borrow.Author.Needs.{needs}
-use Rattle.samburext.proofs.args.all_options.Statement.{statement}
-use Rattle.samburext.proofs.args.all_options.Tie as tie
+use Rattle.options.proofs.args.all_options.Statement.{statement}
+use Rattle.options.proofs.args.all_options.Tie as tie
 
 abbrev Inv-loop : tie.InvT-loop
 Inv-loop count o₀ i₀ o i = i ≤ 6

@@ -4,7 +4,7 @@ use viewtext::text::name_of;
 
 // The options, and for each file the argument that names it (0 for none). Wrong: it cannot be understood, as help beside anything else. Awaits: the next
 // argument names the picture.
-pub(crate) struct Options {
+pub struct Options {
     pub wrong: bool,
     pub help: bool,
     pub plain: bool,
@@ -84,7 +84,7 @@ fn with_argument(o: Options, i: usize) -> Options {
 }
 
 // All options. Five arguments are the most that can be understood.
-pub(crate) fn all_options() -> Options {
+pub fn all_options() -> Options {
     let count = os::arg_count();
     let mut o = Options {
         wrong: count > 6,

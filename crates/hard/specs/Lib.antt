@@ -1,4 +1,3 @@
-pub mod KeptLaws
 pub mod OneList
 pub mod OneListLaws
 pub mod Placings
@@ -8,8 +7,5 @@ pub mod Select
 pub mod SelectLaws
 pub mod SelectTheorems
 pub mod SummedLaws
-pub mod Transform
-pub mod TransformLaws
-pub mod View
 pub mod WeighedLaws
 pub mod WinnerLaws

@@ -8,7 +8,7 @@ use Rattle.best.specs.CellTables.{CellTables}
 use Rattle.figures.specs.Gate.{passed}
 use Rattle.scan.specs.Scan.{chosen}
 use Rattle.direct.specs.Direct.{pairHits}
-use Rattle.hard.specs.Transform.{selected}
+use Rattle.folding.specs.Transform.{selected}
 use Rattle.hard.specs.Placings.{Outcome, none-within-limit, not-far-ahead, found, SomeWithin, Sole, MostOther}
 use Rattle.scan.specs.declared.scan.Candidate.{Candidate}
 use Rattle.scan.specs.declared.scan.RunnerUp.{RunnerUp}

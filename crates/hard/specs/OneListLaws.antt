@@ -10,8 +10,8 @@ use Rattle.laws.specs.Words.{origins}
 use Rattle.best.specs.CellTables.{CellTables, Period, TablesOk}
 use Rattle.figures.specs.Gate.{passed}
 use Rattle.scan.specs.Scan.{overLimit, runnerUp}
-use Rattle.hard.specs.Transform.{bestOrigin, bestAt, selected}
-use Rattle.hard.specs.TransformLaws.{best-under}
+use Rattle.folding.specs.Transform.{bestOrigin, bestAt, selected}
+use Rattle.folding.specs.TransformLaws.{best-under}
 use Rattle.hard.specs.RateLaws.{fewer-over, more-within}
 use Rattle.hard.specs.SummedLaws.{summed}
 use Rattle.hard.specs.Placings.{not-far-ahead, found, NoneWithin, Sole, MostOther, Right}

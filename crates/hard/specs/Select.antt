@@ -16,7 +16,7 @@ use Rattle.room.specs.Room.{used}
 use Rattle.tables.specs.Built.{TablesBuilt}
 use Rattle.best.specs.CellTables.{CellTables, cells}
 use Rattle.scan.specs.Scan.{chosen}
-use Rattle.hard.specs.Transform.{selected}
+use Rattle.folding.specs.Transform.{selected}
 use Rattle.scan.specs.declared.scan.HardScan.{HardScan}
 use Rattle.scan.specs.declared.scan.Choice.{Choice}
 use Rattle.scan.specs.declared.scan.Choice.the-variants.{Nothing, Chosen}

@@ -19,11 +19,11 @@ use Rattle.tables.specs.TablesTheorems.{length-counts, length-weights, counts-f
 use Rattle.best.specs.CellTables.{Period, CellTables, cells, TablesOk}
 use Rattle.grid.specs.BoardGrid.{period-h, period-v}
 use Rattle.scan.specs.Scan.{SoundScan, emptyScan, chosen}
-use Rattle.hard.specs.Transform.{foldTransform, selected}
-use Rattle.hard.specs.TransformLaws.{selected-none, selected-more, selected-count}
+use Rattle.folding.specs.Transform.{foldTransform, selected}
+use Rattle.folding.specs.TransformLaws.{selected-none, selected-more, selected-count}
 use Rattle.scan.specs.declared.scan.HardScan.{HardScan}
 use Rattle.scan.specs.declared.scan.Choice.{Choice}
-use Rattle.hard.specs.KeptLaws.{selected-sound}
+use Rattle.folding.specs.KeptLaws.{selected-sound}
 use Rattle.hard.specs.declared.select.Selection.{Selection}
 use Rattle.hard.specs.declared.select.Selection.the-variants.{Refused}
 use Rattle.refusals.specs.Numbers.{numbered}

@@ -22,9 +22,9 @@ use Rattle.grid.specs.BoardGrid.{grid}
 use Rattle.grid.specs.RowMajor.{rowMajor}
 use Rattle.grid.specs.RowMajorLaws.{major-le, major-is}
 use Rattle.direct.specs.Direct.{pairHits}
-use Rattle.hard.specs.Transform.{bestOrigin, bestHits, pairsTied, runnerUpWithin, separationProductCap}
-use Rattle.hard.specs.TransformLaws.{h-table, v-table}
-use Rattle.hard.specs.declared.transform.Ranked.{Ranked}
+use Rattle.folding.specs.Transform.{bestOrigin, bestHits, pairsTied, runnerUpWithin, separationProductCap}
+use Rattle.folding.specs.TransformLaws.{h-table, v-table}
+use Rattle.folding.specs.declared.transform.Ranked.{Ranked}
 
 -- what a summary says of the origins with the hits `hit`: the best hits, at the key `first`, and the runner-up's hits, which another origin has; where no two
 -- pairs of cells have the largest counts, the runner-up is named by its own key

@@ -25,9 +25,9 @@ use Rattle.best.specs.Lex.{lexOf}
 use Rattle.grid.specs.BoardGrid.{grid, period-h, period-v}
 use Rattle.scan.specs.Scan.{chosen, chosenBy}
 use Rattle.direct.specs.Direct.{originCandidate}
-use Rattle.hard.specs.Transform.{selected}
-use Rattle.hard.specs.TransformLaws.{best-ok}
-use Rattle.hard.specs.KeptLaws.{MostOf, Offers, Listed, kept-most}
+use Rattle.folding.specs.Transform.{selected}
+use Rattle.folding.specs.TransformLaws.{best-ok}
+use Rattle.folding.specs.KeptLaws.{MostOf, Offers, Listed, kept-most}
 use Rattle.hard.specs.OneList.{choice}
 use Rattle.hard.specs.Select.{tablesOf, scanOf, selection}
 use Rattle.hard.specs.SelectLaws.{tables-ok}

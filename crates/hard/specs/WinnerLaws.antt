@@ -18,9 +18,9 @@ use Rattle.figures.specs.Gate.{passed}
 use Rattle.scan.specs.Scan.{overLimit, noSummary, runnerUp, chosen, chosenBy}
 use Rattle.scan.specs.ScanLaws.{runner-up-own, runner-up-other, runner-up-is}
 use Rattle.direct.specs.Direct.{originCandidate}
-use Rattle.hard.specs.Transform.{bestOrigin, bestHits, bestCandidate, pairsTied, runnerUpWithin, competitorOf, summaryOf, transformSummary, selected, separationProductCap}
-use Rattle.hard.specs.TransformLaws.{best-under, selected-count, summary-at}
-use Rattle.hard.specs.KeptLaws.{MostOf, Offers, Listed, kept-most, offers-place}
+use Rattle.folding.specs.Transform.{bestOrigin, bestHits, bestCandidate, pairsTied, runnerUpWithin, competitorOf, summaryOf, transformSummary, selected, separationProductCap}
+use Rattle.folding.specs.TransformLaws.{best-under, selected-count, summary-at}
+use Rattle.folding.specs.KeptLaws.{MostOf, Offers, Listed, kept-most, offers-place}
 use Rattle.hard.specs.RateLaws.{fewer-over, more-within}
 use Rattle.hard.specs.SummedLaws.{Summed, summed, many-tied}
 use Rattle.hard.specs.Placings.{NoneWithin, Sole, MostOther}
@@ -33,7 +33,7 @@ use Rattle.scan.specs.declared.scan.Kept.{Kept}
 use Rattle.scan.specs.declared.scan.Kept.the-variants.{Nobody, One}
 use Rattle.scan.specs.declared.scan.Choice.{Choice}
 use Rattle.scan.specs.declared.scan.Choice.the-variants.{Nothing, Chosen}
-use Rattle.hard.specs.declared.transform.Ranked.{Ranked}
+use Rattle.folding.specs.declared.transform.Ranked.{Ranked}
 
 -- n list positions with the transforms ts and the tables tab, of a list of `edges` edges
 module _ (L M edges : ℕ) (confidence limit : Float) (ts : ℕ → ℕ) (tab : ℕ → CellTables) (n : ℕ) where

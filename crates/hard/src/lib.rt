@@ -1,4 +1,2 @@
 // Hard selection: the best cells of each table, the best origin, the candidates of the listed transforms, and the runner-up.
 pub mod select; // the selection on one list: tables built and folded for each transform
-mod transform; // one transform's tables folded into the scan
-mod view; // the four tables of a transform as one view

@@ -3,7 +3,7 @@ ghost use mathlib.Core.Path.{_≡_};
 ghost use Prim.Native.Nat.{_*_, _+_, _<_};
 ghost use lib.ListN.{length};
 ghost use Rattle.board.specs.Hits.{edges, tables};
-ghost use Rattle.hard.specs.Transform.{foldTransform};
+ghost use Rattle.folding.specs.Transform.{foldTransform};
 ghost use Rattle.hard.specs.Select.{SelectReady, SelectDone};
 ghost use Rattle.hard.specs.SelectLaws.{roomCells, RoomReady, ScanDone};
 use laws::Periods;
@@ -36,7 +36,7 @@ fn fold_room<'a>(
 {
     let a = 3 * periods.h;
     let e = a + 3 * periods.v;
-    crate::view::fold_tables(
+    folding::view::fold_tables(
         scan,
         &counts[0..a],
         &weights[0..a],

@@ -6,7 +6,7 @@ use lib.Ieee.{Float}
 use lib.ListN.{take, drop}
 use borrow.Author.Needs.{needs}
 use Rattle.best.specs.CellTables.{CellTables, cells, TablesOk}
-use Rattle.hard.specs.Transform.{foldTransform}
+use Rattle.folding.specs.Transform.{foldTransform}
 use Rattle.hard.specs.SelectLaws.{roomCells}
 use Rattle.hard.proofs.select.fold_room.Statement.{statement}
 use Rattle.hard.proofs.select.fold_room.Tie as tie

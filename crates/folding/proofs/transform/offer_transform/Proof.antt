@@ -1,11 +1,11 @@
 use Prim.Native.Nat.{_*_}
 use mathlib.Core.Path.{sym, _∙_}
 use native.Mathlib.Nat.{mul-le-mul, div-le-self, mod-le}
-use Rattle.hard.specs.TransformLaws.{by-none, by-direct, by-best}
+use Rattle.folding.specs.TransformLaws.{by-none, by-direct, by-best}
 use native.Mathlib.Omega.{arith}
 use borrow.Author.Needs.{needs}
-use Rattle.hard.proofs.transform.offer_transform.Statement.{statement}
-use Rattle.hard.proofs.transform.offer_transform.Tie as tie
+use Rattle.folding.proofs.transform.offer_transform.Statement.{statement}
+use Rattle.folding.proofs.transform.offer_transform.Tie as tie
 
 add-hits : tie.Need-add-hits
 add-hits c = search needs

@@ -1,10 +1,10 @@
 use native.Mathlib.Nat.{mul-le-mul}
 use borrow.Author.Tests.{lt-ltb, le-ltb}
-use Rattle.hard.specs.Transform.{runnerUpWithin}
+use Rattle.folding.specs.Transform.{runnerUpWithin}
 use native.Mathlib.Omega.{arith}
 use borrow.Author.Needs.{needs}
-use Rattle.hard.proofs.transform.runner_up_within.Statement.{statement}
-use Rattle.hard.proofs.transform.runner_up_within.Tie as tie
+use Rattle.folding.proofs.transform.runner_up_within.Statement.{statement}
+use Rattle.folding.proofs.transform.runner_up_within.Tie as tie
 
 mul-if1 : tie.Need-mul-if1
 mul-if1 c = record { fits = omega (arith, mul-le-mul (c .before .before .pre .2 .h-tied) (c .before .before .pre .2 .v-tied)) }

@@ -1,7 +1,7 @@
 use borrow.Author.Needs.{needs}
-use Rattle.hard.specs.Transform.{summaryOf}
-use Rattle.hard.proofs.transform.summary.Statement.{statement}
-use Rattle.hard.proofs.transform.summary.Tie as tie
+use Rattle.folding.specs.Transform.{summaryOf}
+use Rattle.folding.proofs.transform.summary.Statement.{statement}
+use Rattle.folding.proofs.transform.summary.Tie as tie
 
 competitor-requires : tie.Need-competitor-requires
 competitor-requires c κs = search needs

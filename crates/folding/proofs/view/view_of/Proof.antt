@@ -34,14 +34,14 @@ use denote.Triple.Spec.{Meets, tripleOf}
 use denote.Triple.Table.{entered}
 use denote.Triple.Walked.{says, Stays, stay-none-slice, walkOf, goes-none-slice, Walks, ends-at, walked, walk-meets}
 use denote.Exit.{yes}
-use Rattle.hard.specs.View.{viewOf}
-use Rattle.hard.specs.declared.view.TransformTables.{TransformTables}
-use Rattle.hard.proofs.view.TransformTables as T
-use Rattle.hard.proofs.view.TransformTables.Laws as T′
-use Rattle.hard.proofs.view.view_of.Key.{name as #hard·view·view-of}
-use Rattle.hard.proofs.view.view_of as self
-use Rattle.hard.proofs.view.view_of.Statement as stated
-use Rattle.hard.proofs.view.view_of.Code as code
+use Rattle.folding.specs.View.{viewOf}
+use Rattle.folding.specs.declared.view.TransformTables.{TransformTables}
+use Rattle.folding.proofs.view.TransformTables as T
+use Rattle.folding.proofs.view.TransformTables.Laws as T′
+use Rattle.folding.proofs.view.view_of.Key.{name as #folding·view·view-of}
+use Rattle.folding.proofs.view.view_of as self
+use Rattle.folding.proofs.view.view_of.Statement as stated
+use Rattle.folding.proofs.view.view_of.Code as code
 
 abbrev stayed : Stays (self.ended .signature .params) (self.ended .kept)
 stayed = (stay-none-slice (0 ∷ []) tt (plain (λ _. u32)) yes, (stay-none-slice (0 ∷ []) tt (plain (λ _. f32)) yes, (stay-none-slice (0 ∷ []) tt (plain (λ _. u32)) yes, (stay-none-slice (0 ∷ []) tt (plain (λ _. f32)) yes, tt))))
@@ -130,5 +130,5 @@ pub view-of-spec : {M : Type 1} → stated.statement M
 unfolding code.routine tablesOf
 view-of-spec 𝓤 H 𝓜 𝓖 𝓡 =
     entered 𝓤 H (tripleOf 𝓤 H (𝓖 .A) self.signature (self.spec 𝓤 H (𝓖 .A) (𝓜 .mem) (𝓡 .run)))
-    (tables 𝓤 H 𝓜 𝓡 code.env .C) (tables 𝓤 H 𝓜 𝓡 code.env .Λ) #hard·view·view-of code.function (code.unfolded 𝓤 H 𝓜 𝓡)
+    (tables 𝓤 H 𝓜 𝓡 code.env .C) (tables 𝓤 H 𝓜 𝓡 code.env .Λ) #folding·view·view-of code.function (code.unfolded 𝓤 H 𝓜 𝓡)
     (view-meets 𝓤 H (𝓖 .A) (givenOf 𝓤 H 𝓜 𝓖) (𝓜 .mem) (𝓡 .run) (tablesOf 𝓤 H 𝓜 (tables 𝓤 H 𝓜 𝓡 code.env)))

@@ -41,32 +41,32 @@ use denote.Triple.Walked.{says, needs, Stays, stay-none, stay-none-slice, walkOf
 use denote.Exit.{yes}
 use denote.Triple.Clauses.{ensured, lasts}
 use Rattle.best.specs.CellTables.{cells}
-use Rattle.hard.specs.Transform.{foldTransform, FoldReady}
-use Rattle.hard.specs.View.{viewOf}
-use Rattle.hard.specs.declared.view.TransformTables.{TransformTables}
+use Rattle.folding.specs.Transform.{foldTransform, FoldReady}
+use Rattle.folding.specs.View.{viewOf}
+use Rattle.folding.specs.declared.view.TransformTables.{TransformTables}
 use Rattle.laws.specs.declared.Periods.{Periods}
 use Rattle.scan.specs.declared.scan.Asked.{Asked}
 use Rattle.scan.specs.declared.scan.HardScan.{HardScan}
-use Rattle.hard.proofs.view.TransformTables as T
-use Rattle.hard.proofs.view.TransformTables.Laws as T′
+use Rattle.folding.proofs.view.TransformTables as T
+use Rattle.folding.proofs.view.TransformTables.Laws as T′
 use Rattle.laws.proofs.Periods as P
 use Rattle.laws.proofs.Periods.Laws as P′
 use Rattle.scan.proofs.scan.Asked as K
 use Rattle.scan.proofs.scan.Asked.Laws as K′
 use Rattle.scan.proofs.scan.HardScan as S
 use Rattle.scan.proofs.scan.HardScan.Laws as S′
-use Rattle.hard.proofs.view.view_of as new
-use Rattle.hard.proofs.view.view_of.Symbol as new-def
-use Rattle.hard.proofs.view.view_of.Symbol.{name as #hard·view·view-of}
-use Rattle.hard.proofs.view.view_of.Met as new-thm
-use Rattle.hard.proofs.view.fold_view as read
-use Rattle.hard.proofs.view.fold_view.Symbol as read-def
-use Rattle.hard.proofs.view.fold_view.Symbol.{name as #hard·view·fold-view}
-use Rattle.hard.proofs.view.fold_view.Met as read-thm
-use Rattle.hard.proofs.view.fold_tables.Key.{name as #hard·view·fold-tables}
-use Rattle.hard.proofs.view.fold_tables as self
-use Rattle.hard.proofs.view.fold_tables.Statement as stated
-use Rattle.hard.proofs.view.fold_tables.Code as code
+use Rattle.folding.proofs.view.view_of as new
+use Rattle.folding.proofs.view.view_of.Symbol as new-def
+use Rattle.folding.proofs.view.view_of.Symbol.{name as #folding·view·view-of}
+use Rattle.folding.proofs.view.view_of.Met as new-thm
+use Rattle.folding.proofs.view.fold_view as read
+use Rattle.folding.proofs.view.fold_view.Symbol as read-def
+use Rattle.folding.proofs.view.fold_view.Symbol.{name as #folding·view·fold-view}
+use Rattle.folding.proofs.view.fold_view.Met as read-thm
+use Rattle.folding.proofs.view.fold_tables.Key.{name as #folding·view·fold-tables}
+use Rattle.folding.proofs.view.fold_tables as self
+use Rattle.folding.proofs.view.fold_tables.Statement as stated
+use Rattle.folding.proofs.view.fold_tables.Code as code
 
 abbrev stayed : Stays (self.ended .signature .params) (self.ended .kept)
 stayed = (stay-none (λ _. S.the-row) yes, (stay-none-slice (0 ∷ []) tt (plain (λ _. u32)) yes, (stay-none-slice (0 ∷ []) tt (plain (λ _. f32)) yes, (stay-none-slice (0 ∷ []) tt (plain (λ _. u32)) yes, (stay-none-slice (0 ∷ []) tt (plain (λ _. f32)) yes, (stay-none (λ _. P.the-row) yes, (stay-none (λ _. u8) yes, (stay-none (λ _. K.the-row) yes, tt))))))))
@@ -178,7 +178,7 @@ module _ {M : Type 1} (𝓤 : URA M) (H : Heap 𝓤) (A : Atoms 𝓤) (W : Given
       nothing ! $ owned ! K.the-row (Is K.the-row) (LL.makes K.the-type K′.the-plain 𝓤 H A) k _ k-is $ fjoin ! $ owned ! u8 (Is u8) (uint-makes 𝓤 H A W w8) t _ (refl, t-fits) $ fjoin ! $ owned ! P.the-row (Is P.the-row) (LL.makes P.the-type P′.the-plain 𝓤 H A) p _ p-is $ fjoin ! $
       move ! (1 ∷ 0 ∷ []) $ fjoin ! $ move ! (1 ∷ 0 ∷ []) $ fjoin ! $ move ! (1 ∷ 0 ∷ []) $ fjoin ! $ move ! (1 ∷ 0 ∷ []) $ fjoin ! $ owned ! S.the-row (Is S.the-row) (LL.makes S.the-type S′.the-plain 𝓤 H A) h _ h-is $ fjoin ! $ frame ! $ done !)
 
-  module _ (C : Calls 𝓤 H) (Λ : Loops 𝓤 H) (fm : FmC 𝓤 H (W .laws) C) (known-new : Triple 𝓤 (C #hard·view·view-of) (New 𝓤 H A mem run)) (known-read : Triple 𝓤 (C #hard·view·fold-view) (Read 𝓤 H A mem run)) where
+  module _ (C : Calls 𝓤 H) (Λ : Loops 𝓤 H) (fm : FmC 𝓤 H (W .laws) C) (known-new : Triple 𝓤 (C #folding·view·view-of) (New 𝓤 H A mem run)) (known-read : Triple 𝓤 (C #folding·view·fold-view) (Read 𝓤 H A mem run)) where
     walk : Is (ShrSlice (named 0) κ u32) hc (v₁ ∷ []) → Is (ShrSlice (named 0) κ f32) hw (v₂ ∷ []) → Is (ShrSlice (named 0) κ u32) vc (v₃ ∷ []) → Is (ShrSlice (named 0) κ f32) vw (v₄ ∷ [])
         → ent 𝓤 (onEntry 𝓤 H A self.signature κs (q, tt) a at) (WpFn 𝓤 H C Λ code.function (hv ∷ v₁ ∷ v₂ ∷ v₃ ∷ v₄ ∷ pv ∷ vint w8 t ∷ kv ∷ []) Post)
     walk p₁ p₂ p₃ p₄ =
@@ -211,7 +211,7 @@ module _ {M : Type 1} (𝓤 : URA M) (H : Heap 𝓤) (A : Atoms 𝓤) (W : Given
         move ! (21 ∷ 22 ∷ []) $ free1 ! $ move ! (19 ∷ 20 ∷ []) $ free1 ! $ move ! (17 ∷ 18 ∷ []) $ free1 ! $ move ! (15 ∷ 16 ∷ []) $ free1 ! $ move ! (13 ∷ 14 ∷ []) $ free1 ! $ move ! (11 ∷ 12 ∷ []) $ free1 ! $ move ! (9 ∷ 10 ∷ []) $ free1 ! $ move ! (7 ∷ 8 ∷ []) $ free1 ! $ move ! (5 ∷ 6 ∷ []) $ free1 ! $ move ! (3 ∷ 4 ∷ []) $ free1 ! $ free0 ! $ by ! (exits r u′ e′)))))))))))))))))))
 
 module _ {M : Type 1} (𝓤 : URA M) (H : Heap 𝓤) (A : Atoms 𝓤) (W : Given 𝓤 H A) (mem : Memory → SProp 𝓤) (run : Routine → Fun 𝓤) where
-  self-walks : (C : Calls 𝓤 H) (Λ : Loops 𝓤 H) → FmC 𝓤 H (W .laws) C → Triple 𝓤 (C #hard·view·view-of) (New 𝓤 H A mem run) → Triple 𝓤 (C #hard·view·fold-view) (Read 𝓤 H A mem run)
+  self-walks : (C : Calls 𝓤 H) (Λ : Loops 𝓤 H) → FmC 𝓤 H (W .laws) C → Triple 𝓤 (C #folding·view·view-of) (New 𝓤 H A mem run) → Triple 𝓤 (C #folding·view·fold-view) (Read 𝓤 H A mem run)
       → Walks 𝓤 H A self.ended stayed (WpFn 𝓤 H C Λ code.function) (self.clauses 𝓤 H A mem run)
   self-walks C Λ fm known-new known-read = walked 𝓤 H A self.ended stayed (self.clauses 𝓤 H A mem run) (WpFn 𝓤 H C Λ code.function)
       (λ κs. (LL.vals S.the-type S′.the-laws, (slice-vals, (slice-vals, (slice-vals, (slice-vals, (LL.vals P.the-type P′.the-laws, (uint-vals w8, (LL.vals K.the-type K′.the-laws, tt)))))))))
@@ -220,7 +220,7 @@ module _ {M : Type 1} (𝓤 : URA M) (H : Heap 𝓤) (A : Atoms 𝓤) (W : Given
       walk 𝓤 H A W mem run (κs .0) (qs .0) (a .1 .0) (a .1 .1 .0) (a .1 .1 .1 .0) (a .1 .1 .1 .1 .0) (a .1 .1 .1 .1 .1 .0) (a .1 .1 .1 .1 .1 .1 .0) (a .1 .1 .1 .1 .1 .1 .1 .0) (a .0) (LL.val S.the-type S′.the-laws (a .0)) (are .0) (LL.val P.the-type P′.the-laws (a .1 .1 .1 .1 .1 .0)) (are .1 .1 .1 .1 .1 .0) (are .1 .1 .1 .1 .1 .1 .0 .1) (LL.val K.the-type K′.the-laws (a .1 .1 .1 .1 .1 .1 .1 .0)) (are .1 .1 .1 .1 .1 .1 .1 .0) ok C Λ fm known-new known-read (are .1 .0) (are .1 .1 .0) (are .1 .1 .1 .0) (are .1 .1 .1 .1 .0)))
 
 self-meets : {M : Type 1} (𝓤 : URA M) (H : Heap 𝓤) (A : Atoms 𝓤) (W : Given 𝓤 H A) (mem : Memory → SProp 𝓤) (run : Routine → Fun 𝓤) (𝓣 : Tables 𝓤 H)
-    → Triple 𝓤 (𝓣 .C #hard·view·view-of) (New 𝓤 H A mem run) → Triple 𝓤 (𝓣 .C #hard·view·fold-view) (Read 𝓤 H A mem run)
+    → Triple 𝓤 (𝓣 .C #folding·view·view-of) (New 𝓤 H A mem run) → Triple 𝓤 (𝓣 .C #folding·view·fold-view) (Read 𝓤 H A mem run)
     → Meets 𝓤 H A self.signature (WpFn 𝓤 H (𝓣 .C) (𝓣 .Λ) code.function) (self.spec 𝓤 H A mem run)
 self-meets 𝓤 H A W mem run 𝓣 known-new known-read =
     walk-meets 𝓤 H A self.ended stayed W
@@ -232,7 +232,7 @@ pub fold-tables-spec : {M : Type 1} → stated.statement M
 unfolding code.routine tablesOf
 fold-tables-spec 𝓤 H 𝓜 𝓖 𝓡 =
     entered 𝓤 H (tripleOf 𝓤 H (𝓖 .A) self.signature (self.spec 𝓤 H (𝓖 .A) (𝓜 .mem) (𝓡 .run)))
-    (tables 𝓤 H 𝓜 𝓡 code.env .C) (tables 𝓤 H 𝓜 𝓡 code.env .Λ) #hard·view·fold-tables code.function (code.unfolded 𝓤 H 𝓜 𝓡)
+    (tables 𝓤 H 𝓜 𝓡 code.env .C) (tables 𝓤 H 𝓜 𝓡 code.env .Λ) #folding·view·fold-tables code.function (code.unfolded 𝓤 H 𝓜 𝓡)
     (self-meets 𝓤 H (𝓖 .A) (givenOf 𝓤 H 𝓜 𝓖) (𝓜 .mem) (𝓡 .run) (tablesOf 𝓤 H 𝓜 (tables 𝓤 H 𝓜 𝓡 code.env))
-    (cited 𝓤 H (New 𝓤 H (𝓖 .A) (𝓜 .mem) (𝓡 .run)) 𝓜 𝓡 code.env #hard·view·view-of new-def.routine code.calls-hard·view·view-of (new-thm.met 𝓤 H 𝓜 𝓖 𝓡))
-    (cited 𝓤 H (Read 𝓤 H (𝓖 .A) (𝓜 .mem) (𝓡 .run)) 𝓜 𝓡 code.env #hard·view·fold-view read-def.routine code.calls-hard·view·fold-view (read-thm.met 𝓤 H 𝓜 𝓖 𝓡)))
+    (cited 𝓤 H (New 𝓤 H (𝓖 .A) (𝓜 .mem) (𝓡 .run)) 𝓜 𝓡 code.env #folding·view·view-of new-def.routine code.calls-folding·view·view-of (new-thm.met 𝓤 H 𝓜 𝓖 𝓡))
+    (cited 𝓤 H (Read 𝓤 H (𝓖 .A) (𝓜 .mem) (𝓡 .run)) 𝓜 𝓡 code.env #folding·view·fold-view read-def.routine code.calls-folding·view·fold-view (read-thm.met 𝓤 H 𝓜 𝓖 𝓡)))

@@ -15,8 +15,8 @@ use Rattle.best.specs.CellTables.{CellTables}
 use Rattle.best.specs.Lex.{lexOf}
 use Rattle.scan.specs.Scan.{overLimit, takes, replaced, offeredWithin, emptyScan, SoundKept, SoundScan}
 use Rattle.direct.specs.Direct.{pairHits, originCandidate, tried}
-use Rattle.hard.specs.Transform.{bestOrigin, bestHits, bestCandidate, offeredBy, selected, separationProductCap}
-use Rattle.hard.specs.TransformLaws.{by-none, by-direct, by-best, selected-none, selected-count, keptAt, selected-best}
+use Rattle.folding.specs.Transform.{bestOrigin, bestHits, bestCandidate, offeredBy, selected, separationProductCap}
+use Rattle.folding.specs.TransformLaws.{by-none, by-direct, by-best, selected-none, selected-count, keptAt, selected-best}
 use Rattle.best.specs.declared.lex.LexMax.{LexMax}
 use Rattle.scan.specs.declared.scan.Candidate.{Candidate}
 use Rattle.scan.specs.declared.scan.Kept.{Kept}

@@ -3,7 +3,7 @@ use mathlib.Core.List.{List}
 use Prim.Native.Nat.{ℕ}
 use lib.Ieee.{Float}
 use denote.Ref.{RefT, now}
-use Rattle.hard.specs.declared.view.TransformTables.{TransformTables}
+use Rattle.folding.specs.declared.view.TransformTables.{TransformTables}
 use Rattle.best.specs.CellTables.{CellTables, cells}
 
 -- the view that holds four slices

@@ -1,8 +1,8 @@
 use mathlib.Core.Path.{_∙_}
-use Rattle.hard.specs.TransformLaws.{h-table, v-table, said-pair, said-ok, within-small, folded}
+use Rattle.folding.specs.TransformLaws.{h-table, v-table, said-pair, said-ok, within-small, folded}
 use native.Mathlib.Omega.{arith}
-use Rattle.hard.proofs.transform.fold_transform.Statement.{statement}
-use Rattle.hard.proofs.transform.fold_transform.Tie as tie
+use Rattle.folding.proofs.transform.fold_transform.Statement.{statement}
+use Rattle.folding.proofs.transform.fold_transform.Tie as tie
 
 lex-max-requires : tie.Need-lex-max-requires
 lex-max-requires c κs = h-table _ _ (c .before .before .before .before .pre .0 .0) (c .before .before .before .before .pre .0 .1) _ _ (c .before .before .before .before .pre .0 .2)

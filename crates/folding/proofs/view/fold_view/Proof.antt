@@ -38,28 +38,28 @@ use denote.Triple.Walked.{says, needs, Stays, stay-none, walkOf, goes-none, Walk
 use denote.Exit.{yes}
 use denote.Triple.Clauses.{ensured, lasts}
 use lib.Ieee.{Float}
-use Rattle.hard.specs.Transform.{foldTransform, FoldReady}
-use Rattle.hard.specs.View.{viewed}
-use Rattle.hard.specs.declared.view.TransformTables.{TransformTables}
+use Rattle.folding.specs.Transform.{foldTransform, FoldReady}
+use Rattle.folding.specs.View.{viewed}
+use Rattle.folding.specs.declared.view.TransformTables.{TransformTables}
 use Rattle.laws.specs.declared.Periods.{Periods}
 use Rattle.scan.specs.declared.scan.Asked.{Asked}
 use Rattle.scan.specs.declared.scan.HardScan.{HardScan}
-use Rattle.hard.proofs.view.Held.{B, D, L, v₁, v₂, v₃, v₄, s₁, s₂, s₃, s₄, Own, apart}
-use Rattle.hard.proofs.view.TransformTables.Laws as T′
+use Rattle.folding.proofs.view.Held.{B, D, L, v₁, v₂, v₃, v₄, s₁, s₂, s₃, s₄, Own, apart}
+use Rattle.folding.proofs.view.TransformTables.Laws as T′
 use Rattle.laws.proofs.Periods as P
 use Rattle.laws.proofs.Periods.Laws as P′
 use Rattle.scan.proofs.scan.Asked as K
 use Rattle.scan.proofs.scan.Asked.Laws as K′
 use Rattle.scan.proofs.scan.HardScan as S
 use Rattle.scan.proofs.scan.HardScan.Laws as S′
-use Rattle.hard.proofs.transform.fold_transform as core
-use Rattle.hard.proofs.transform.fold_transform.Symbol as core-def
-use Rattle.hard.proofs.transform.fold_transform.Symbol.{name as #hard·transform·fold-transform}
-use Rattle.hard.proofs.transform.fold_transform.Met as core-thm
-use Rattle.hard.proofs.view.fold_view.Key.{name as #hard·view·fold-view}
-use Rattle.hard.proofs.view.fold_view as self
-use Rattle.hard.proofs.view.fold_view.Statement as stated
-use Rattle.hard.proofs.view.fold_view.Code as code
+use Rattle.folding.proofs.transform.fold_transform as core
+use Rattle.folding.proofs.transform.fold_transform.Symbol as core-def
+use Rattle.folding.proofs.transform.fold_transform.Symbol.{name as #folding·transform·fold-transform}
+use Rattle.folding.proofs.transform.fold_transform.Met as core-thm
+use Rattle.folding.proofs.view.fold_view.Key.{name as #folding·view·fold-view}
+use Rattle.folding.proofs.view.fold_view as self
+use Rattle.folding.proofs.view.fold_view.Statement as stated
+use Rattle.folding.proofs.view.fold_view.Code as code
 
 abbrev stayed : Stays (self.ended .signature .params) (self.ended .kept)
 stayed = (stay-none (λ _. S.the-row) yes, (stay-none B yes, (stay-none (λ _. P.the-row) yes, (stay-none (λ _. u8) yes, (stay-none (λ _. K.the-row) yes, tt)))))
@@ -132,7 +132,7 @@ module _ {M : Type 1} (𝓤 : URA M) (H : Heap 𝓤) (A : Atoms 𝓤) (W : Given
       move ! (1 ∷ []) $ frame ! $ nothing ! $ owned ! K.the-row (Is K.the-row) (LL.makes K.the-type K′.the-plain 𝓤 H A) k _ k-is $ fjoin ! $ owned ! u8 (Is u8) (uint-makes 𝓤 H A W w8) t _ (refl, t-fits) $ fjoin ! $ owned ! P.the-row (Is P.the-row) (LL.makes P.the-type P′.the-plain 𝓤 H A) p _ p-is $ fjoin ! $ move ! (2 ∷ 0 ∷ []) $ fjoin ! $
       owned ! S.the-row (Is S.the-row) (LL.makes S.the-type S′.the-plain 𝓤 H A) h _ h-is $ fjoin ! $ frame ! $ done !
 
-  module _ (C : Calls 𝓤 H) (Λ : Loops 𝓤 H) (fm : FmC 𝓤 H (W .laws) C) (known : Triple 𝓤 (C #hard·transform·fold-transform) (Core 𝓤 H A mem run)) where
+  module _ (C : Calls 𝓤 H) (Λ : Loops 𝓤 H) (fm : FmC 𝓤 H (W .laws) C) (known : Triple 𝓤 (C #folding·transform·fold-transform) (Core 𝓤 H A mem run)) where
     walk : Holds (hasTy (T′.mir (named 0)) mach) × WT mach → ent 𝓤 (onEntry 𝓤 H A self.signature κs (q, tt) a vals) (WpFn 𝓤 H C Λ code.function (hv ∷ mach ∷ pv ∷ vint w8 t ∷ kv ∷ []) Post)
     walk wt =
         qed W (raw (onEntry 𝓤 H A self.signature κs (q, tt) a vals) ∷ []) ∵ enter ! C Λ code.function (hv ∷ mach ∷ pv ∷ vint w8 t ∷ kv ∷ []) _ $
@@ -153,13 +153,13 @@ module _ {M : Type 1} (𝓤 : URA M) (H : Heap 𝓤) (A : Atoms 𝓤) (W : Given
         move ! (21 ∷ 22 ∷ []) $ free1 ! $ move ! (19 ∷ 20 ∷ []) $ free1 ! $ move ! (17 ∷ 18 ∷ []) $ free1 ! $ move ! (15 ∷ 16 ∷ []) $ free1 ! $ move ! (13 ∷ 14 ∷ []) $ free1 ! $ move ! (11 ∷ 12 ∷ []) $ free1 ! $ move ! (9 ∷ 10 ∷ []) $ free1 ! $ move ! (7 ∷ 8 ∷ []) $ free1 ! $ move ! (5 ∷ 6 ∷ []) $ free1 ! $ move ! (3 ∷ 4 ∷ []) $ free1 ! $ free0 ! $ by ! (exits r u e′)))))))))))))))
 
 module _ {M : Type 1} (𝓤 : URA M) (H : Heap 𝓤) (A : Atoms 𝓤) (W : Given 𝓤 H A) (mem : Memory → SProp 𝓤) (run : Routine → Fun 𝓤) where
-  read-walks : (C : Calls 𝓤 H) (Λ : Loops 𝓤 H) → FmC 𝓤 H (W .laws) C → Triple 𝓤 (C #hard·transform·fold-transform) (Core 𝓤 H A mem run)
+  read-walks : (C : Calls 𝓤 H) (Λ : Loops 𝓤 H) → FmC 𝓤 H (W .laws) C → Triple 𝓤 (C #folding·transform·fold-transform) (Core 𝓤 H A mem run)
       → Walks 𝓤 H A self.ended stayed (WpFn 𝓤 H C Λ code.function) (self.clauses 𝓤 H A mem run)
   read-walks C Λ fm known = walked 𝓤 H A self.ended stayed (self.clauses 𝓤 H A mem run) (WpFn 𝓤 H C Λ code.function) (λ κs. (LL.vals S.the-type S′.the-laws, (LL.vals (D κs) (L κs), (LL.vals P.the-type P′.the-laws, (uint-vals w8, (LL.vals K.the-type K′.the-laws, tt)))))) (λ κs. (LL.tells S.the-type S′.the-laws, (LL.tells (D κs) (L κs), (LL.tells P.the-type P′.the-laws, (uint-tells w8, (LL.tells K.the-type K′.the-laws, tt))))))
       (λ κs qs bounds a g are. needs 𝓤 (FoldReady (a .1 .1 .0 .h) (a .1 .1 .0 .v) (a .1 .1 .1 .1 .0 .edges) (viewed (a .1 .0)) (a .0)) _ (λ ok. walk 𝓤 H A W mem run (κs .0) (qs .0) (a .0) (a .1 .0) (a .1 .1 .0) (a .1 .1 .1 .0) (a .1 .1 .1 .1 .0) (LL.val S.the-type S′.the-laws (a .0)) (are .0) (LL.val P.the-type P′.the-laws (a .1 .1 .0)) (are .1 .1 .0) (are .1 .1 .1 .0 .1) (LL.val K.the-type K′.the-laws (a .1 .1 .1 .1 .0)) (are .1 .1 .1 .1 .0) ok C Λ fm known (LL.lawful (D κs) (L κs) 𝓤 H A W .typed (a .1 .0) _ (are .1 .0) .0)))
 
 read-meets : {M : Type 1} (𝓤 : URA M) (H : Heap 𝓤) (A : Atoms 𝓤) (W : Given 𝓤 H A) (mem : Memory → SProp 𝓤) (run : Routine → Fun 𝓤) (𝓣 : Tables 𝓤 H)
-    → Triple 𝓤 (𝓣 .C #hard·transform·fold-transform) (Core 𝓤 H A mem run)
+    → Triple 𝓤 (𝓣 .C #folding·transform·fold-transform) (Core 𝓤 H A mem run)
     → Meets 𝓤 H A self.signature (WpFn 𝓤 H (𝓣 .C) (𝓣 .Λ) code.function) (self.spec 𝓤 H A mem run)
 read-meets 𝓤 H A W mem run 𝓣 known = walk-meets 𝓤 H A self.ended stayed W (goes-none 𝓤 H A W 1 (λ _. S.the-row) yes (λ κs x f. refl), (goes-none 𝓤 H A W 1 B yes (λ κs x f. refl), (goes-none 𝓤 H A W 1 (λ _. P.the-row) yes (λ κs x f. refl), (goes-none 𝓤 H A W 1 (λ _. u8) yes (λ κs x f. refl), (goes-none 𝓤 H A W 1 (λ _. K.the-row) yes (λ κs x f. refl), tt))))) (self.clauses 𝓤 H A mem run) (WpFn 𝓤 H (𝓣 .C) (𝓣 .Λ) code.function) (WpFn-mono 𝓤 H (W .laws) 𝓣 code.function)
     (read-walks 𝓤 H A W mem run (𝓣 .C) (𝓣 .Λ) (fmOf 𝓤 H (W .laws) 𝓣) known)
@@ -168,6 +168,6 @@ pub fold-view-spec : {M : Type 1} → stated.statement M
 unfolding code.routine tablesOf
 fold-view-spec 𝓤 H 𝓜 𝓖 𝓡 =
     entered 𝓤 H (tripleOf 𝓤 H (𝓖 .A) self.signature (self.spec 𝓤 H (𝓖 .A) (𝓜 .mem) (𝓡 .run)))
-    (tables 𝓤 H 𝓜 𝓡 code.env .C) (tables 𝓤 H 𝓜 𝓡 code.env .Λ) #hard·view·fold-view code.function (code.unfolded 𝓤 H 𝓜 𝓡)
+    (tables 𝓤 H 𝓜 𝓡 code.env .C) (tables 𝓤 H 𝓜 𝓡 code.env .Λ) #folding·view·fold-view code.function (code.unfolded 𝓤 H 𝓜 𝓡)
     (read-meets 𝓤 H (𝓖 .A) (givenOf 𝓤 H 𝓜 𝓖) (𝓜 .mem) (𝓡 .run) (tablesOf 𝓤 H 𝓜 (tables 𝓤 H 𝓜 𝓡 code.env))
-    (cited 𝓤 H (Core 𝓤 H (𝓖 .A) (𝓜 .mem) (𝓡 .run)) 𝓜 𝓡 code.env #hard·transform·fold-transform core-def.routine code.calls-hard·transform·fold-transform (core-thm.met 𝓤 H 𝓜 𝓖 𝓡)))
+    (cited 𝓤 H (Core 𝓤 H (𝓖 .A) (𝓜 .mem) (𝓡 .run)) 𝓜 𝓡 code.env #folding·transform·fold-transform core-def.routine code.calls-folding·transform·fold-transform (core-thm.met 𝓤 H 𝓜 𝓖 𝓡)))

@@ -18,9 +18,9 @@ use denote.Slice.{sliceVal, ShrSlice}
 use denote.Struct.Declared.{Declared}
 use denote.Struct.Laws as LL
 use denote.Struct.Rest.{own-open}
-use Rattle.hard.specs.declared.view.TransformTables.{TransformTables}
-use Rattle.hard.proofs.view.TransformTables as T
-use Rattle.hard.proofs.view.TransformTables.Laws as T′
+use Rattle.folding.specs.declared.view.TransformTables.{TransformTables}
+use Rattle.folding.proofs.view.TransformTables as T
+use Rattle.folding.proofs.view.TransformTables.Laws as T′
 
 -- the view's type, its description and its laws, over the lifetimes of a signature of one
 abbrev pub B : Lfts 1 → RattleType

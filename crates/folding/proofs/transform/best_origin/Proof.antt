@@ -1,8 +1,8 @@
 use mathlib.Core.Path.{_∙_}
 use borrow.Author.Needs.{needs}
-use Rattle.hard.specs.TransformLaws.{sole-pair}
-use Rattle.hard.proofs.transform.best_origin.Statement.{statement}
-use Rattle.hard.proofs.transform.best_origin.Tie as tie
+use Rattle.folding.specs.TransformLaws.{sole-pair}
+use Rattle.folding.proofs.transform.best_origin.Statement.{statement}
+use Rattle.folding.proofs.transform.best_origin.Tie as tie
 
 key-of-requires : tie.Need-key-of-requires
 key-of-requires c κs = search needs

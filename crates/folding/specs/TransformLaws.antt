@@ -22,12 +22,12 @@ use Rattle.grid.specs.BoardGrid.{grid, none-small}
 use Rattle.grid.specs.RowMajorLaws.{major-none, major-only}
 use Rattle.scan.specs.Scan.{overLimit, replaced, noSummary, emptyScan, pushed}
 use Rattle.direct.specs.Direct.{tried}
-use Rattle.hard.specs.Transform.{BestOk, firstOf, bestOrigin, bestHits, bestCandidate, pairsTied, runnerUpWithin, summaryOf, transformSummary, offeredBy, foldTransform, selected, separationProductCap}
+use Rattle.folding.specs.Transform.{BestOk, firstOf, bestOrigin, bestHits, bestCandidate, pairsTied, runnerUpWithin, summaryOf, transformSummary, offeredBy, foldTransform, selected, separationProductCap}
 use Rattle.best.specs.declared.lex.LexMax.{LexMax}
 use Rattle.scan.specs.declared.scan.TransformSummary.{TransformSummary}
 use Rattle.scan.specs.declared.scan.HardScan.{HardScan}
 use Rattle.scan.specs.declared.scan.Kept.{Kept}
-use Rattle.hard.specs.declared.transform.Ranked.{Ranked}
+use Rattle.folding.specs.declared.transform.Ranked.{Ranked}
 
 -- what is known of a transform's two tables a and b and of its best origin: in range, at most `edges` hits, and a small key
 pub record SaidOk (L M edges : ℕ) (a b : LexMax) (first : ℕ) : Type 0 where

@@ -1,8 +1,8 @@
 // The four tables of one transform as one view, which the scan reads through. The core below stays on plain slices.
 ghost use mathlib.Core.Path.{_≡_};
 ghost use Rattle.best.specs.CellTables.{cells};
-ghost use Rattle.hard.specs.Transform.{foldTransform, FoldReady};
-ghost use Rattle.hard.specs.View.{viewOf, viewed};
+ghost use Rattle.folding.specs.Transform.{foldTransform, FoldReady};
+ghost use Rattle.folding.specs.View.{viewOf, viewed};
 use laws::Periods;
 use scan::scan::Asked;
 use scan::scan::HardScan;

@@ -1,11 +1,11 @@
 use Prim.Native.Nat.{_*_}
 use mathlib.Core.Path.{refl}
 use native.Mathlib.Nat.{div-le-self, mod-le}
-use Rattle.hard.specs.Transform.{competitorOf}
+use Rattle.folding.specs.Transform.{competitorOf}
 use native.Mathlib.Omega.{arith}
 use borrow.Author.Needs.{needs}
-use Rattle.hard.proofs.transform.competitor.Statement.{statement}
-use Rattle.hard.proofs.transform.competitor.Tie as tie
+use Rattle.folding.proofs.transform.competitor.Statement.{statement}
+use Rattle.folding.proofs.transform.competitor.Tie as tie
 
 mul-columns : tie.Need-mul-columns
 mul-columns c = search needs

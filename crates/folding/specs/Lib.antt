@@ -1,0 +1,4 @@
+pub mod Transform
+pub mod TransformLaws
+pub mod View
+pub mod KeptLaws

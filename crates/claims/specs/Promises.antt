@@ -168,9 +168,11 @@ pub record SoftPromise (call : SoftCall) (before after : SoftRoom) (answer : Ans
   -- DEMAND 1, as of hard decode
   pub early : Early (softChecked call before) (InSoftDomain call before) (hardCount (call .hard)) (softBad call) (softNumbers01 call (length (before .counts)) (length (before .weights)) (length (before .sums)))
       (λ refusal. (answer ≡ Refused refusal) × (after .counts ≡ before .counts) × (after .weights ≡ before .weights) × (after .sums ≡ before .sums))
-  pub room-zero : InSoftDomain call before → Emptied 0 0 3006 (before .counts) (after .counts) × Emptied nan zeroF 3006 (before .weights) (after .weights) × Emptied (pos 0) (pos 0) 5010 (before .sums) (after .sums)
+  pub room-zero : InSoftDomain call before
+      → Emptied 0 0 3006 (before .counts) (after .counts) × Emptied nan zeroF 3006 (before .weights) (after .weights) × Emptied (pos 0) (pos 0) 5010 (before .sums) (after .sums)
   -- then it is refused by 10, 11, 13, 14 or 15, if at all, and about no edge
-  pub refused-late : InSoftDomain call before → (refusal : Refusal) → answer ≡ Refused refusal → ((10 ≤ refusal .number) × (refusal .number ≤ 15) × (refusal .number ≡ 12 → ⊥)) × (refusal .place ≡ Nowhere)
+  pub refused-late : InSoftDomain call before → (refusal : Refusal) → answer ≡ Refused refusal
+      → ((10 ≤ refusal .number) × (refusal .number ≤ 15) × (refusal .number ≡ 12 → ⊥)) × (refusal .place ≡ Nowhere)
   pub refused-exactly : InSoftDomain call before → SoftLate call answer
   pub answer-in-range : (found : Decoded) → answer ≡ Found found → AnswerInRange found
   pub no-influence : (before' after' : SoftRoom) (answer' : Answer) → SoftGave call before' after' answer'
@@ -187,7 +189,8 @@ pub record SoftPromise (call : SoftCall) (before after : SoftRoom) (answer : Ans
 -- ---- MATCH STATISTICS, of a list at one square
 pub record StatsPromise (list : EdgeList) (transform row col : ℕ) (board : Board) (answer : StatsAnswer) : Type 0 where
   -- DEMAND 1
-  pub early : Early (statsAdmission list transform row col board) (StatsDomain list transform row col board) (statsCount list) (statsBad list) (statsNumbers01 list transform row col board) (λ refusal. answer ≡ stats.Refused refusal)
+  pub early : Early (statsAdmission list transform row col board) (StatsDomain list transform row col board) (statsCount list) (statsBad list) (statsNumbers01 list transform row col board)
+      (λ refusal. answer ≡ stats.Refused refusal)
   -- DEMAND 2: every other call gives the statistics of document 01
   pub by-the-rules : StatsDomain list transform row col board → answer ≡ stats.Counted (statsOf list transform row col board)
   -- counted means: the hits are board's, edge by edge, of all the edges

@@ -39,8 +39,8 @@ use Rattle.answer.specs.declared.StatsAnswer.the-variants as stats
 use Rattle.stats.specs.Stats.{statsAnswer, statsOf, orCounted}
 use Rattle.verdict.specs.Verdict.{pick, whenAccepted, agreed, judged}
 use Rattle.decode_hard.specs.Hard.{afterPhysical, afterLogical, hardCore, hardAnswer}
-use Rattle.verdict.specs.declared.soft_verdict.SoftBest.{SoftBest}
-use Rattle.verdict.specs.Verdict.{softDecodedOf, softVerdict, bestOf}
+use Rattle.soft_verdict.specs.declared.SoftBest.{SoftBest}
+use Rattle.soft_verdict.specs.SoftVerdict.{softDecodedOf, softVerdict, bestOf}
 use Rattle.decode_soft.specs.Soft.{fitOf, softJudged, afterHard, afterSoft, softCore, softAnswer}
 use Rattle.flat.specs.declared.flat.FlatAnswer.{FlatAnswer}
 use Rattle.flat.specs.Flat.{notRefused, flat, flatStats}

@@ -31,11 +31,12 @@ use Rattle.margin.specs.declared.slots.SoftChoice.the-variants.{Nothing, Chosen
 use Rattle.margin.specs.Margin.{softMargin, belowMargin}
 use Rattle.soft.specs.Select.{softSelection}
 use Rattle.figures.specs.declared.Fit.{Fit}
-use Rattle.verdict.specs.declared.soft_verdict.SoftBest.{SoftBest}
+use Rattle.soft_verdict.specs.declared.SoftBest.{SoftBest}
 use Rattle.answer.specs.declared.Decoded.{Decoded}
 use Rattle.answer.specs.declared.Answer.{Answer}
 use Rattle.answer.specs.declared.Answer.the-variants.{Found, Refused}
-use Rattle.verdict.specs.Verdict.{refusedBy, pick, whenAccepted, softVerdict, softDecodedOf, bestOf}
+use Rattle.verdict.specs.Verdict.{refusedBy, pick, whenAccepted}
+use Rattle.soft_verdict.specs.SoftVerdict.{softVerdict, softDecodedOf, bestOf}
 use Rattle.demand.specs.Left.{left}
 
 -- ---- the physical list's figures

@@ -46,14 +46,14 @@ use Rattle.margin.specs.Margin.{softMargin, belowMargin}
 use Rattle.soft.specs.Select.{softSelection, SoftReady, SoftScanned}
 use Rattle.soft.specs.SelectLaws.{room-beyond, soft-best-edges}
 use Rattle.figures.specs.declared.Fit.{Fit}
-use Rattle.verdict.specs.declared.soft_verdict.SoftBest.{SoftBest}
+use Rattle.soft_verdict.specs.declared.SoftBest.{SoftBest}
 use Rattle.answer.specs.declared.Decoded.{Decoded}
 use Rattle.answer.specs.declared.Answer.{Answer}
 use Rattle.answer.specs.declared.Answer.the-variants.{Found, Refused}
 use Rattle.verdict.specs.Verdict.{refusedBy, whenAccepted}
 use Rattle.demand.specs.Left.{left}
 use Rattle.demand.specs.Ready.{ready-logical, beyond}
-use Rattle.verdict.specs.Verdict.{softVerdict, softDecodedOf}
+use Rattle.soft_verdict.specs.SoftVerdict.{softVerdict, softDecodedOf}
 use Rattle.decode_soft.specs.Soft.{cellFit, fitOf, softJudged, afterHard, afterSoft, softCore, softAnswer, FitDone, LogicalDone, SoftCoreDone, SoftDone}
 
 -- ---- the cells of an origin

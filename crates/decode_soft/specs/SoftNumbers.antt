@@ -25,11 +25,12 @@ use Rattle.hard.specs.declared.select.Selection.the-variants as sel
 use Rattle.margin.specs.declared.slots.SoftChoice.the-variants.{Chosen}
 use Rattle.margin.specs.Margin.{belowMargin}
 use Rattle.soft.specs.Select.{softSelection}
-use Rattle.verdict.specs.declared.soft_verdict.SoftBest.{SoftBest}
+use Rattle.soft_verdict.specs.declared.SoftBest.{SoftBest}
 use Rattle.answer.specs.declared.Decoded.{Decoded}
 use Rattle.answer.specs.declared.Answer.{Answer}
 use Rattle.answer.specs.declared.Answer.the-variants.{Found, Refused}
-use Rattle.verdict.specs.Verdict.{refusedBy, pick, whenAccepted, softVerdict, softDecodedOf, bestOf}
+use Rattle.verdict.specs.Verdict.{refusedBy, pick, whenAccepted}
+use Rattle.soft_verdict.specs.SoftVerdict.{softVerdict, softDecodedOf, bestOf}
 use Rattle.demand.specs.OneSelection.{NoneWithinLimit, SomeWithinLimit, NoneLeads, Winner, Ended, ended, none-refused, within-refused, some-winner, winner-some}
 use Rattle.demand.specs.Winners.{winner-leads}
 use Rattle.decode_soft.specs.SoftDemand.{withTotal, marginOf, BestByLikelihood}

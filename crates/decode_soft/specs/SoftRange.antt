@@ -18,7 +18,7 @@ use Rattle.figures.specs.RangeLaws.{rate-within, mean-within}
 use Rattle.hard.specs.SelectTheorems.{selected-in-range}
 use Rattle.hard.specs.WeighedLaws.{pair-within}
 use Rattle.soft.specs.TotalLaws.{score-small, total-within, per-edge-within, margin-within}
-use Rattle.verdict.specs.Verdict.{softDecodedOf}
+use Rattle.soft_verdict.specs.SoftVerdict.{softDecodedOf}
 use Rattle.admission.specs.Calls.{SoftCall}
 use Rattle.admission.specs.Accepted.{SoftAccepted}
 use Rattle.answer.specs.declared.Decoded.{Decoded}

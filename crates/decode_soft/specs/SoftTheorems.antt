@@ -48,7 +48,7 @@ use Rattle.answer.specs.declared.Decoded.{Decoded}
 use Rattle.answer.specs.declared.Answer.{Answer}
 use Rattle.answer.specs.declared.Answer.the-variants.{Found, Refused}
 use Rattle.verdict.specs.Verdict.{refusedBy, pick, whenAccepted}
-use Rattle.verdict.specs.Verdict.{softVerdict, softDecodedOf, bestOf}
+use Rattle.soft_verdict.specs.SoftVerdict.{softVerdict, softDecodedOf, bestOf}
 use Rattle.decode_soft.specs.Soft.{cellFit, fitOf, softJudged, afterHard, afterSoft, softCore}
 use Rattle.decode_soft.specs.SoftLaws.{likelihoods-ok}
 use Rattle.demand.specs.Demand.{OnBoard, Same, Leads, RunsUp, Names}

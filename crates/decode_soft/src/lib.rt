@@ -8,7 +8,7 @@ ghost use Rattle.tables.specs.Built.{TablesReady};
 ghost use Rattle.hard.specs.SelectLaws.{RoomReady, roomCells};
 ghost use Rattle.admission.specs.Calls.{hardCall, softCall};
 ghost use Rattle.admission.specs.Accepted.{HardAccepted, SoftAccepted};
-ghost use Rattle.verdict.specs.Verdict.{softVerdict, softDecodedOf};
+ghost use Rattle.soft_verdict.specs.SoftVerdict.{softVerdict, softDecodedOf};
 ghost use Rattle.decode_soft.specs.Soft.{cellFit, FitDone, LogicalDone, SoftCoreDone, SoftDone};
 use answer::Answer;
 use figures::Fit;
@@ -19,9 +19,9 @@ use margin::slots::SoftChoice;
 use refusals::Admission;
 use scan::scan::Candidate;
 use scan::scan::RunnerUp;
-use verdict::soft_verdict::SoftBest;
-use verdict::soft_verdict::soft_decoded;
-use verdict::soft_verdict::soft_verdict;
+use soft_verdict::SoftBest;
+use soft_verdict::soft_decoded;
+use soft_verdict::soft_verdict;
 use verdict::verdict::refuse;
 
 // The hits and the weight of one origin, read off the tables in the room.

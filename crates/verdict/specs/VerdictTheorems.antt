@@ -1,7 +1,7 @@
 -- What a verdict tells, in the winners' own numbers (demands 2 and 3 on this crate's definitions): found exactly when the winners agree and the gate is passed; a
 -- found answer tells the winner's square and hits, and the runner-up's. A refusal has its own number.
 use mathlib.Core.Path.{_≡_, refl, subst}
-use mathlib.Core.Bool.{Bool, true, false, cond, _&&_}
+use mathlib.Core.Bool.{Bool, true, false, _&&_}
 use Prim.Native.Nat.{ℕ, _-_}
 use native.Mathlib.Omega.{arith}
 use lib.Dec.{eqb}
@@ -10,21 +10,16 @@ use lib.Ieee.{binary32, ofInt}
 use borrow.Author.Tests.{eq-eqb, eqb-true}
 use Rattle.laws.specs.Tests.{clash, not-so, and-true}
 use Rattle.refusals.specs.declared.Refusal.{Refusal}
-use Rattle.refusals.specs.declared.Admission.{Admission}
-use Rattle.refusals.specs.declared.Admission.the-variants as admission
 use Rattle.refusals.specs.Numbers.{numbered}
 use Rattle.refusals.specs.Numbers as why
 use Rattle.board.specs.declared.edge.Placing.{Placing}
 use Rattle.scan.specs.declared.scan.Candidate.{Candidate}
 use Rattle.scan.specs.declared.scan.RunnerUp.{RunnerUp}
 use Rattle.figures.specs.Gate.{passed}
-use Rattle.figures.specs.declared.Fit.{Fit}
-use Rattle.margin.specs.declared.slots.SoftCandidate.{SoftCandidate}
-use Rattle.verdict.specs.declared.soft_verdict.SoftBest.{SoftBest}
 use Rattle.answer.specs.declared.Decoded.{Decoded}
 use Rattle.answer.specs.declared.Answer.{Answer}
 use Rattle.answer.specs.declared.Answer.the-variants.{Found, Refused}
-use Rattle.verdict.specs.Verdict.{refusedBy, agreed, decodedOf, pick, judged, softVerdict, softDecodedOf}
+use Rattle.verdict.specs.Verdict.{refusedBy, agreed, decodedOf, pick, judged}
 
 -- "origin and matrix must agree": the transforms and the origins of two placings are the same
 pub record Agree (t : ℕ) (P : Placing) (s : ℕ) (Q : Placing) : Type 0 where
@@ -45,19 +40,19 @@ pub record Says (t : ℕ) (P : Placing) (hits edges : ℕ) (runner : RunnerUp) (
   pub runner-up-col : d .«runner_up» .col ≡ runner .col
 
 -- ---- the test of agreement
-abbrev test : ℕ → Placing → ℕ → Placing → Bool
+abbrev pub test : ℕ → Placing → ℕ → Placing → Bool
 test t P s Q = eqb t s && (eqb (P .row) (Q .row) && eqb (P .col) (Q .col))
 
-agree-of : (t : ℕ) (P : Placing) (s : ℕ) (Q : Placing) → test t P s Q ≡ true → Agree t P s Q
+pub agree-of : (t : ℕ) (P : Placing) (s : ℕ) (Q : Placing) → test t P s Q ≡ true → Agree t P s Q
 agree-of t P s Q e =
     let u = and-true (eqb t s) (eqb (P .row) (Q .row) && eqb (P .col) (Q .col)) e in
     let v = and-true (eqb (P .row) (Q .row)) (eqb (P .col) (Q .col)) (u .1) in
     record { transform = eqb-true t s (u .0); row = eqb-true (P .row) (Q .row) (v .0); col = eqb-true (P .col) (Q .col) (v .1) }
 
-of-agree : (t : ℕ) (P : Placing) (s : ℕ) (Q : Placing) → Agree t P s Q → test t P s Q ≡ true
+pub of-agree : (t : ℕ) (P : Placing) (s : ℕ) (Q : Placing) → Agree t P s Q → test t P s Q ≡ true
 of-agree t P s Q a = rw (eq-eqb t s (a .transform), eq-eqb (P .row) (Q .row) (a .row), eq-eqb (P .col) (Q .col) (a .col))
 
-of-differ : (t : ℕ) (P : Placing) (s : ℕ) (Q : Placing) → (Agree t P s Q → ⊥) → test t P s Q ≡ false
+pub of-differ : (t : ℕ) (P : Placing) (s : ℕ) (Q : Placing) → (Agree t P s Q → ⊥) → test t P s Q ≡ false
 of-differ t P s Q n = not-so (test t P s Q) (λ e. n (agree-of t P s Q e))
 
 -- ---- two tests, one inside the other
@@ -74,20 +69,6 @@ pick-second false b x y z p q = clash p refl
 pick-last : (a : Bool) (x z : Answer) → a ≡ false → pick a x z ≡ z
 pick-last true x z p = clash refl p
 pick-last false x z p = refl
-
-cond-first : (a b : Bool) (x y z : Admission) → a ≡ true → b ≡ true → cond a (cond b x y) z ≡ x
-cond-first true true x y z p q = refl
-cond-first true false x y z p q = clash q refl
-cond-first false b x y z p q = clash p refl
-
-cond-second : (a b : Bool) (x y z : Admission) → a ≡ true → b ≡ false → cond a (cond b x y) z ≡ y
-cond-second true true x y z p q = clash refl q
-cond-second true false x y z p q = refl
-cond-second false b x y z p q = clash p refl
-
-cond-last : (a : Bool) (x z : Admission) → a ≡ false → cond a x z ≡ z
-cond-last true x z p = clash refl p
-cond-last false x z p = refl
 
 pub never-both : (d : Decoded) (r : Refusal) → Refused r ≡ Found d → ⊥
 never-both d r e = let z : _≡_ {A = ℕ} 0 1 = cc in omega arith
@@ -145,40 +126,3 @@ module _ (t : ℕ) (w : Candidate) (runner : RunnerUp) (s : ℕ) (p : Candidate)
   pub judged-sound : (d : Decoded) → judged t w runner s p edges ≡ Found d → Judged d
   unfolding judged agreed
   judged-sound d h = by-agreed d (test t (w .placing) s (p .placing)) refl h
-
--- ---- soft: the winner by likelihood under the transform t, and the hard winner w of the logical list under the transform s
-module _ (t : ℕ) (first : SoftCandidate) (s : ℕ) (w : Candidate) (runner : RunnerUp) (edges : ℕ) where
-  -- WINNERS THAT AGREE AND PASS ARE ACCEPTED
-  pub soft-verdict-complete : Agree t (first .placing) s (w .placing) → passed edges (w .hits) (runner .hits) ≡ true → softVerdict t first s w runner edges ≡ admission.Accepted
-  unfolding softVerdict
-  soft-verdict-complete a g = cond-first (test t (first .placing) s (w .placing)) (passed edges (w .hits) (runner .hits)) _ _ _ (of-agree t (first .placing) s (w .placing) a) g
-
-  -- 15 where they differ, 13 where they agree and do not pass
-  pub soft-verdict-15 : (Agree t (first .placing) s (w .placing) → ⊥) → softVerdict t first s w runner edges ≡ admission.Refused (numbered why.softHardDisagree)
-  unfolding softVerdict
-  soft-verdict-15 n = cond-last (test t (first .placing) s (w .placing)) _ _ (of-differ t (first .placing) s (w .placing) n)
-
-  pub soft-verdict-13 : Agree t (first .placing) s (w .placing) → passed edges (w .hits) (runner .hits) ≡ false → softVerdict t first s w runner edges ≡ admission.Refused (numbered why.notFarAhead)
-  unfolding softVerdict
-  soft-verdict-13 a g = cond-second (test t (first .placing) s (w .placing)) (passed edges (w .hits) (runner .hits)) _ _ _ (of-agree t (first .placing) s (w .placing) a) g
-
-  -- ACCEPTED MEANS TRUE
-  pub soft-verdict-sound : softVerdict t first s w runner edges ≡ admission.Accepted → Agree t (first .placing) s (w .placing) × (passed edges (w .hits) (runner .hits) ≡ true)
-  unfolding softVerdict
-  soft-verdict-sound h = go (test t (first .placing) s (w .placing)) (passed edges (w .hits) (runner .hits)) refl refl h
-    where
-      go : (a b : Bool) → test t (first .placing) s (w .placing) ≡ a → passed edges (w .hits) (runner .hits) ≡ b → cond a (cond b admission.Accepted (admission.Refused (numbered why.notFarAhead))) (admission.Refused (numbered why.softHardDisagree)) ≡ admission.Accepted
-          → Agree t (first .placing) s (w .placing) × (passed edges (w .hits) (runner .hits) ≡ true)
-      go true true e g k = (agree-of t (first .placing) s (w .placing) e, g)
-      go true false e g k = let z : _≡_ {A = ℕ} 0 1 = cc in absurd (omega arith)
-      go false b e g k = let z : _≡_ {A = ℕ} 0 1 = cc in absurd (omega arith)
-
--- A FOUND SOFT ANSWER SAYS the soft winner's square with its total and margin, the physical list's hits, and the hard runner-up
-pub soft-says : (t : ℕ) (best : SoftBest) (fit : Fit) (edges : ℕ) (runner : RunnerUp)
-    → Says t (best .first .placing) (fit .hits) edges runner (softDecodedOf t best fit edges runner) × (softDecodedOf t best fit edges runner .«best_score» ≡ best .first .total) × (softDecodedOf t best fit edges runner .margin ≡ best .margin)
-unfolding softDecodedOf
-soft-says t best fit edges runner = (
-  record { transform = refl; row = refl; col = refl; hits-told = refl; edges-told = refl; runner-up-hits = refl; runner-up-transform = refl; runner-up-row = refl; runner-up-col = refl },
-  refl,
-  refl,
-)

@@ -1,3 +1,2 @@
 // The verdict on the winners, by value: whether they agree, the gate, and the found answer put together.
-pub mod soft_verdict; // the soft winner against the hard one, and the found answer put together
 pub mod verdict; // the winners compared, the gate, and the found answer put together

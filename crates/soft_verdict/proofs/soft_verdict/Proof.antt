@@ -1,9 +1,9 @@
 use mathlib.Core.Path.{_≡_, sym, _∙_}
 use borrow.Author.Tests.{eq-eqb, ne-eqb}
-use Rattle.verdict.specs.Verdict.{softVerdict}
+use Rattle.soft_verdict.specs.SoftVerdict.{softVerdict}
 use borrow.Author.Needs.{needs}
-use Rattle.verdict.proofs.soft_verdict.soft_verdict.Statement.{statement}
-use Rattle.verdict.proofs.soft_verdict.soft_verdict.Tie as tie
+use Rattle.soft_verdict.proofs.soft_verdict.Statement.{statement}
+use Rattle.soft_verdict.proofs.soft_verdict.Tie as tie
 
 passes-requires : tie.Need-passes-requires
 passes-requires c κs = search needs

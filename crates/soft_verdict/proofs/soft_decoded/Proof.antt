@@ -4,10 +4,10 @@ use native.Mathlib.Omega.{arith}
 use lib.Dec.{le→leb}
 use lib.IntN.{pos}
 use lib.Ieee.{inFloat, ofInt, div, binary32}
-use Rattle.verdict.specs.Verdict.{softDecodedOf}
+use Rattle.soft_verdict.specs.SoftVerdict.{softDecodedOf}
 use borrow.Author.Needs.{needs}
-use Rattle.verdict.proofs.soft_verdict.soft_decoded.Statement.{statement}
-use Rattle.verdict.proofs.soft_verdict.soft_decoded.Tie as tie
+use Rattle.soft_verdict.proofs.soft_decoded.Statement.{statement}
+use Rattle.soft_verdict.proofs.soft_decoded.Tie as tie
 
 int-to-float-weighted-score : tie.Need-int-to-float-weighted-score
 unfolding inFloat

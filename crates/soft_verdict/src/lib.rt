@@ -1,7 +1,7 @@
 // The verdict on the soft winner, by value: against the hard winner and the gate, and the found answer put together.
 ghost use mathlib.Core.Path.{_≡_};
 ghost use Prim.Native.Nat.{_≤_, _<_};
-ghost use Rattle.verdict.specs.Verdict.{softVerdict, softDecodedOf};
+ghost use Rattle.soft_verdict.specs.SoftVerdict.{softVerdict, softDecodedOf};
 use answer::Decoded;
 use answer::Square;
 use figures::Fit;

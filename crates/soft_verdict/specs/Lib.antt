@@ -1,0 +1,2 @@
+pub mod SoftVerdict
+pub mod SoftVerdictTheorems

@@ -49,14 +49,15 @@ use Rattle.decode_hard.specs.HardDemand.{HardAnswered}
 use Rattle.decode_hard.specs.HardLate.{HardLate}
 use Rattle.decode_hard.specs.HardLateLaws.{hard-late-numbers}
 use Rattle.decode_hard.specs.HardTheorems.{hard-sound, hard-complete}
-use Rattle.decode_soft.specs.Soft.{softCore, softAnswer}
-use Rattle.decode_soft.specs.SoftRange.{soft-in-range}
-use Rattle.decode_soft.specs.SoftNumbers.{soft-late}
-use Rattle.decode_soft.specs.SoftDemand.{BestByLikelihood, SoftAnswered}
-use Rattle.decode_soft.specs.SoftLate.{SoftLate}
-use Rattle.decode_soft.specs.SoftLateLaws.{soft-late-numbers}
-use Rattle.decode_soft.specs.SoftPlaces.{best-by-rows}
-use Rattle.decode_soft.specs.SoftTheorems.{soft-sound, soft-complete-by-rows}
+use Rattle.soft_core.specs.Soft.{softCore}
+use Rattle.decode_soft.specs.SoftAnswer.{softAnswer}
+use Rattle.soft_core.specs.SoftRange.{soft-in-range}
+use Rattle.soft_core.specs.SoftNumbers.{soft-late}
+use Rattle.soft_core.specs.SoftDemand.{BestByLikelihood, SoftAnswered}
+use Rattle.soft_core.specs.SoftLate.{SoftLate}
+use Rattle.soft_core.specs.SoftLateLaws.{soft-late-numbers}
+use Rattle.soft_core.specs.SoftPlaces.{best-by-rows}
+use Rattle.soft_core.specs.SoftTheorems.{soft-sound, soft-complete-by-rows}
 use Rattle.stats.specs.Stats.{statsAnswer, statsOf, orCounted}
 use Rattle.stats.specs.StatsRange.{StatsInRange, stats-in-range}
 use Rattle.claims.specs.Promises.{NumberAndPlace, EarlyNumber, RunnerUpAlways, Emptied, HardRoom, SoftRoom, hardChecked, InHardDomain, HardGave, HardPromise, softChecked, InSoftDomain, SoftGave, SoftBestPlacing, SoftClears, SoftPromise, StatsPromise}

@@ -41,7 +41,8 @@ use Rattle.verdict.specs.Verdict.{pick, whenAccepted, agreed, judged}
 use Rattle.decode_hard.specs.Hard.{afterPhysical, afterLogical, hardCore, hardAnswer}
 use Rattle.soft_verdict.specs.declared.SoftBest.{SoftBest}
 use Rattle.soft_verdict.specs.SoftVerdict.{softDecodedOf, softVerdict, bestOf}
-use Rattle.decode_soft.specs.Soft.{fitOf, softJudged, afterHard, afterSoft, softCore, softAnswer}
+use Rattle.soft_core.specs.Soft.{fitOf, softJudged, afterHard, afterSoft, softCore}
+use Rattle.decode_soft.specs.SoftAnswer.{softAnswer}
 use Rattle.flat.specs.declared.flat.FlatAnswer.{FlatAnswer}
 use Rattle.flat.specs.Flat.{notRefused, flat, flatStats}
 use Rattle.claims.specs.Claims.{hard-early, soft-early, stats-early}

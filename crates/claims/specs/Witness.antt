@@ -31,8 +31,8 @@ use Rattle.hard.specs.SelectTheorems.{hitsAtKey}
 use Rattle.demand.specs.Demand.{OnBoard, Leads, AgreesPhysical}
 use Rattle.demand.specs.DemandLaws.{sole-leads}
 use Rattle.demand.specs.AgreesLaws.{most-agrees}
-use Rattle.decode_soft.specs.SoftDemand.{marginOf, FirstByLikelihood, SecondByLikelihood, BestByLikelihood}
-use Rattle.decode_soft.specs.SoftPlaces.{best-by-rows}
+use Rattle.soft_core.specs.SoftDemand.{marginOf, FirstByLikelihood, SecondByLikelihood, BestByLikelihood}
+use Rattle.soft_core.specs.SoftPlaces.{best-by-rows}
 
 -- ---- the case
 -- four horizontal and five vertical patterns, so 12 rows of 15 columns

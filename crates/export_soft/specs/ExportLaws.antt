@@ -5,7 +5,7 @@ use Prim.Native.Nat.{ℕ}
 use lib.IntN.{ℤ}
 use lib.Ieee.{Float}
 use Rattle.admission.specs.Calls.{SoftCall}
-use Rattle.decode_soft.specs.SoftLaws.{soft-unique}
+use Rattle.decode_soft.specs.SoftAnswerLaws.{soft-unique}
 use Rattle.flat.specs.declared.flat.FlatAnswer.{FlatAnswer}
 use Rattle.flat.specs.Flat.{flat}
 use Rattle.export_soft.specs.Exports.{SoftFlat}

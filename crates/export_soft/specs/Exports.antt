@@ -6,7 +6,7 @@ use lib.IntN.{ℤ}
 use lib.Ieee.{Float}
 use Rattle.admission.specs.Calls.{SoftCall}
 use Rattle.answer.specs.declared.Answer.{Answer}
-use Rattle.decode_soft.specs.Soft.{SoftDone}
+use Rattle.decode_soft.specs.SoftAnswer.{SoftDone}
 use Rattle.flat.specs.declared.flat.FlatAnswer.{FlatAnswer}
 use Rattle.flat.specs.Flat.{flat}
 

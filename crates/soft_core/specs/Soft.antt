@@ -6,7 +6,6 @@ use Prim.Native.Nat.{ℕ, _+_, _*_, _%_}
 use lib.ListN.{getD, length}
 use lib.IntN.{ℤ, pos}
 use lib.Ieee.{Float, nan, binary32, add, div, ofInt}
-use Rattle.laws.specs.Words.{zeroF}
 use Rattle.laws.specs.Cleared.{SameBeyond}
 use Rattle.board.specs.Hits.{EdgeList, Board, size}
 use Rattle.board.specs.Sides.{periodOf}
@@ -15,7 +14,6 @@ use Rattle.sums.specs.Sums.{Likelihoods}
 use Rattle.refusals.specs.Numbers as why
 use Rattle.room.specs.Room.{tablesRoom, sumsRoom}
 use Rattle.admission.specs.Calls.{HardCall, SoftCall}
-use Rattle.admission.specs.Refusals.{softAdmission}
 use Rattle.scan.specs.declared.scan.Candidate.{Candidate}
 use Rattle.scan.specs.declared.scan.RunnerUp.{RunnerUp}
 use Rattle.hard.specs.declared.select.Selection.{Selection}
@@ -37,7 +35,6 @@ use Rattle.answer.specs.declared.Answer.{Answer}
 use Rattle.answer.specs.declared.Answer.the-variants.{Found, Refused}
 use Rattle.verdict.specs.Verdict.{refusedBy, pick, whenAccepted}
 use Rattle.soft_verdict.specs.SoftVerdict.{softVerdict, softDecodedOf, bestOf}
-use Rattle.demand.specs.Left.{left}
 
 -- ---- the physical list's figures
 -- the two cells of an origin, added: counts, and weights rounded once
@@ -74,19 +71,6 @@ module _ (call : HardCall) where
 unfoldable pub softCore : SoftCall → Answer
 unfolding softJudged
 softCore call = pick (noConfidence (call .hard .physical)) (refusedBy why.noConfidence) (afterSoft (call .hard) (call .soft-margin) (softSelection (call .hard .board) (call .hard .physical) (call .likelihoods) (call .hard .transforms)))
-
--- the answer for all inputs: the early refusals come first
-unfoldable pub softAnswer : SoftCall → ℕ → ℕ → ℕ → Answer
-unfolding softCore
-softAnswer call m n k =
-    whenAccepted (softAdmission call m n k) (softCore call)
-
--- what soft decode promises for all inputs: the answer, and the three room slices at exit
-pub record SoftDone (call : SoftCall) (c c' : List ℕ) (w w' : List Float) (a a' : List ℤ) (r : Answer) : Type 0 where
-  pub answer : r ≡ softAnswer call (length c) (length w) (length a)
-  pub counts : c' ≡ left 0 (tablesRoom (call .hard .board)) (softAdmission call (length c) (length w) (length a)) c
-  pub weights : w' ≡ left zeroF (tablesRoom (call .hard .board)) (softAdmission call (length c) (length w) (length a)) w
-  pub sums : a' ≡ left (pos 0) (sumsRoom (call .hard .board)) (softAdmission call (length c) (length w) (length a)) a
 
 -- ---- what the steps between leave
 pub record FitDone (B : Board) (E : EdgeList) (t row col : ℕ) (c c' : List ℕ) (w w' : List Float) (r : Fit) : Type 0 where

@@ -18,12 +18,12 @@ use Rattle.margin.specs.Margin.{belowMargin}
 use Rattle.sums.specs.Sums.{LikelihoodsOk}
 use Rattle.demand.specs.Late.{LogicalKept, SameSquare}
 use Rattle.demand.specs.OneSelection.{Winner}
-use Rattle.decode_soft.specs.Soft.{softCore}
-use Rattle.decode_soft.specs.SoftDemand.{total, marginOf, SecondByLikelihood}
-use Rattle.decode_soft.specs.SoftPlaces.{first-once, second-total}
-use Rattle.decode_soft.specs.SoftLate.{OwnMargin, SoftWinnersDiffer, SoftNoneAhead, SoftLate}
-use Rattle.decode_soft.specs.SoftTheorems.{places-exist}
-use Rattle.decode_soft.specs.SoftNumbers.{Q, R, SoftHardDisagree, SoftNotAhead, soft-10, soft-11, soft-13, soft-14, soft-15}
+use Rattle.soft_core.specs.Soft.{softCore}
+use Rattle.soft_core.specs.SoftDemand.{total, marginOf, SecondByLikelihood}
+use Rattle.soft_core.specs.SoftPlaces.{first-once, second-total}
+use Rattle.soft_core.specs.SoftLate.{OwnMargin, SoftWinnersDiffer, SoftNoneAhead, SoftLate}
+use Rattle.soft_core.specs.SoftTheorems.{places-exist}
+use Rattle.soft_core.specs.SoftNumbers.{Q, R, SoftHardDisagree, SoftNotAhead, soft-10, soft-11, soft-13, soft-14, soft-15}
 
 module _ (call : SoftCall) (m n o : ℕ) (A : SoftAccepted call m n o) where
   abbrev first : Placing

@@ -11,10 +11,10 @@ use Rattle.board.specs.Hits.{edges, tables, size}
 use Rattle.admission.specs.Calls.{SoftCall, softCall}
 use Rattle.likelihood.specs.Likelihood.{likelihoods}
 use Rattle.figures.specs.Figures.{totalConfidence}
-use Rattle.decode_soft.specs.SoftLaws.{ready-soft, first-listed, choice-told, core-none, core-nothing, core-below, core-logical}
+use Rattle.soft_core.specs.SoftLaws.{ready-soft, first-listed, choice-told, core-none, core-nothing, core-below, core-logical}
 use borrow.Author.Needs.{needs}
-use Rattle.decode_soft.proofs.soft_core.Statement.{statement}
-use Rattle.decode_soft.proofs.soft_core.Tie as tie
+use Rattle.soft_core.proofs.soft_core.Statement.{statement}
+use Rattle.soft_core.proofs.soft_core.Tie as tie
 
 -- what the function was given
 module _ (s : tie.Start) where

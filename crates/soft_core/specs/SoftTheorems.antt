@@ -49,13 +49,13 @@ use Rattle.answer.specs.declared.Answer.{Answer}
 use Rattle.answer.specs.declared.Answer.the-variants.{Found, Refused}
 use Rattle.verdict.specs.Verdict.{refusedBy, pick, whenAccepted}
 use Rattle.soft_verdict.specs.SoftVerdict.{softVerdict, softDecodedOf, bestOf}
-use Rattle.decode_soft.specs.Soft.{cellFit, fitOf, softJudged, afterHard, afterSoft, softCore}
-use Rattle.decode_soft.specs.SoftLaws.{likelihoods-ok}
+use Rattle.soft_core.specs.Soft.{cellFit, fitOf, softJudged, afterHard, afterSoft, softCore}
+use Rattle.soft_core.specs.SoftLaws.{likelihoods-ok}
 use Rattle.demand.specs.Demand.{OnBoard, Same, Leads, RunsUp, Names}
 use Rattle.demand.specs.DemandLaws.{keyOf, placing, placing-on, key-same, key-back, row-back, col-back, leads-sole}
 use Rattle.verdict.specs.VerdictTheorems.{never-both}
-use Rattle.decode_soft.specs.SoftDemand.{total, withTotal, marginOf, FirstByLikelihood, SecondByLikelihood, BestByLikelihood, SoftAnswered}
-use Rattle.decode_soft.specs.SoftPlaces.{first-once, best-by-rows, second-total}
+use Rattle.soft_core.specs.SoftDemand.{total, withTotal, marginOf, FirstByLikelihood, SecondByLikelihood, BestByLikelihood, SoftAnswered}
+use Rattle.soft_core.specs.SoftPlaces.{first-once, best-by-rows, second-total}
 use Rattle.demand.specs.Winners.{runnerAt, winner-on, winner-leads, winner-hits, named, runner-hits, runs-up}
 
 -- ---- the verdict

@@ -25,7 +25,7 @@ use Rattle.soft.specs.SelectLaws.{scoreAtKey}
 use Rattle.soft.specs.TotalLaws.{total-level, score-small}
 use Rattle.demand.specs.Demand.{OnBoard, Same}
 use Rattle.demand.specs.DemandLaws.{keyOf, placing, key-below, placing-on, row-back, col-back, same-key, key-same}
-use Rattle.decode_soft.specs.SoftDemand.{wholeSum, total, FirstByLikelihood, SecondByLikelihood, BestByLikelihood}
+use Rattle.soft_core.specs.SoftDemand.{wholeSum, total, FirstByLikelihood, SecondByLikelihood, BestByLikelihood}
 
 -- ---- row by row, by one number: w columns
 row-before : (w r c row col : ℕ) → c < w → (r < row) ⊎ ((r ≡ row) × (c < col)) → r * w + c < row * w + col

@@ -33,9 +33,9 @@ use Rattle.verdict.specs.Verdict.{refusedBy, pick, whenAccepted}
 use Rattle.soft_verdict.specs.SoftVerdict.{softVerdict, softDecodedOf, bestOf}
 use Rattle.demand.specs.OneSelection.{NoneWithinLimit, SomeWithinLimit, NoneLeads, Winner, Ended, ended, none-refused, within-refused, some-winner, winner-some}
 use Rattle.demand.specs.Winners.{winner-leads}
-use Rattle.decode_soft.specs.SoftDemand.{withTotal, marginOf, BestByLikelihood}
-use Rattle.decode_soft.specs.Soft.{fitOf, softJudged, afterHard, afterSoft, softCore}
-use Rattle.decode_soft.specs.SoftTheorems.{own-best, own-exists, first-placing, second-placing}
+use Rattle.soft_core.specs.SoftDemand.{withTotal, marginOf, BestByLikelihood}
+use Rattle.soft_core.specs.Soft.{fitOf, softJudged, afterHard, afterSoft, softCore}
+use Rattle.soft_core.specs.SoftTheorems.{own-best, own-exists, first-placing, second-placing}
 use Rattle.demand.specs.Answers.{apart, found-not}
 
 module _ (call : SoftCall) (m n o : ℕ) (A : SoftAccepted call m n o) where

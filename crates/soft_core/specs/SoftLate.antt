@@ -10,7 +10,7 @@ use Rattle.answer.specs.declared.Answer.{Answer}
 use Rattle.verdict.specs.Verdict.{refusedBy}
 use Rattle.demand.specs.Late.{Exactly, LogicalKept, SameSquare}
 use Rattle.demand.specs.OneSelection.{NoneWithinLimit, NoneLeads}
-use Rattle.decode_soft.specs.SoftDemand.{marginOf, FirstByLikelihood, SecondByLikelihood}
+use Rattle.soft_core.specs.SoftDemand.{marginOf, FirstByLikelihood, SecondByLikelihood}
 
 -- the physical list has confidence, and the margin of its own best placing is below the soft margin, or is not
 pub record OwnMargin (call : SoftCall) (below : Bool) : Type 0 where

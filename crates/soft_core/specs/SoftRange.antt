@@ -24,10 +24,10 @@ use Rattle.admission.specs.Accepted.{SoftAccepted}
 use Rattle.answer.specs.declared.Decoded.{Decoded}
 use Rattle.answer.specs.declared.Answer.the-variants.{Found}
 use Rattle.demand.specs.FoundRange.{FloatsFinite, AnswerInRange, on-flat-board}
-use Rattle.decode_soft.specs.Soft.{cellFit, fitOf, softCore}
-use Rattle.decode_soft.specs.SoftLaws.{likelihoods-ok}
-use Rattle.decode_soft.specs.SoftDemand.{wholeSum, total, withTotal, marginOf}
-use Rattle.decode_soft.specs.SoftTheorems.{fit-hits, found-by, soft-sound}
+use Rattle.soft_core.specs.Soft.{cellFit, fitOf, softCore}
+use Rattle.soft_core.specs.SoftLaws.{likelihoods-ok}
+use Rattle.soft_core.specs.SoftDemand.{wholeSum, total, withTotal, marginOf}
+use Rattle.soft_core.specs.SoftTheorems.{fit-hits, found-by, soft-sound}
 
 -- its floats
 soft-floats : (call : SoftCall) (m n k : ℕ) (A : SoftAccepted call m n k) (d : Decoded) → softCore call ≡ Found d → FloatsFinite d

@@ -2,12 +2,12 @@
 use crate::picture::put_head;
 use crate::picture::put_picture;
 use answer::Decoded;
-use console::page::blank;
-use console::page::front;
-use console::page::is_whole;
-use console::page::put;
 use console::page::put_argument;
 use console::page::write;
+use slices::page::blank;
+use slices::page::front;
+use slices::page::is_whole;
+use slices::page::put;
 use viewtext::text::is_name;
 use viewtext::view_file::Extent;
 

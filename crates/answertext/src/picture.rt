@@ -7,7 +7,7 @@ use crate::words::put_told;
 use answer::Decoded;
 use answer::Square;
 use console::form::put_wholes;
-use console::page::put;
+use slices::page::put;
 use viewtext::view_file::Extent;
 
 // One side of the outline: where it begins on the board, from 0 to 500, and how many squares it has.

@@ -13,11 +13,11 @@ use crate::words::remark_of;
 use answer::Answer;
 use answer::Decoded;
 use console::form::put_wholes;
-use console::page::put_byte;
 use console::page::put_count;
 use refusals::EdgePlace;
 use refusals::Place;
 use refusals::Refusal;
+use slices::page::put_byte;
 use viewtext::view_file::Settings;
 
 // The transforms that were searched, parted by a byte.

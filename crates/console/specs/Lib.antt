@@ -1,4 +1,2 @@
 pub mod Bits
 pub mod Numeral
-pub mod Page
-pub mod Part

@@ -4,7 +4,7 @@ use mathlib.Core.List.{List}
 use Prim.Native.Nat.{ℕ, _+_}
 use lib.ListN.{length}
 use Rattle.io.specs.Digits.{digits, Fewest}
-use Rattle.console.specs.Page.{taken, written}
+use Rattle.slices.specs.Page.{taken, written}
 
 -- the page q is the page p with the number n on it from a place on, in base b, in the fewest digits that hold it and no fewer than `least`, as many of them as find room; r is where they end
 pub record PutNumber (b least n : ℕ) (p : List ℕ) (at : ℕ) (q : List ℕ) (r : ℕ) : Type 0 where

@@ -1,10 +1,10 @@
 // Text with numbers in it, by one call. In a form `%` stands for the next whole number, `@` for the line of a text of phrases that the next whole number names (from
 // 0 on), `~` for the next float as a decimal, and `^` for the next float by its bits; every other byte stands for itself. Where the numbers are used up, a mark puts
 // nothing.
-use crate::page::put_byte;
 use crate::page::put_count;
 use crate::page::put_float;
 use crate::print::put_bits;
+use slices::page::put_byte;
 
 // How far a form is put: where the text ends, and how many whole numbers and floats are used.
 struct Reach {

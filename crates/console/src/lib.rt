@@ -1,5 +1,4 @@
-// Text for people, and the parts of columns that programs pass on. It knows no board and no decoder.
-pub mod page; // text put together before it is written
+// Text for people. It knows no board and no decoder.
+pub mod page; // numbers put on a page, and a page written
 pub mod form; // text with numbers in it
 pub mod print; // text, numbers and floats written at once
-pub mod part; // parts of columns and of lent room

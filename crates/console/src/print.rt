@@ -2,11 +2,11 @@
 ghost use mathlib.Core.Path.{_≡_};
 ghost use Rattle.console.specs.Bits.{bitsOf};
 use crate::form::put_form;
-use crate::page::blank;
-use crate::page::put;
 use crate::page::put_word;
 use crate::page::write;
 use libc::STDOUT_FILENO;
+use slices::page::blank;
+use slices::page::put;
 
 // Text as it is.
 pub fn print(text: &[u8]) {

@@ -1,8 +1,8 @@
 // What the command says of itself.
-use console::page::blank;
-use console::page::put;
 use console::page::say;
 use console::page::write;
+use slices::page::blank;
+use slices::page::put;
 
 // How it is used, in one line.
 fn put_use(page: &mut [u8; 32768], at: usize) -> usize {

@@ -11,12 +11,12 @@ use crate::columns::SIXTH;
 use crate::columns::Sizes;
 use crate::columns::THIRD;
 use crate::selection::select;
-use console::part::part_f32;
-use console::part::part_i32;
-use console::part::part_u8;
-use console::part::room_f32;
-use console::part::room_i64;
-use console::part::room_u32;
+use slices::part::part_f32;
+use slices::part::part_i32;
+use slices::part::part_u8;
+use slices::part::room_f32;
+use slices::part::room_i64;
+use slices::part::room_u32;
 
 // How much room a call is lent.
 pub struct Room {

@@ -2,11 +2,11 @@
 // 0 cases, 1 cases that differ, 2 cases in which the Rust does not tell 13 from 15.
 use console::form::put_form;
 use console::form::put_wholes;
-use console::page::blank;
-use console::page::put;
-use console::page::put_byte;
 use console::page::put_word;
 use console::page::say;
+use slices::page::blank;
+use slices::page::put;
+use slices::page::put_byte;
 
 // One more at a place.
 fn bump(tally: &mut [u32; 96], at: usize) {

@@ -1,8 +1,8 @@
 // The decoder called on what the files gave. One list serves for both where the view has only one; where the physical list has log likelihoods, decode is soft.
 use answer::Answer;
-use console::part::part_f32;
-use console::part::part_i32;
-use console::part::part_u8;
+use slices::part::part_f32;
+use slices::part::part_i32;
+use slices::part::part_u8;
 use viewtext::view_file::View;
 use viewtext::view_file::list_of;
 

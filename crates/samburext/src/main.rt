@@ -5,8 +5,10 @@ use answer::Answer;
 use answertext::map;
 use answertext::telling;
 use console::form;
-use console::page;
+use console::page::put_argument;
+use console::page::say;
 use options::args::Options;
+use slices::page;
 use viewfiles::files;
 use viewtext::view_file;
 use viewtext::view_file::View;
@@ -39,7 +41,7 @@ fn put_map(page: &mut [u8; 32768], at: usize, state: u32, i: usize) -> usize {
         );
     }
     let n = page::put(page, at, b"  map          ");
-    let n = page::put_argument(page, n, i);
+    let n = put_argument(page, n, i);
     page::put_byte(page, n, b'\n')
 }
 
@@ -62,7 +64,7 @@ fn tell(o: Options, a: Answer, view: View, found: bool) {
         let n = telling::put_answer(&mut room, 0, a, settings, soft);
         put_map(&mut room, n, state, o.map)
     };
-    page::say(&room, n);
+    say(&room, n);
 }
 
 // The answer with its picture, if one is asked for. Where the picture cannot be written, no answer is given.

@@ -1,12 +1,12 @@
 // The message of a file that is at fault.
 use console::form::put_form;
 use console::form::put_wholes;
-use console::page::blank;
-use console::page::put;
 use console::page::put_argument;
-use console::page::put_byte;
 use console::page::write;
 use libc::STDERR_FILENO;
+use slices::page::blank;
+use slices::page::put;
+use slices::page::put_byte;
 use viewtext::text::Word;
 use viewtext::text::byte_after;
 use viewtext::text::line_of;

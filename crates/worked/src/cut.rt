@@ -197,13 +197,13 @@ pub(crate) fn repeat(xs: &mut [f32; 8193], eight: &[f32; 8]) {
 
 // The first n elements of a column; one function for each type.
 pub(crate) fn front_i32(xs: &[i32; 8193], n: usize) -> &[i32] {
-    console::part::front_i32(xs, n)
+    slices::part::front_i32(xs, n)
 }
 
 pub(crate) fn front_u8(xs: &[u8; 8193], n: usize) -> &[u8] {
-    console::part::front_u8(xs, n)
+    slices::part::front_u8(xs, n)
 }
 
 pub(crate) fn front_f32(xs: &[f32; 8193], n: usize) -> &[f32] {
-    console::part::front_f32(xs, n)
+    slices::part::front_f32(xs, n)
 }

@@ -5,7 +5,6 @@ use answer::Answer;
 use answer::Decoded;
 use answer::StatsAnswer;
 use console::form::put_line;
-use console::page::blank;
 use console::page::say;
 use console::print::print;
 use console::print::print_form;
@@ -15,6 +14,7 @@ use refusals::Admission;
 use refusals::ListName;
 use refusals::Place;
 use refusals::Refusal;
+use slices::page::blank;
 
 // Line k of a text, counted from 0.
 pub(crate) fn print_line(lines: &[u8], k: u32) {

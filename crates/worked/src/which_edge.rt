@@ -5,11 +5,11 @@ use crate::print::print_stats;
 use answer::StatsAnswer;
 use console::form::put_line;
 use console::form::put_wholes;
-use console::page::blank;
-use console::page::put;
 use console::page::say;
 use console::print::print;
 use refusals::Admission;
+use slices::page::blank;
+use slices::page::put;
 
 // A bad edge: the field that is bad (1 row, 2 column, 3 orientation, 4 bit, 5 confidence, 6 and 7 likelihood of a match and of a mismatch; 0 for no bad edge), the
 // list (1 logical, 2 physical) and the position.

@@ -45,7 +45,7 @@ fn show<'a>(
         o,
         front_u8(pbits, n),
         front_f32(pconfidences, n),
-        console::part::front_u8(transforms, listed),
+        slices::part::front_u8(transforms, listed),
         h,
         v,
         limit,

@@ -4,9 +4,9 @@ use Prim.Native.Nat.{_+_, _-_}
 use mathlib.Core.Path.{ap}
 use Prim.Native.Nat.{ℕ}
 use native.Mathlib.Omega.{arith}
-use Rattle.console.specs.Page.{Putting, none-put, one-put, all-put}
-use Rattle.console.proofs.page.put.Statement.{statement}
-use Rattle.console.proofs.page.put.Tie as tie
+use Rattle.slices.specs.Page.{Putting, none-put, one-put, all-put}
+use Rattle.slices.proofs.page.put.Statement.{statement}
+use Rattle.slices.proofs.page.put.Tie as tie
 
 abbrev Inv-loop : tie.InvT-loop
 Inv-loop page₀ at text k i₀ page i = Putting page₀ text at k i page

@@ -1,9 +1,9 @@
--- `part_i32`: what is asked for is there, or it is not.
+-- `part_f32`: what is asked for is there, or it is not.
 use native.Mathlib.Omega.{arith}
-use Rattle.console.specs.Part.{part-none, part-some}
+use Rattle.slices.specs.Part.{part-none, part-some}
 use borrow.Author.Needs.{needs}
-use Rattle.console.proofs.part.part_i32.Statement.{statement}
-use Rattle.console.proofs.part.part_i32.Tie as tie
+use Rattle.slices.proofs.part.part_f32.Statement.{statement}
+use Rattle.slices.proofs.part.part_f32.Tie as tie
 
 slice-aggregate-result : tie.Need-slice-aggregate-result
 slice-aggregate-result c = search needs
@@ -38,8 +38,8 @@ part-result-end c = search needs
 returns-3 : tie.Need-returns-3
 returns-3 c = let s = c .before .before .before .args in part-some (s .xs .now) (s .from) (s .n) (omega arith)
 
-pub part-i32-spec : {M : Type 1} → statement M
-part-i32-spec =
+pub part-f32-spec : {M : Type 1} → statement M
+part-f32-spec =
     tie.close
     (tie.spec
     slice-aggregate-result

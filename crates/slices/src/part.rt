@@ -1,7 +1,7 @@
 // Parts of columns and of lent room, one function for each type.
 ghost use mathlib.Core.Path.{_≡_};
 ghost use lib.ListN.{take};
-ghost use Rattle.console.specs.Part.{part};
+ghost use Rattle.slices.specs.Part.{part};
 
 // The first n elements, or all where there are fewer.
 pub fn front_i32(xs: &[i32], n: usize) -> &[i32]

@@ -22,7 +22,8 @@ use Rattle.refusals.specs.declared.ListName.{ListName}
 use Rattle.refusals.specs.declared.ListName.the-variants as list
 use Rattle.refusals.specs.Numbers as why
 use Rattle.room.specs.Room.{flatTables, flatSums, tablesRoom, sumsRoom, flat-room}
-use Rattle.checks.specs.Checks.{far, farAt, badCoordinate, badByte, inRange, marginTop, badConfidence, badLikelihood, firstBadCoordinate, firstBadByte, firstBadConfidence, firstBadLikelihood, lengthsDiffer, sizeBad, likelihoodsDiffer, transformsBad, tableBad, originBad}
+use Rattle.checks.specs.Checks.{far, farAt, badCoordinate, badLikelihood, firstBadCoordinate, firstBadLikelihood, lengthsDiffer, sizeBad, likelihoodsDiffer, originBad}
+use Rattle.ranges.specs.Ranges.{badByte, inRange, marginTop, badConfidence, firstBadByte, firstBadConfidence, transformsBad, tableBad}
 use Rattle.findings.specs.Findings.{joined, roomFindings, listFindings, likelihoodFindings, settingsFindings}
 use Rattle.findings.specs.FindingsLaws.{Clean, clean-of, clean-parts, clean-joined, if-accepted, at-accepted}
 use Rattle.admission.specs.Calls.{HardCall, SoftCall}

@@ -23,7 +23,8 @@ use Rattle.likelihood.specs.LikelihoodLaws.{Within, acceptable-within, within-a
 use Rattle.refusals.specs.declared.Admission.the-variants.{Accepted}
 use Rattle.refusals.specs.declared.ListName.the-variants as list
 use Rattle.room.specs.Room.{flatTables, flatSums}
-use Rattle.checks.specs.Checks.{far, farAt, badCoordinate, badByte, inRange, marginTop, badConfidence, badLikelihood, firstBadCoordinate, firstBadByte, firstBadConfidence, firstBadLikelihood, lengthsDiffer, sizeBad, likelihoodsDiffer, transformsBad, tableBad, originBad}
+use Rattle.checks.specs.Checks.{far, farAt, badCoordinate, badLikelihood, firstBadCoordinate, firstBadLikelihood, lengthsDiffer, sizeBad, likelihoodsDiffer, originBad}
+use Rattle.ranges.specs.Ranges.{badByte, inRange, marginTop, badConfidence, firstBadByte, firstBadConfidence, transformsBad, tableBad}
 use Rattle.findings.specs.Findings.{joined, roomFindings, listFindings, likelihoodFindings, settingsFindings}
 use Rattle.findings.specs.FindingsLaws.{Clean, of-clean, clean-joined}
 use Rattle.admission.specs.Calls.{HardCall, SoftCall}

@@ -10,7 +10,8 @@ use Rattle.refusals.specs.declared.Refusal.{Refusal}
 use Rattle.refusals.specs.declared.Admission.the-variants.{Refused}
 use Rattle.refusals.specs.declared.ListName.{ListName}
 use Rattle.refusals.specs.declared.ListName.the-variants as list
-use Rattle.checks.specs.Checks.{inRange, transformsBad, originBad}
+use Rattle.checks.specs.Checks.{originBad}
+use Rattle.ranges.specs.Ranges.{inRange, transformsBad}
 use Rattle.findings.specs.Findings.{joined, roomFindings, listFindings, settingsFindings}
 use Rattle.findings.specs.Places.{twoLists, oneList, noLikelihoods, unlikelyIn, counted, badIn, PlaceRight}
 use Rattle.findings.specs.PlacesLaws.{of-refusal, of-found, each-joined, each-room, each-settings, each-lists, each-likelihoods, each-list}

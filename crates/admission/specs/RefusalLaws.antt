@@ -16,7 +16,8 @@ use Rattle.refusals.specs.declared.ListName.the-variants as list
 use Rattle.refusals.specs.Numbers.{edgeRefusal}
 use Rattle.refusals.specs.Numbers as why
 use Rattle.refusals.specs.Order.{earlier}
-use Rattle.checks.specs.Checks.{inRange, transformsBad, originBad}
+use Rattle.checks.specs.Checks.{originBad}
+use Rattle.ranges.specs.Ranges.{inRange, transformsBad}
 use Rattle.findings.specs.Findings.{refusedIf, refusedAt, Findings, firstFound, joined, roomFindings, listFindings, likelihoodFindings, settingsFindings}
 use Rattle.findings.specs.FindingsLaws.{room-found}
 use Rattle.findings.specs.Joined.{Sorted, sorted-joined, first-joined, found-early, sorted-room, sorted-list, sorted-likelihoods, sorted-settings}

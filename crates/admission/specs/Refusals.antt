@@ -7,7 +7,8 @@ use Rattle.board.specs.Hits.{EdgeList, Board, size}
 use Rattle.refusals.specs.declared.Admission.{Admission}
 use Rattle.refusals.specs.declared.ListName.the-variants as list
 use Rattle.room.specs.Room.{flatTables, flatSums}
-use Rattle.checks.specs.Checks.{inRange, marginTop, transformsBad, tableBad, originBad}
+use Rattle.checks.specs.Checks.{originBad}
+use Rattle.ranges.specs.Ranges.{inRange, marginTop, transformsBad, tableBad}
 use Rattle.findings.specs.Findings.{Findings, firstFound, joined, roomFindings, listFindings, likelihoodFindings, settingsFindings}
 use Rattle.admission.specs.Calls.{HardCall, SoftCall}
 

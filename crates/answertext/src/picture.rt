@@ -18,7 +18,7 @@ struct Span {
 
 // The matrix of a transform, as the board has it.
 fn matrix_of(t: u32) -> [[i32; 2]; 2] {
-    board::transform::matrix_of((t % 8) as u8)
+    lookup::matrix_of((t % 8) as u8)
 }
 
 // The squares of the board that the view's coordinates from low to high cover at an origin, along one side. The coordinates are counted from -1,000,000; a multiple

@@ -11,7 +11,7 @@ use Rattle.laws.specs.Words.{count, emod}
 use Rattle.answer.specs.declared.Square.{Square}
 use Rattle.board.specs.declared.edge.Edge.{Edge}
 use Rattle.board.specs.declared.edge.Placing.{Placing}
-use Rattle.board.specs.declared.transform.EdgeLookup.{EdgeLookup}
+use Rattle.board.specs.declared.edge.EdgeLookup.{EdgeLookup}
 use Rattle.board.specs.Transform.{lookupOf}
 
 -- an edge list, a list for each field

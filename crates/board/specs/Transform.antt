@@ -7,7 +7,7 @@ use lib.Dec.{eqb}
 use lib.IntN.{ℤ, pos, negsuc, _+ℤ_, _-ℤ_, _*ℤ_}
 use lib.Signed.{ltZ}
 use Rattle.laws.specs.Words.{eqZ}
-use Rattle.board.specs.declared.transform.EdgeLookup.{EdgeLookup}
+use Rattle.board.specs.declared.edge.EdgeLookup.{EdgeLookup}
 
 -- "The numbering is ours: 0 [[1,0],[0,1]]; 1 [[0,-1],[1,0]]; .." (-1 is `negsuc 0`)
 unfoldable pub matrices : List (List (List ℤ))

@@ -11,7 +11,7 @@ use lib.IntN.{ℤ, pos, sucℤ, natAbs, _+ℤ_, _-ℤ_, _*ℤ_, +ℤ-one, +ℤ-a
 use lib.Signed.{ltZ}
 use Rattle.laws.specs.Words.{eqZ}
 use Rattle.laws.specs.Whole.{abs-add, abs-sub, abs-mul, eq-eqZ, ne-eqZ}
-use Rattle.board.specs.declared.transform.EdgeLookup.{EdgeLookup}
+use Rattle.board.specs.declared.edge.EdgeLookup.{EdgeLookup}
 use Rattle.board.specs.Transform.{mat, matrices, mapped, lookupOfEnds, joined, lookupOf}
 
 -- ---- what holds of every element of a list and of the default holds of `getD`

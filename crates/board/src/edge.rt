@@ -1,4 +1,4 @@
-// What a call speaks of, by value: an edge as the camera saw it, and a placing of a list.
+// What a call speaks of, by value: an edge as the camera saw it, where it is looked up, and a placing of a list.
 ghost use mathlib.Core.Path.{_≡_};
 ghost use mathlib.Core.List.{[]};
 ghost use Prim.Native.Nat.{_<_};
@@ -11,6 +11,13 @@ pub struct Edge {
     pub col: i32,
     pub orientation: u8,
     pub bit: u8,
+}
+
+// Where an edge is looked up: its orientation after the transform (0 horizontal, 1 vertical), and the cell relative to the origin.
+pub struct EdgeLookup {
+    pub orientation: u8,
+    pub row: i32,
+    pub col: i32,
 }
 
 // A position in the transform list, from 0, with an origin on the board.

@@ -1,13 +1,13 @@
--- Document 01, 'Numbers that bound the domain': what is out of range, and where in a list it first is.
-use mathlib.Core.Bool.{Bool, false, not, _||_, _&&_}
+-- Document 01, 'Numbers that bound the domain': what of a list is out of range, and where it first is.
+use mathlib.Core.Bool.{Bool, not, _||_, _&&_}
 use mathlib.Core.List.{List}
 use Prim.Native.Nat.{ℕ}
 use lib.Dec.{ltb, eqb}
 use lib.ListN.{getD, length}
 use lib.IntN.{ℤ, pos, negsuc}
 use lib.Signed.{ltZ}
-use lib.Ieee.{Float, nan, fin, le}
-use Rattle.laws.specs.Words.{first, zeroF, oneF}
+use lib.Ieee.{Float, nan}
+use Rattle.laws.specs.Words.{first}
 use Rattle.board.specs.Hits.{EdgeList, size}
 use Rattle.likelihood.specs.Likelihood.{acceptable}
 
@@ -26,26 +26,6 @@ badCoordinate rows cols i = farAt rows i || farAt cols i
 -- the first such edge, or the length where there is none
 unfoldable pub firstBadCoordinate : List ℤ → List ℤ → ℕ
 firstBadCoordinate rows cols = first (badCoordinate rows cols) (length rows)
-
--- "Orientation code is 0 horizontal, 1 vertical. Bit is 0 or 1.", transform numbers and table bytes "each 0 to 7": a byte above top
-abbrev pub badByte : ℕ → List ℕ → ℕ → Bool
-badByte top xs i = ltb top (getD xs i 0)
-
--- the first such place, or the length where there is none
-unfoldable pub firstBadByte : ℕ → List ℕ → ℕ
-firstBadByte top xs = first (badByte top xs) (length xs)
-
--- a number from 0 to top: no NaN is one, and -0 is
-unfoldable pub inRange : Float → Float → Bool
-inRange top x = le zeroF x && le x top
-
--- "Confidence is an f32 from 0 to 1. Negative zero counts as 0."
-abbrev pub badConfidence : List Float → ℕ → Bool
-badConfidence xs i = not (inRange oneF (getD xs i nan))
-
--- the first such edge, or the length where there is none
-unfoldable pub firstBadConfidence : List Float → ℕ
-firstBadConfidence xs = first (badConfidence xs) (length xs)
 
 -- "Each log likelihood is a finite f32 from -65,536 to 65,536": past the end there is none
 abbrev pub unlikelyAt : List Float → ℕ → Bool
@@ -72,18 +52,6 @@ sizeBad least n = ltb n least || ltb 8192 n
 -- the likelihood slices of a list of n edges differ from it in length
 unfoldable pub likelihoodsDiffer : ℕ → List Float → List Float → Bool
 likelihoodsDiffer n ms us = not (eqb n (length ms) && eqb n (length us))
-
--- "transform count or number out of range": 1 to 8 transform numbers, each 0 to 7
-unfoldable pub transformsBad : List ℕ → Bool
-transformsBad ts = eqb (length ts) 0 || (ltb 8 (length ts) || ltb (firstBadByte 7 ts) (length ts))
-
--- "pattern table length or byte wrong": 167 bytes, each 0 to 7
-unfoldable pub tableBad : List ℕ → Bool
-tableBad ps = not (eqb (length ps) 167) || ltb (firstBadByte 7 ps) (length ps)
-
--- the largest soft margin, 65,536
-abbrev pub marginTop : Float
-marginTop = fin false 1 (pos 16)
 
 -- "An origin given to match statistics: 0 to 500 each way"
 unfoldable pub originBad : ℕ → ℕ → Bool

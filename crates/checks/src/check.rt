@@ -1,8 +1,8 @@
-// The checks behind the early refusals. Each takes every input. A check of a list answers where: the first bad index, or the length.
+// The checks of a list behind the early refusals. Each takes every input. A check of a column answers where: the first bad index, or the length.
 ghost use mathlib.Core.Path.{_≡_};
 ghost use mathlib.Core.Bool.{_||_, not};
 ghost use Rattle.board.specs.Hits.{edges};
-ghost use Rattle.checks.specs.Checks.{far, farAt, badCoordinate, badLikelihood, inRange, unlikelyAt, firstBadCoordinate, firstBadByte, firstBadConfidence, firstBadLikelihood, lengthsDiffer, sizeBad, transformsBad, tableBad};
+ghost use Rattle.checks.specs.Checks.{far, farAt, badCoordinate, badLikelihood, unlikelyAt, firstBadCoordinate, firstBadLikelihood, lengthsDiffer, sizeBad};
 
 // The least and the largest row and column.
 const LEAST: i32 = -1000000;
@@ -11,14 +11,6 @@ const LARGEST: i32 = 1000000;
 
 // How many edges a list may have.
 const MAX_EDGES: usize = 8192;
-
-// How many transforms a call may list, and the last transform and pattern by number.
-const MAX_TRANSFORMS: usize = 8;
-
-const LAST: u8 = 7;
-
-// How many patterns each table of the flat board has.
-const FLAT_PERIOD: usize = 167;
 
 // Whether a coordinate is outside -1,000,000 to 1,000,000.
 fn is_far(x: i32) -> bool
@@ -48,41 +40,6 @@ pub fn first_bad_coordinate(rows: &[i32], cols: &[i32]) -> usize
     let mut i = 0;
     while i < rows.len() {
         if bad_coordinate_at(rows, cols, i) {
-            return i;
-        }
-        i += 1;
-    }
-    i
-}
-
-// The first byte above top, or the length: orientations and bits (top 1), transform numbers and patterns (top 7).
-pub fn first_bad_byte(xs: &[u8], top: u8) -> usize
-    ensures { λ r. ⌜ r ≡ firstBadByte top (now (xs .entry)) ⌝ }
-{
-    let mut i = 0;
-    while i < xs.len() {
-        if top < xs[i] {
-            return i;
-        }
-        i += 1;
-    }
-    i
-}
-
-// Whether x is a number from 0 to top; -0 counts as 0, a NaN is none.
-pub fn in_range(x: f32, top: f32) -> bool
-    ensures { λ r. ⌜ r ≡ inRange top x ⌝ }
-{
-    0.0f32 <= x && x <= top
-}
-
-// The first confidence that is no number from 0 to 1, or the length.
-pub fn first_bad_confidence(xs: &[f32]) -> usize
-    ensures { λ r. ⌜ r ≡ firstBadConfidence (now (xs .entry)) ⌝ }
-{
-    let mut i = 0;
-    while i < xs.len() {
-        if !in_range(xs[i], 1.0f32) {
             return i;
         }
         i += 1;
@@ -148,28 +105,4 @@ pub fn size_bad(least: usize, n: usize) -> bool
     ensures { λ r. ⌜ r ≡ sizeBad least n ⌝ }
 {
     n < least || MAX_EDGES < n
-}
-
-// Whether there are no transforms, more than eight, or one above 7.
-pub fn transforms_bad(transforms: &[u8]) -> bool
-    ensures { λ r. ⌜ r ≡ transformsBad (now (transforms .entry)) ⌝ }
-{
-    let n = transforms.len();
-    if n == 0 {
-        return true;
-    }
-    if MAX_TRANSFORMS < n {
-        return true;
-    }
-    first_bad_byte(transforms, LAST) < n
-}
-
-// Whether a pattern table has not 167 entries, or one above 7.
-pub fn table_bad(patterns: &[u8]) -> bool
-    ensures { λ r. ⌜ r ≡ tableBad (now (patterns .entry)) ⌝ }
-{
-    if patterns.len() == FLAT_PERIOD {
-        return first_bad_byte(patterns, LAST) < FLAT_PERIOD;
-    }
-    true
 }

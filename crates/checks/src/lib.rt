@@ -1,2 +1,2 @@
-// Where one edge, a column, a pattern table or a setting leaves its range.
-pub mod check; // where a list, a table or a setting leaves its range
+// Where a coordinate, a likelihood or the size of a list leaves its range.
+pub mod check; // where a list leaves its range

@@ -9,7 +9,8 @@ use lib.ListN.{replicate}
 use lib.Ieee.{binary32, ofBits, ofFields, add, le, lt, eq, sum, round}
 use Rattle.laws.specs.Words.{firstFrom, first, zeroF, oneF}
 use Rattle.likelihood.specs.Likelihood.{acceptable}
-use Rattle.checks.specs.Checks.{far, badByte, firstBadByte, inRange, marginTop, sizeBad, transformsBad, tableBad, originBad}
+use Rattle.checks.specs.Checks.{far, sizeBad, originBad}
+use Rattle.ranges.specs.Ranges.{badByte, firstBadByte, inRange, marginTop, transformsBad, tableBad}
 use Rattle.admission.specs.Refusals.{roomShort, softRoomShort}
 
 pub record Ranges : Type 0 where

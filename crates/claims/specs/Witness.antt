@@ -23,7 +23,8 @@ use Rattle.sums.specs.Sums.{Likelihoods, likelihoods, score}
 use Rattle.margin.specs.Margin.{belowMargin}
 use Rattle.soft.specs.BestPlacing.{OwnBest}
 use Rattle.soft.specs.SelectLaws.{scoreAtKey}
-use Rattle.checks.specs.Checks.{far, inRange, lengthsDiffer, sizeBad, firstBadCoordinate, firstBadByte, firstBadConfidence}
+use Rattle.checks.specs.Checks.{far, lengthsDiffer, sizeBad, firstBadCoordinate}
+use Rattle.ranges.specs.Ranges.{inRange, firstBadByte, firstBadConfidence}
 use Rattle.admission.specs.Accepted.{list-ok, bytes-ok}
 use Rattle.figures.specs.Figures.{rateOf, noConfidence, confidenceTo}
 use Rattle.scan.specs.Scan.{overLimit}

@@ -161,8 +161,8 @@ pub fn decode_hard<'a>(
                 h: h.len(),
                 v: v.len(),
             });
-            room::clear_u32(counts, used);
-            room::clear_f32(weights, used);
+            clearing::clear_u32(counts, used);
+            clearing::clear_f32(weights, used);
             answer
         }
     }

@@ -43,7 +43,7 @@ pub fn decode_soft<'a>(
         (now (transforms .entry)) (tables (now (h .entry)) (now (v .entry))) «error_limit» «soft_margin»)
         (now (counts .entry)) (now (counts .exit)) (now (weights .entry)) (now (weights .exit)) (now (sums .entry)) (now (sums .exit)) r ⌝ }
 {
-    let admitted = admission::refusal::soft_admission(
+    let admitted = soft_admission::soft_admission(
         lrows,
         lcols,
         lorientations,
@@ -95,9 +95,9 @@ pub fn decode_soft<'a>(
                 v: v.len(),
             };
             let used = room::used_by_tables(periods);
-            room::clear_u32(counts, used);
-            room::clear_f32(weights, used);
-            room::clear_i64(sums, room::used_by_sums(periods));
+            clearing::clear_u32(counts, used);
+            clearing::clear_f32(weights, used);
+            clearing::clear_i64(sums, room::used_by_sums(periods));
             answer
         }
     }

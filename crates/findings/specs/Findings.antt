@@ -13,7 +13,8 @@ use Rattle.refusals.specs.declared.ListName.{ListName}
 use Rattle.refusals.specs.declared.ListName.the-variants as list
 use Rattle.refusals.specs.Numbers.{numbered, edgeRefusal}
 use Rattle.refusals.specs.Numbers as why
-use Rattle.checks.specs.Checks.{lengthsDiffer, sizeBad, likelihoodsDiffer, firstBadCoordinate, firstBadByte, firstBadConfidence, firstBadLikelihood}
+use Rattle.checks.specs.Checks.{lengthsDiffer, sizeBad, likelihoodsDiffer, firstBadCoordinate, firstBadLikelihood}
+use Rattle.ranges.specs.Ranges.{firstBadByte, firstBadConfidence}
 
 -- refused by a number where it applies
 abbrev pub refusedIf : Bool → ℕ → Admission

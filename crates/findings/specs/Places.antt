@@ -13,8 +13,9 @@ use Rattle.refusals.specs.declared.Place.the-variants.{Nowhere, At}
 use Rattle.refusals.specs.declared.ListName.{ListName}
 use Rattle.refusals.specs.declared.ListName.the-variants.{Logical, Physical, Only}
 use Rattle.refusals.specs.Numbers as why
-use Rattle.checks.specs.Checks.{badByte}
+use Rattle.ranges.specs.Ranges.{badByte}
 use Rattle.checks.specs.Checks as check
+use Rattle.ranges.specs.Ranges as range
 
 -- "4 to 6, 16 and 17 carry list and position"
 abbrev pub aboutEdge : ℕ → Bool
@@ -45,7 +46,7 @@ badField n E unlikely i =
     cond (eqb n why.badCoordinate) (check.badCoordinate (E .rows) (E .cols) i)
     (cond (eqb n why.badOrientation) (badByte 1 (E .orientations) i)
     (cond (eqb n why.badBit) (badByte 1 (E .bits) i)
-    (cond (eqb n why.badConfidence) (check.badConfidence (E .confidences) i)
+    (cond (eqb n why.badConfidence) (range.badConfidence (E .confidences) i)
     (cond (eqb n why.badLikelihood) unlikely false))))
 
 -- only the physical list of a soft call has likelihoods

@@ -19,7 +19,8 @@ use Rattle.refusals.specs.declared.ListName.{ListName}
 use Rattle.refusals.specs.declared.ListName.the-variants as list
 use Rattle.refusals.specs.Numbers.{numbered, edgeRefusal}
 use Rattle.refusals.specs.Numbers as why
-use Rattle.checks.specs.Checks.{lengthsDiffer, sizeBad, likelihoodsDiffer, firstBadCoordinate, firstBadByte, firstBadConfidence, firstBadLikelihood}
+use Rattle.checks.specs.Checks.{lengthsDiffer, sizeBad, likelihoodsDiffer, firstBadCoordinate, firstBadLikelihood}
+use Rattle.ranges.specs.Ranges.{firstBadByte, firstBadConfidence}
 use Rattle.findings.specs.Findings.{refusedIf, refusedAt, orElse, firstOf, Findings, firstFound, joined, roomFindings, listFindings, likelihoodFindings, settingsFindings}
 use Rattle.findings.specs.FindingsLaws.{both-accepted, if-accepted, same-length}
 use Rattle.findings.specs.Places.{aboutEdge, twoLists, oneList, unlikelyIn, counted, badIn, FirstBad, PlaceRight}

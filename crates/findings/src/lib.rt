@@ -61,19 +61,19 @@ fn fields_admission(
     let orientation = refused_at(
         refusals::BAD_ORIENTATION,
         list,
-        checks::check::first_bad_byte(orientations, 1),
+        ranges::first_bad_byte(orientations, 1),
         orientations.len(),
     );
     let bit = refused_at(
         refusals::BAD_BIT,
         list,
-        checks::check::first_bad_byte(bits, 1),
+        ranges::first_bad_byte(bits, 1),
         bits.len(),
     );
     let confidence = refused_at(
         refusals::BAD_CONFIDENCE,
         list,
-        checks::check::first_bad_confidence(confidences),
+        ranges::first_bad_confidence(confidences),
         confidences.len(),
     );
     or_else(coordinate, or_else(orientation, or_else(bit, confidence)))

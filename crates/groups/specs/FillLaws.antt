@@ -17,7 +17,7 @@ use Rattle.laws.specs.DoubleCounting.{fold-ext}
 use Rattle.laws.specs.RemainderLaws.{emod-lt}
 use Rattle.laws.specs.Zone.{Zone, zone-none, zone-set}
 use Rattle.board.specs.declared.edge.Edge.{Edge}
-use Rattle.board.specs.declared.transform.EdgeLookup.{EdgeLookup}
+use Rattle.board.specs.declared.edge.EdgeLookup.{EdgeLookup}
 use Rattle.board.specs.Transform.{lookupOf}
 use Rattle.board.specs.Hits.{EdgeList, Board, size, seen, edgeAt, look, horizontal}
 use Rattle.board.specs.Sides.{is, onSide, periodOf, longOf, shortOf}

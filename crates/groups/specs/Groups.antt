@@ -6,7 +6,7 @@ use lib.ListN.{getD}
 use lib.IntN.{ℤ}
 use lib.Ieee.{Float, nan, binary32, add}
 use Rattle.laws.specs.Words.{fold, one, emod, zeroF}
-use Rattle.board.specs.declared.transform.EdgeLookup.{EdgeLookup}
+use Rattle.board.specs.declared.edge.EdgeLookup.{EdgeLookup}
 use Rattle.board.specs.Hits.{EdgeList, Board, size, seen, horizontal}
 use Rattle.board.specs.Sides.{onSide, periodOf, longOf, shortOf}
 

@@ -31,7 +31,7 @@ pub fn group_place(edge: Edge, t: u8, matrix: [[i32; 2]; 2], h: Modulus, v: Modu
     ensures { λ p. ⌜ (p ≡ placeOf (h .n) (v .n) (lookupOf t (edge .row) (edge .col) (edge .orientation)) (edge .bit)) × (p < (h .n + v .n) * 6) ⌝ }
 {
     let bit = edge.bit;
-    let l = board::transform::transform_edge_lookup(t, matrix, edge);
+    let l = lookup::transform_edge_lookup(t, matrix, edge);
     let r = l.row;
     let c = l.col;
     if l.orientation == 0 {
@@ -57,7 +57,7 @@ pub fn fill_groups(
     requires { ⌜ FillReady (periods .h) (periods .v) (edges (now rows) (now cols) (now orientations) (now bits) (now confidences)) t base (now counts) (now weights) ⌝ }
     ensures { λ _. ⌜ Filled (periods .h) (periods .v) (edges (now (rows .entry)) (now (cols .entry)) (now (orientations .entry)) (now (bits .entry)) (now (confidences .entry))) t base (length (now (rows .entry))) (now (counts .entry)) (now (counts .exit)) (now (weights .entry)) (now (weights .exit)) ⌝ }
 {
-    let matrix = board::transform::matrix_of(t);
+    let matrix = lookup::matrix_of(t);
     let h = laws::modulus_of(periods.h as u32);
     let v = laws::modulus_of(periods.v as u32);
     for i in 0..rows.len() {

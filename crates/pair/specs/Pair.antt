@@ -10,8 +10,8 @@ use lib.ListN.{length}
 use lib.Signed.{ltZ}
 use Rattle.laws.specs.Words.{Grid}
 use Rattle.grid.specs.RowMajor.{rowMajor}
-use Rattle.pair.specs.Level.{sAt, tiedSum, levelBest, levelOf}
-use Rattle.pair.specs.declared.level.LevelMax.{LevelMax}
+use Rattle.level.specs.Level.{sAt, tiedSum, levelBest, levelOf}
+use Rattle.level.specs.declared.LevelMax.{LevelMax}
 use Rattle.pair.specs.declared.pair.TwoBest.{TwoBest}
 
 -- what two tables of 3 L and 3 M cells say: cells inside, and sums that stay small

@@ -21,13 +21,13 @@ use Rattle.best.specs.CellTables.{Period}
 use Rattle.grid.specs.RowMajor.{rowMajor}
 use Rattle.grid.specs.RowMajorLaws.{major-none, major-only}
 use Rattle.grid.specs.BoardGrid.{grid, none-small}
-use Rattle.pair.specs.Level.{sAt, tiedSum, levelBest, levelOf}
-use Rattle.pair.specs.LevelLaws.{cell-in, best-tied, some-tied, second-inside, few-tied}
-use Rattle.pair.specs.Sums.{SumsOk}
-use Rattle.pair.specs.SumsLaws.{small-read, all-bounded, h-two, v-two}
+use Rattle.level.specs.Level.{sAt, tiedSum, levelBest, levelOf}
+use Rattle.level.specs.LevelLaws.{cell-in, best-tied, some-tied, second-inside, few-tied}
+use Rattle.level.specs.Sums.{SumsOk}
+use Rattle.level.specs.SumsLaws.{small-read, all-bounded, h-two, v-two}
 use Rattle.pair.specs.OtherLaws.{other-small}
 use Rattle.pair.specs.Pair.{LevelsOk, isTop, filled, otherIn, otherPair, secondPair, winnerOf, secondOf, twoOf}
-use Rattle.pair.specs.declared.level.LevelMax.{LevelMax}
+use Rattle.level.specs.declared.LevelMax.{LevelMax}
 use Rattle.pair.specs.declared.pair.TwoBest.{TwoBest}
 
 -- ---- one cell more

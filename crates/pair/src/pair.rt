@@ -7,16 +7,16 @@ ghost use lib.ListN.{length};
 ghost use Rattle.laws.specs.Words.{origins};
 ghost use Rattle.best.specs.CellTables.{Period};
 ghost use Rattle.grid.specs.RowMajor.{lowest, rowMajor};
-ghost use Rattle.pair.specs.Level.{tiedSum};
-ghost use Rattle.pair.specs.Sums.{SumsOk};
+ghost use Rattle.level.specs.Level.{tiedSum};
+ghost use Rattle.level.specs.Sums.{SumsOk};
 ghost use Rattle.pair.specs.Pair.{LevelsOk, filled, otherIn, otherPair, secondPair, twoOf};
-use crate::level::LevelMax;
-use crate::level::is_tied;
-use crate::level::level_max;
 use grid::origin::clears_row;
 use grid::origin::key_of;
 use grid::origin::lower_key;
 use laws::Periods;
+use level::LevelMax;
+use level::is_tied;
+use level::level_max;
 
 // The keys of a transform's winner and of its second.
 pub struct TwoBest {

@@ -1,9 +1,5 @@
-// Lent room: how the two sides of the tables stand in it, how much of it is used, over both periods, and clearing it.
+// Lent room: how the two sides of the tables stand in it, and how much of it is used, over both periods.
 ghost use mathlib.Core.Path.{_≡_};
-ghost use Prim.Native.Nat.{_≤_};
-ghost use lib.ListN.{length};
-ghost use lib.IntN.{pos};
-ghost use Rattle.laws.specs.Words.{zeroF, cleared};
 ghost use mathlib.Core.Bool.{true, false};
 ghost use Rattle.room.specs.Room.{bySide, rowLength, used, sideOf, PeriodsOk};
 use laws::Periods;
@@ -73,34 +69,4 @@ pub fn used_by_sums(p: Periods) -> usize
     ensures { λ r. ⌜ r ≡ used (bySide p) 2 ⌝ }
 {
     3 * p.h + 3 * p.v + 2 * row_of_groups(p)
-}
-
-// Sets the first n places of a lent u32 slice to 0; the surplus stays as it was.
-pub fn clear_u32(room: &mut [u32], n: usize)
-    requires { ⌜ n ≤ length (now room) ⌝ }
-    ensures { λ _. ⌜ now (room .exit) ≡ cleared 0 n (now (room .entry)) ⌝ }
-{
-    for i in 0..n {
-        room[i] = 0;
-    }
-}
-
-// Sets the first n places of a lent f32 slice to +0; the surplus stays as it was.
-pub fn clear_f32(room: &mut [f32], n: usize)
-    requires { ⌜ n ≤ length (now room) ⌝ }
-    ensures { λ _. ⌜ now (room .exit) ≡ cleared zeroF n (now (room .entry)) ⌝ }
-{
-    for j in 0..n {
-        room[j] = 0.0;
-    }
-}
-
-// Sets the first n places of a lent i64 slice to 0; the surplus stays as it was.
-pub fn clear_i64(room: &mut [i64], n: usize)
-    requires { ⌜ n ≤ length (now room) ⌝ }
-    ensures { λ _. ⌜ now (room .exit) ≡ cleared (pos 0) n (now (room .entry)) ⌝ }
-{
-    for k in 0..n {
-        room[k] = 0;
-    }
 }

@@ -13,7 +13,7 @@ use Rattle.laws.specs.Best.{Weak}
 use Rattle.laws.specs.Words.{Grid, origins}
 use Rattle.likelihood.specs.Likelihood.{dequantised}
 use Rattle.best.specs.CellTables.{Period}
-use Rattle.pair.specs.Sums.{SumTables, SumsOk, sumAt}
+use Rattle.level.specs.Sums.{SumTables, SumsOk, sumAt}
 use Rattle.pair.specs.Pair.{winnerOf, secondOf}
 use Rattle.margin.specs.Choice.{choiceOf, softChosen}
 use Rattle.soft.specs.Scan.{softCandidate, softOffered, softEmpty, softFolded, softSelected}

@@ -4,7 +4,7 @@ use Prim.Native.Nat.{ℕ, zero, suc, _+_, _*_, _/_, _%_}
 use lib.Ieee.{Float, lt}
 use Rattle.laws.specs.Words.{origins}
 use Rattle.likelihood.specs.Likelihood.{dequantised}
-use Rattle.pair.specs.Sums.{SumTables, sumAt}
+use Rattle.level.specs.Sums.{SumTables, sumAt}
 use Rattle.pair.specs.Pair.{winnerOf, secondOf}
 use Rattle.margin.specs.declared.slots.SoftCandidate.{SoftCandidate}
 use Rattle.margin.specs.declared.slots.SoftScan.{SoftScan}

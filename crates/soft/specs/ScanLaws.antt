@@ -7,7 +7,7 @@ use lib.IntN.{ℤ}
 use lib.Ieee.{Float}
 use Rattle.laws.specs.Words.{origins}
 use Rattle.likelihood.specs.Likelihood.{dequantised}
-use Rattle.pair.specs.Sums.{SumTables, sumAt}
+use Rattle.level.specs.Sums.{SumTables, sumAt}
 use Rattle.pair.specs.Pair.{winnerOf, secondOf, twoOf}
 use Rattle.soft.specs.Scan.{yields, softCandidate, softOffered, softEmpty, softFolded, softSelected}
 use Rattle.pair.specs.declared.pair.TwoBest.{TwoBest}

@@ -16,9 +16,9 @@ use Rattle.laws.specs.Counting.{count-one, other-passes}
 use Rattle.laws.specs.Whole.{lt-raised}
 use Rattle.laws.specs.Words.{Grid}
 use Rattle.laws.specs.GridLaws.{Laws}
-use Rattle.pair.specs.Level.{sAt, levelBest, levelOf, levelSecond}
-use Rattle.pair.specs.LevelLaws.{cell-in, best-tied, some-tied, second-inside, second-other, second-early}
-use Rattle.pair.specs.Sums.{sumAt}
+use Rattle.level.specs.Level.{sAt, levelBest, levelOf, levelSecond}
+use Rattle.level.specs.LevelLaws.{cell-in, best-tied, some-tied, second-inside, second-other, second-early}
+use Rattle.level.specs.Sums.{sumAt}
 use Rattle.pair.specs.Pair.{isTop, otherPair, secondPair, winnerOf, secondOf}
 use Rattle.pair.specs.OtherLaws.{Out, missing, found, pair-law}
 use Rattle.soft.specs.SeparationLaws.{OnGrid, rank, whole, top-rank, is-top, second-rank, small-h, small-v, sum-order, whole-key, whole-pair, whole-most, whole-cells, winner-under, winner-pair, whole-winner, winner-largest, winner-first}

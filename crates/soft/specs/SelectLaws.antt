@@ -19,7 +19,7 @@ use Rattle.sums.specs.SumsRoom.{SumsReady, SumsBuilt}
 use Rattle.sums.specs.SumsTheorems.{length-sums, sums-small, read-sums, sums-again, key-sum, sum-rooms-equal}
 use Rattle.best.specs.CellTables.{Period}
 use Rattle.grid.specs.BoardGrid.{period-h, period-v}
-use Rattle.pair.specs.Sums.{SumTables, sums, SumsOk}
+use Rattle.level.specs.Sums.{SumTables, sums, SumsOk}
 use Rattle.soft.specs.Scan.{softEmpty, softFolded}
 use Rattle.soft.specs.ScanLaws.{soft-selected-none, soft-selected-more, soft-selected-count}
 use Rattle.soft.specs.BestPlacing.{BestTwo}

@@ -16,10 +16,10 @@ use Rattle.laws.specs.Words.{Grid, origins}
 use Rattle.laws.specs.GridLaws.{Laws}
 use Rattle.best.specs.CellTables.{Period}
 use Rattle.grid.specs.RowMajorLaws.{major-le, major-is}
-use Rattle.pair.specs.Level.{sAt, levelBest, levelSecond}
-use Rattle.pair.specs.LevelLaws.{cell-in, largest, second-largest, best-tied}
-use Rattle.pair.specs.Sums.{SumsOk, sumAt}
-use Rattle.pair.specs.SumsLaws.{sum-small, all-bounded, h-two, v-two}
+use Rattle.level.specs.Level.{sAt, levelBest, levelSecond}
+use Rattle.level.specs.LevelLaws.{cell-in, largest, second-largest, best-tied}
+use Rattle.level.specs.Sums.{SumsOk, sumAt}
+use Rattle.level.specs.SumsLaws.{sum-small, all-bounded, h-two, v-two}
 use Rattle.pair.specs.Pair.{isTop, winnerOf}
 use Rattle.pair.specs.PairLaws.{board-grid}
 

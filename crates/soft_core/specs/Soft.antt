@@ -22,12 +22,12 @@ use Rattle.best.specs.CellTables.{CellTables, cAt, wAt}
 use Rattle.figures.specs.Figures.{rateOf, meanOf}
 use Rattle.figures.specs.Gate.{passed}
 use Rattle.figures.specs.Figures.{noConfidence}
-use Rattle.hard.specs.Select.{tablesOf, selection}
+use Rattle.hard.specs.Select.{tablesOf, selection, Rooms, builtTo}
 use Rattle.margin.specs.declared.slots.SoftCandidate.{SoftCandidate}
 use Rattle.margin.specs.declared.slots.SoftChoice.{SoftChoice}
 use Rattle.margin.specs.declared.slots.SoftChoice.the-variants.{Nothing, Chosen}
 use Rattle.margin.specs.Margin.{softMargin, belowMargin}
-use Rattle.soft.specs.Select.{softSelection}
+use Rattle.soft.specs.Select.{softSelection, SumRoom}
 use Rattle.figures.specs.declared.Fit.{Fit}
 use Rattle.soft_verdict.specs.declared.SoftBest.{SoftBest}
 use Rattle.answer.specs.declared.Decoded.{Decoded}
@@ -62,10 +62,13 @@ module _ (call : HardCall) where
   afterHard best (sel.Selected w runner) = softJudged best w runner
 
   -- "Margin = (first - second) / edges. Below the soft margin: refused."
+  abbrev pub tooClose : Float → SoftCandidate → SoftCandidate → Bool
+  tooClose least first second = belowMargin (softMargin first second (size (call .physical))) least
+
   abbrev pub afterSoft : Float → SoftChoice → Answer
   afterSoft least Nothing = refusedBy why.softMargin
   afterSoft least (Chosen first second) =
-      pick (belowMargin (softMargin first second (size (call .physical))) least) (refusedBy why.softMargin) (afterHard (bestOf first second (size (call .physical))) (selection (call .board) (call .logical) (call .transforms) (call .error-limit)))
+      pick (tooClose least first second) (refusedBy why.softMargin) (afterHard (bestOf first second (size (call .physical))) (selection (call .board) (call .logical) (call .transforms) (call .error-limit)))
 
 -- what an accepted soft call answers, with the soft margin `least`
 unfoldable pub softCore : SoftCall → Answer
@@ -77,15 +80,46 @@ pub record FitDone (B : Board) (E : EdgeList) (t row col : ℕ) (c c' : List ℕ
   pub answer : r ≡ fitOf B E t row col
   pub rooms : TablesBuilt B E t c c' w w'
 
--- the logical list and the figures: the u32 and the f32 room are used
+-- one of two statements, by a test
+unfoldable pub By : Bool → Type 0 → Type 0 → Type 0
+By true A B = A
+By false A B = B
+
+-- the u32 and the f32 room after the answer: a found one has left the physical list's tables under its transform in them, a refusal nothing
+unfoldable pub Figured : Answer → Board → EdgeList → ℕ → List ℕ → List ℕ → List Float → List Float → Type 0
+Figured (Found d) B E t c c' w w' = TablesBuilt B E t c c' w w'
+Figured (Refused r) B E t c c' w w' = (c' ≡ c) × (w' ≡ w)
+
+-- the logical list's tables of the last transform, and over them the figures
+pub record LogicalRooms (call : HardCall) (best : SoftBest) (r : Answer) (c c' : List ℕ) (w w' : List Float) : Type 0 where
+  pub counts : List ℕ
+  pub weights : List Float
+  pub selected : Rooms (call .board) (call .logical) (call .transforms) (builtTo (call .logical) (call .transforms)) c counts w weights
+  pub figured : Figured r (call .board) (call .physical) (getD (call .transforms) (best .first .placing .listed) 0) counts c' weights w'
+
+-- past the margin the logical list's, else as they were
+unfoldable pub PastMargin : HardCall → Float → SoftChoice → Answer → List ℕ → List ℕ → List Float → List Float → Type 0
+PastMargin call least Nothing r c c' w w' = (c' ≡ c) × (w' ≡ w)
+PastMargin call least (Chosen first second) r c c' w w' = By (tooClose call least first second) ((c' ≡ c) × (w' ≡ w)) (LogicalRooms call (bestOf first second (size (call .physical))) r c c' w w')
+
+-- all three: as they were where the physical list has no confidence, else with the sums of the last transform
+unfoldable pub CoreRooms : SoftCall → Answer → List ℕ → List ℕ → List Float → List Float → List ℤ → List ℤ → Type 0
+CoreRooms call r c c' w w' a a' =
+    By (noConfidence (call .hard .physical)) ((c' ≡ c) × (w' ≡ w) × (a' ≡ a))
+    (PastMargin (call .hard) (call .soft-margin) (softSelection (call .hard .board) (call .hard .physical) (call .likelihoods) (call .hard .transforms)) r c c' w w'
+    × SumRoom (call .hard .board) (call .hard .physical) (call .likelihoods) (call .hard .transforms) (length (call .hard .transforms)) a a')
+
+-- the logical list and the figures: the u32 and the f32 room are used, and their surplus is as it was
 pub record LogicalDone (call : HardCall) (best : SoftBest) (c c' : List ℕ) (w w' : List Float) (r : Answer) : Type 0 where
   pub answer : r ≡ afterHard call best (selection (call .board) (call .logical) (call .transforms) (call .error-limit))
+  pub rooms : LogicalRooms call best r c c' w w'
   pub counts : SameBeyond 0 (tablesRoom (call .board)) c c'
   pub weights : SameBeyond nan (tablesRoom (call .board)) w w'
 
 -- the whole: all three are used
 pub record SoftCoreDone (call : SoftCall) (c c' : List ℕ) (w w' : List Float) (a a' : List ℤ) (r : Answer) : Type 0 where
   pub answer : r ≡ softCore call
+  pub rooms : CoreRooms call r c c' w w' a a'
   pub counts : SameBeyond 0 (tablesRoom (call .hard .board)) c c'
   pub weights : SameBeyond nan (tablesRoom (call .hard .board)) w w'
   pub sums : SameBeyond (pos 0) (sumsRoom (call .hard .board)) a a'

@@ -11,6 +11,7 @@ use lib.ListN.{getD, length, take, drop}
 use lib.Seq.{getD-take, getD-drop}
 use lib.IntN.{ℤ, pos}
 use lib.Ieee.{Float, nan, binary32, add, eq}
+use Rattle.laws.specs.Tests.{clash}
 use Rattle.laws.specs.Words.{zeroF}
 use Rattle.laws.specs.Part.{view}
 use Rattle.laws.specs.GridLaws.{h-below, v-below}
@@ -20,6 +21,7 @@ use Rattle.board.specs.Sides.{periodOf}
 use Rattle.board.specs.Domain.{ListOk, BoardOk}
 use Rattle.room.specs.Room.{tablesRoom, sumsRoom}
 use Rattle.tables.specs.Built.{TablesReady, TablesBuilt}
+use Rattle.tables.specs.TablesTheorems.{rooms-equal}
 use Rattle.sums.specs.Sums.{Likelihoods, LikelihoodsOk}
 use Rattle.refusals.specs.declared.Refusal.{Refusal}
 use Rattle.refusals.specs.declared.Admission.{Admission}
@@ -35,15 +37,15 @@ use Rattle.best.specs.CellTables.{Period, CellTables, cells, TablesOk, cAt, wAt
 use Rattle.figures.specs.Figures.{totalConfidence, noConfidence}
 use Rattle.hard.specs.Select.{selection, SelectDone}
 use Rattle.grid.specs.BoardGrid.{period-h, period-v}
-use Rattle.hard.specs.SelectLaws.{RoomReady, roomCells, built-cells, tables-ok}
+use Rattle.hard.specs.SelectLaws.{RoomReady, roomCells, built-cells, tables-ok, select-unique}
 use Rattle.margin.specs.declared.slots.SoftCandidate.{SoftCandidate}
 use Rattle.margin.specs.declared.slots.SoftScan.{SoftScan}
 use Rattle.margin.specs.declared.slots.SoftChoice.{SoftChoice}
 use Rattle.margin.specs.declared.slots.SoftChoice.the-variants.{Nothing, Chosen}
 use Rattle.margin.specs.Choice.{softChosen}
 use Rattle.margin.specs.Margin.{softMargin, belowMargin}
-use Rattle.soft.specs.Select.{softSelection, SoftReady, SoftScanned}
-use Rattle.soft.specs.SelectLaws.{room-beyond, soft-best-edges}
+use Rattle.soft.specs.Select.{softScanOf, softSelection, SoftReady, SoftScanned}
+use Rattle.soft.specs.SelectLaws.{room-beyond, scanned-unique, soft-best-edges}
 use Rattle.figures.specs.declared.Fit.{Fit}
 use Rattle.soft_verdict.specs.declared.SoftBest.{SoftBest}
 use Rattle.answer.specs.declared.Decoded.{Decoded}
@@ -51,8 +53,19 @@ use Rattle.answer.specs.declared.Answer.{Answer}
 use Rattle.answer.specs.declared.Answer.the-variants.{Found, Refused}
 use Rattle.verdict.specs.Verdict.{refusedBy, whenAccepted}
 use Rattle.demand.specs.Ready.{ready-logical, beyond}
-use Rattle.soft_verdict.specs.SoftVerdict.{softVerdict, softDecodedOf}
-use Rattle.soft_core.specs.Soft.{cellFit, fitOf, softJudged, afterHard, afterSoft, softCore, FitDone, LogicalDone, SoftCoreDone}
+use Rattle.soft_verdict.specs.SoftVerdict.{softVerdict, softDecodedOf, bestOf}
+use Rattle.soft_core.specs.Soft.{cellFit, fitOf, softJudged, afterHard, afterSoft, tooClose, softCore, FitDone, By, Figured, LogicalRooms, PastMargin, CoreRooms, LogicalDone, SoftCoreDone}
+
+-- ---- a statement by a test
+by-true : (b : Bool) (A B : Type 0) → b ≡ true → A → By b A B
+unfolding By
+by-true true A B e x = x
+by-true false A B e x = clash e refl
+
+by-false : (b : Bool) (A B : Type 0) → b ≡ false → B → By b A B
+unfolding By
+by-false true A B e x = clash refl e
+by-false false A B e x = x
 
 -- ---- the cells of an origin
 pub positive : {n : ℕ} → Period n → 0 < n
@@ -101,8 +114,8 @@ module _ (call : HardCall) (c : List ℕ) (w : List Float) (A : HardAccepted cal
   logical-rooms = beyond call c w A (call .logical) (call .error-limit) c c' w w' r (ready-logical call c w A) D
 
   pub logical-refused : (n : Refusal) → r ≡ sel.Refused n → LogicalDone call best c c' w w' (Refused n)
-  unfolding softJudged
-  logical-refused n k = record { answer = ap (afterHard call best) (sym k ∙ D .answer); counts = logical-rooms .0; weights = logical-rooms .1 }
+  unfolding softJudged Figured
+  logical-refused n k = record { answer = ap (afterHard call best) (sym k ∙ D .answer); rooms = record { counts = c'; weights = w'; selected = D .rooms; figured = (refl, refl) }; counts = logical-rooms .0; weights = logical-rooms .1 }
 
   -- the tables of its transform can be built
   pub fit-ready : best .first .placing .listed < length (call .transforms) → TablesReady (call .board) (call .physical) (getD (call .transforms) (best .first .placing .listed) 0) c' w'
@@ -124,16 +137,19 @@ module _ (call : HardCall) (c : List ℕ) (w : List Float) (A : HardAccepted cal
     logical-answer = ap under v ∙ ap (afterHard call best) (sym k ∙ D .answer)
 
     pub verdict-refused : (z : Refusal) → n ≡ admission.Refused z → LogicalDone call best c c' w w' (Refused z)
-    verdict-refused z o = record { answer = ap under (sym o) ∙ logical-answer; counts = logical-rooms .0; weights = logical-rooms .1 }
+    unfolding Figured
+    verdict-refused z o = record { answer = ap under (sym o) ∙ logical-answer; rooms = record { counts = c'; weights = w'; selected = D .rooms; figured = (refl, refl) }; counts = logical-rooms .0; weights = logical-rooms .1 }
 
     module _ (c'' : List ℕ) (w'' : List Float) (own : Fit) (F : FitDone (call .board) (call .physical) (getD (call .transforms) (best .first .placing .listed) 0) (best .first .placing .row) (best .first .placing .col) c' c'' w' w'' own) where
       pub own-few : own .hits ≤ size (call .physical)
       own-few = subst (λ (z : Fit). z .hits ≤ size (call .physical)) (sym (F .answer)) (fit-few (call .board) (call .physical) (getD (call .transforms) (best .first .placing .listed) 0) (best .first .placing .row) (best .first .placing .col) (A .board) (A .physical))
 
       pub verdict-found : (a : Decoded) → n ≡ admission.Accepted → a ≡ softDecodedOf (getD (call .transforms) (best .first .placing .listed) 0) best own (size (call .physical)) runner → LogicalDone call best c c'' w w'' (Found a)
+      unfolding Figured
       verdict-found a o e =
           record {
             answer = ap Found (e ∙ ap (λ (z : Fit). softDecodedOf (getD (call .transforms) (best .first .placing .listed) 0) best z (size (call .physical)) runner) (F .answer)) ∙ ap under (sym o) ∙ logical-answer;
+            rooms = record { counts = c'; weights = w'; selected = D .rooms; figured = F .rooms };
             counts = beyond-trans 0 (tablesRoom (call .board)) c c' c'' (logical-rooms .0) (record { len = F .rooms .counts .len; same = F .rooms .counts .surplus });
             weights = beyond-trans nan (tablesRoom (call .board)) w w' w'' (logical-rooms .1) (record { len = F .rooms .weights .len; same = F .rooms .weights .surplus });
           }
@@ -167,8 +183,8 @@ module _ (call : SoftCall) (c : List ℕ) (w : List Float) (a : List ℤ) (A : S
 
   -- no confidence
   pub core-none : (r : Answer) → eq (totalConfidence (call .hard .physical)) zeroF ≡ true → r ≡ refusedBy why.noConfidence → SoftCoreDone call c c w w a a r
-  unfolding softCore noConfidence
-  core-none r h e = record { answer = e ∙ sym (rw h); counts = beyond-refl 0 (tablesRoom (call .hard .board)) c; weights = beyond-refl nan (tablesRoom (call .hard .board)) w; sums = beyond-refl (pos 0) (sumsRoom (call .hard .board)) a }
+  unfolding softCore noConfidence CoreRooms
+  core-none r h e = record { answer = e ∙ sym (rw h); rooms = by-true _ _ _ h (refl, refl, refl); counts = beyond-refl 0 (tablesRoom (call .hard .board)) c; weights = beyond-refl nan (tablesRoom (call .hard .board)) w; sums = beyond-refl (pos 0) (sumsRoom (call .hard .board)) a }
 
   module _ (h : eq (totalConfidence (call .hard .physical)) zeroF ≡ false) (a' : List ℤ) (s : SoftScan) (S : SoftScanned (call .hard .board) (call .hard .physical) (call .likelihoods) (call .hard .transforms) (length (call .hard .transforms)) a a' s) (x : SoftChoice) (g : x ≡ softChosen s) where
     sums-beyond : SameBeyond (pos 0) (sumsRoom (call .hard .board)) a a'
@@ -181,24 +197,80 @@ module _ (call : SoftCall) (c : List ℕ) (w : List Float) (a : List ℤ) (A : S
     unfolding softCore noConfidence
     core-answer y e = ap (afterSoft (call .hard) (call .soft-margin)) (sym e ∙ choice-told) ∙ sym (rw h)
 
+    -- past the physical list's confidence: its sums are built, and the choice decides
+    core-rooms : (y : SoftChoice) (c' : List ℕ) (w' : List Float) (r : Answer) → x ≡ y → PastMargin (call .hard) (call .soft-margin) y r c c' w w' → CoreRooms call r c c' w w' a a'
+    unfolding noConfidence CoreRooms
+    core-rooms y c' w' r e p =
+        by-false _ _ _ h (subst (λ (z : SoftChoice). PastMargin (call .hard) (call .soft-margin) z r c c' w w') (sym e ∙ choice-told) p, S .room)
+
     -- no two candidates
     pub core-nothing : (r : Answer) → x ≡ Nothing → r ≡ refusedBy why.softMargin → SoftCoreDone call c c w w a a' r
-    core-nothing r k e = record { answer = e ∙ core-answer Nothing k; counts = beyond-refl 0 (tablesRoom (call .hard .board)) c; weights = beyond-refl nan (tablesRoom (call .hard .board)) w; sums = sums-beyond }
+    unfolding PastMargin
+    core-nothing r k e = record { answer = e ∙ core-answer Nothing k; rooms = core-rooms Nothing c w r k (refl, refl); counts = beyond-refl 0 (tablesRoom (call .hard .board)) c; weights = beyond-refl nan (tablesRoom (call .hard .board)) w; sums = sums-beyond }
 
     module _ (first second : SoftCandidate) (k : x ≡ Chosen first second) (m : Float) (f : m ≡ softMargin first second (size (call .hard .physical))) where
       -- the margin is too small
       pub core-below : (b : Bool) (r : Answer) → b ≡ belowMargin m (call .soft-margin) → b ≡ true → r ≡ refusedBy why.softMargin → SoftCoreDone call c c w w a a' r
+      unfolding PastMargin
       core-below b r d t e =
           let q : belowMargin (softMargin first second (size (call .hard .physical))) (call .soft-margin) ≡ true = ap (λ (z : Float). belowMargin z (call .soft-margin)) (sym f) ∙ sym d ∙ t in
-          record { answer = e ∙ sym (rw q) ∙ core-answer (Chosen first second) k; counts = beyond-refl 0 (tablesRoom (call .hard .board)) c; weights = beyond-refl nan (tablesRoom (call .hard .board)) w; sums = sums-beyond }
+          record { answer = e ∙ sym (rw q) ∙ core-answer (Chosen first second) k; rooms = core-rooms (Chosen first second) c w r k (by-true _ _ _ q (refl, refl)); counts = beyond-refl 0 (tablesRoom (call .hard .board)) c; weights = beyond-refl nan (tablesRoom (call .hard .board)) w; sums = sums-beyond }
 
       -- else the logical list decides
       pub core-logical : (b : Bool) (c' : List ℕ) (w' : List Float) (r : Answer) → b ≡ belowMargin m (call .soft-margin) → b ≡ false → LogicalDone (call .hard) (record { first = first; second = second; margin = m }) c c' w w' r → SoftCoreDone call c c' w w' a a' r
+      unfolding PastMargin
       core-logical b c' w' r d t D =
           let q : belowMargin (softMargin first second (size (call .hard .physical))) (call .soft-margin) ≡ false = ap (λ (z : Float). belowMargin z (call .soft-margin)) (sym f) ∙ sym d ∙ t in
           record {
             answer = D .answer ∙ ap (λ (z : Float). afterHard (call .hard) (record { first = first; second = second; margin = z }) (selection (call .hard .board) (call .hard .logical) (call .hard .transforms) (call .hard .error-limit))) f ∙ sym (rw q) ∙ core-answer (Chosen first second) k;
+            rooms =
+                core-rooms (Chosen first second) c' w' r k
+                (by-false _ _ _ q (subst (λ (z : Float). LogicalRooms (call .hard) (record { first = first; second = second; margin = z }) r c c' w w') f (D .rooms)));
             counts = D .counts;
             weights = D .weights;
             sums = sums-beyond;
           }
+
+-- ---- any two results that the core's promise allows are equal, and so are the rooms
+figured-same : (y : Answer) (B : Board) (E : EdgeList) (t : ℕ) (m c d : List ℕ) (v w x : List Float) → Figured y B E t m c v w → Figured y B E t m d v x → (c ≡ d) × (w ≡ x)
+unfolding Figured
+figured-same (Found a) B E t m c d v w x f g = rooms-equal B E t m c d v w x f g
+figured-same (Refused n) B E t m c d v w x f g = (f .0 ∙ sym (g .0), f .1 ∙ sym (g .1))
+
+figured-over : (y : Answer) (B : Board) (E : EdgeList) (t : ℕ) (m n c d : List ℕ) (v u w x : List Float) → m ≡ n → v ≡ u → Figured y B E t m c v w → Figured y B E t n d u x → (c ≡ d) × (w ≡ x)
+figured-over y B E t m n c d v u w x e o f g =
+    figured-same y B E t m c d v w x f (subst (λ (k : List ℕ). Figured y B E t k d v x) (sym e) (subst (λ (k : List Float). Figured y B E t n d k x) (sym o) g))
+
+logical-same : (call : HardCall) (best : SoftBest) (r : Answer) (c c' d' : List ℕ) (w w' x' : List Float) → LogicalRooms call best r c c' w w' → LogicalRooms call best r c d' w x' → (c' ≡ d') × (w' ≡ x')
+logical-same call best r c c' d' w w' x' p q =
+    let s = selection (call .board) (call .logical) (call .transforms) (call .error-limit) in
+    let e =
+    select-unique (call .board) (call .logical) (call .transforms) (call .error-limit) c w (p .counts) (q .counts) (p .weights) (q .weights) s s (record { answer = refl; rooms = p .selected })
+    (record { answer = refl; rooms = q .selected }) in
+    figured-over r (call .board) (call .physical) (getD (call .transforms) (best .first .placing .listed) 0) (p .counts) (q .counts) c' d' (p .weights) (q .weights) w' x' (e .1) (e .2) (p .figured) (q .figured)
+
+by-same : (b : Bool) (A A' B B' C : Type 0) → (A → A' → C) → (B → B' → C) → By b A B → By b A' B' → C
+unfolding By
+by-same true A A' B B' C f g p q = f p q
+by-same false A A' B B' C f g p q = g p q
+
+margin-same : (call : HardCall) (least : Float) (y : SoftChoice) (r : Answer) (c c' d' : List ℕ) (w w' x' : List Float) → PastMargin call least y r c c' w w' → PastMargin call least y r c d' w x' → (c' ≡ d') × (w' ≡ x')
+unfolding PastMargin
+margin-same call least Nothing r c c' d' w w' x' p q = (p .0 ∙ sym (q .0), p .1 ∙ sym (q .1))
+margin-same call least (Chosen first second) r c c' d' w w' x' p q =
+    by-same (tooClose call least first second) _ _ _ _ _ (λ f g. (f .0 ∙ sym (g .0), f .1 ∙ sym (g .1)))
+    (λ f g. logical-same call (bestOf first second (size (call .physical))) r c c' d' w w' x' f g) p q
+
+pub core-unique : (call : SoftCall) (c c' d' : List ℕ) (w w' x' : List Float) (a a' b' : List ℤ) (r s : Answer) → SoftCoreDone call c c' w w' a a' r → SoftCoreDone call c d' w x' a b' s → (r ≡ s) × (c' ≡ d') × (w' ≡ x') × (a' ≡ b')
+unfolding CoreRooms
+core-unique call c c' d' w w' x' a a' b' r s p q =
+    let e : r ≡ s = p .answer ∙ sym (q .answer) in
+    let B = call .hard .board in
+    let E = call .hard .physical in
+    let X = call .likelihoods in
+    let ts = call .hard .transforms in
+    let z = softScanOf B E X ts (length ts) in
+    by-same (noConfidence E) _ _ _ _ _ (λ f g. (e, f .0 ∙ sym (g .0), f .1 ∙ sym (g .1), f .2 ∙ sym (g .2)))
+    (λ f g.
+    let m = margin-same (call .hard) (call .soft-margin) (softSelection B E X ts) r c c' d' w w' x' (f .0) (subst (λ (y : Answer). PastMargin (call .hard) (call .soft-margin) (softSelection B E X ts) y c d' w x') (sym e) (g .0)) in
+    (e, m .0, m .1, scanned-unique B E X ts (length ts) a a' b' z z (record { answer = refl; room = f .1 }) (record { answer = refl; room = g .1 }) .1)) (p .rooms) (q .rooms)

@@ -42,14 +42,14 @@ fn count_hits<'a>(
         (edges (now (rows .entry)) (now (cols .entry)) (now (orientations .entry)) (now (bits .entry)) (now (confidences .entry)))
         (square .transform) (square .row) (square .col) (tables (now (h .entry)) (now (v .entry))) ⌝ }
 {
-    let matrix = board::transform::matrix_of(square.transform);
+    let matrix = lookup::matrix_of(square.transform);
     let mut sum = Fit {
         hits: 0,
         weight: 0.0,
     };
     for i in 0..rows.len() {
         let edge = board::edge::edge_at(rows, cols, orientations, bits, i);
-        let hit = board::pattern::is_hit(h, v, edge, square, matrix);
+        let hit = hit::is_hit(h, v, edge, square, matrix);
         sum = add_edge(sum, hit, confidences[i]);
     }
     sum
@@ -83,7 +83,7 @@ pub fn match_stats<'a>(
         (edges (now (rows .entry)) (now (cols .entry)) (now (orientations .entry)) (now (bits .entry)) (now (confidences .entry)))
         transform row col (tables (now (h .entry)) (now (v .entry))) ⌝ }
 {
-    let admitted = admission::refusal::stats_admission(
+    let admitted = stats_admission::stats_admission(
         rows,
         cols,
         orientations,

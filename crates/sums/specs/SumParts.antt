@@ -17,11 +17,8 @@ use Rattle.terms.specs.Terms.{termSum}
 use Rattle.cells.specs.Cells.{longClass, shortClass, cellSum, family}
 use Rattle.cells.specs.Spread.{Spread}
 use Rattle.cells.specs.Credit.{runPlace, runTerm, RunPlaces, cellPattern, FamilyPlaces}
+use Rattle.sum_terms.specs.SumTerms.{placesZ, termZ, Twelve}
 use Rattle.sums.specs.Sums.{Likelihoods, matchAt, mismatchAt, LikelihoodsOk}
-
--- place k of those from `at` on
-abbrev pub placesZ : ℕ → List ℤ → ℕ → ℤ
-placesZ at l k = getD l (at + k) (pos 0)
 
 -- ---- groups: row 0 has the match likelihoods, row 1 the mismatch ones
 abbrev pub valueAt : Likelihoods → ℕ → ℕ → ℤ
@@ -44,31 +41,6 @@ pub record SumsFillReady (L M : ℕ) (E : EdgeList) (X : Likelihoods) (t base : 
 -- the first n edges are in, and nothing else changed
 abbrev pub SumsFilled : ℕ → ℕ → EdgeList → Likelihoods → ℕ → ℕ → ℕ → List ℤ → List ℤ → Type 0
 SumsFilled L M E X t base n a a' = Zone (pos 0) (rowsSum L M E X t n) base (2 * rowLength L M) a a'
-
--- ---- terms: what the first n groups add, m j of a group that agrees and u j of one that does not. Misses add too. No group is left out as empty, since adding 0 to a
--- whole number changes nothing (`term-all`): each counts as one that has edges
-abbrev pub termZ : ℕ → (ℕ → ℤ) → (ℕ → ℤ) → ℕ → ℕ → ℤ
-termZ n m u = termSum _+ℤ_ (pos 0) true n one (λ b j. cond b (m j) (u j))
-
--- the row of a pattern, and the table
-abbrev pub rowZ : (ℕ → ℤ) → (ℕ → ℤ) → ℕ → List ℤ
-rowZ m u p = termZ 6 m u p 0 ∷ termZ 6 m u p 1 ∷ termZ 6 m u p 2 ∷ []
-
--- the table of a family's terms: a row for each of the eight patterns
-pub record TermsZ (m u : ℕ → ℤ) (t : List (List ℤ)) : Type 0 where
-  pub size : length t ≡ 8
-  pub rows : (p : ℕ) → p < 8 → getD t p [] ≡ rowZ m u p
-
--- six groups stand from `from` on and six from `also` on, each at most 2^53 in size
-pub record Twelve (from also : ℕ) (a : List ℤ) : Type 0 where
-  pub match : from + 6 ≤ length a
-  pub mismatch : also + 6 ≤ length a
-  pub small : (j : ℕ) → j < 6 → (natAbs (placesZ from a j) ≤ 2 ^ 53) × (natAbs (placesZ also a j) ≤ 2 ^ 53)
-
--- one of the first n match sums or of the first n mismatch sums is not 0
-unfoldable pub someSum : ℕ → (ℕ → ℤ) → (ℕ → ℤ) → Bool
-someSum zero m u = false
-someSum (suc n) m u = someSum n m u || not (eqZ (m n) (pos 0) && eqZ (u n) (pos 0))
 
 -- ---- a run of classes
 pub record RunReadyZ (terms : List (List ℤ)) (part : List ℕ) (n at stride across : ℕ) (a : List ℤ) : Type 0 where

@@ -34,8 +34,10 @@ use Rattle.cells.specs.LayoutLaws.{stand, short-below}
 use Rattle.cells.specs.RunLaws.{in-run, cell-place, cell-term, cell-fresh, cell-added, pattern-small, first-places, first-inside, first-holds, second-place, second-places, second-inside, second-fresh, second-holds, family-zone}
 use Rattle.tables.specs.SideLaws.{same-groups}
 use Rattle.sums.specs.Sums.{Likelihoods, matchAt, mismatchAt}
-use Rattle.sums.specs.SumParts.{placesZ, valueAt, rowsSum, SumsFillReady, SumsFilled, termZ, someSum, TermsZ, RunReadyZ, RunCellsZ, RunCreditedZ, gainZ, FamilyReadyZ, FamilyCreditedZ, familyZ, cellZ, SideReadyZ, SideCellsZ}
-use Rattle.sums.specs.SumsLaws.{terms-atZ, same-termZ, value-small}
+use Rattle.sum_terms.specs.SumTerms.{placesZ, termZ, someSum, TermsZ}
+use Rattle.sums.specs.SumParts.{valueAt, rowsSum, SumsFillReady, SumsFilled, RunReadyZ, RunCellsZ, RunCreditedZ, gainZ, FamilyReadyZ, FamilyCreditedZ, familyZ, cellZ, SideReadyZ, SideCellsZ}
+use Rattle.sum_terms.specs.SumTermsLaws.{no-termZ, same-termZ, terms-atZ}
+use Rattle.sums.specs.SumsLaws.{value-small}
 
 -- ---- groups
 -- what can be filled, and what is filled, by the periods and by numbers that equal them
@@ -217,57 +219,6 @@ module _ (B : Board) (d : Side) (also f : ℕ) (a : List ℤ) (R : FamilyReadyZ 
     family-creditedZ a₂ r₂ = family-zone B d f (R .places) (pos 0) t gain gains (pos 0) _+ℤ_ (λ x. x) a a₁ a₂ r₁ r₂
 
 -- ---- a family whose twelve sums are all 0: nothing is stored
-module _ (m u : ℕ → ℤ) where
-  pub some-sum-none : someSum 0 m u ≡ false
-  unfolding someSum
-  some-sum-none = refl
-
-  -- two sums of 0 more
-  pub some-sum-more : (n : ℕ) → someSum n m u ≡ false → m n ≡ pos 0 → u n ≡ pos 0 → someSum (n + 1) m u ≡ false
-  unfolding someSum
-  some-sum-more n h a b = rw (add-one, h, eq-eqZ (m n) (pos 0) a, eq-eqZ (u n) (pos 0) b)
-
-  -- one that is not 0
-  here : (a b : ℤ) → (a ≡ pos 0 → ⊥) ⊎ (b ≡ pos 0 → ⊥) → not (eqZ a (pos 0) && eqZ b (pos 0)) ≡ true
-  here a b (inl h) = rw (ne-eqZ a (pos 0) h)
-  here a b (inr h) = ap (λ q. not q) (and-comm (eqZ a (pos 0)) (eqZ b (pos 0))) ∙ rw (ne-eqZ b (pos 0) h)
-
-  pub some-sum-here : (n j : ℕ) → j < n → (m j ≡ pos 0 → ⊥) ⊎ (u j ≡ pos 0 → ⊥) → someSum n m u ≡ true
-  unfolding someSum
-  some-sum-here zero j l h = absurd (omega arith)
-  some-sum-here (suc n) j l h = ⊎-elim last (λ k. ap (λ q. q || not (eqZ (m n) (pos 0) && eqZ (u n) (pos 0))) (some-sum-here n j k h)) (split j n l)
-    where
-      or-right : (p : Bool) → (p || true) ≡ true
-      or-right true = refl
-      or-right false = refl
-
-      last : j ≡ n → (someSum n m u || not (eqZ (m n) (pos 0) && eqZ (u n) (pos 0))) ≡ true
-      last e = ap (λ q. someSum n m u || q) (here (m n) (u n) (subst (λ (k : ℕ). (m k ≡ pos 0 → ⊥) ⊎ (u k ≡ pos 0 → ⊥)) e h)) ∙ or-right (someSum n m u)
-
-  -- none: all are 0
-  no-sum : (n : ℕ) → someSum n m u ≡ false → (j : ℕ) → j < n → (m j ≡ pos 0) × (u j ≡ pos 0)
-  unfolding someSum
-  no-sum zero e j l = absurd (omega arith)
-  no-sum (suc n) e j l = ⊎-elim last (λ k. no-sum n (or-false (someSum n m u) (not (eqZ (m n) (pos 0) && eqZ (u n) (pos 0))) e .0) j k) (split j n l)
-    where
-      not-false : (b : Bool) → not b ≡ false → b ≡ true
-      not-false true h = refl
-      not-false false h = absurd (true≢false h)
-
-      zeros : (eqZ (m n) (pos 0) ≡ true) × (eqZ (u n) (pos 0) ≡ true)
-      zeros = and-true (eqZ (m n) (pos 0)) (eqZ (u n) (pos 0)) (not-false (eqZ (m n) (pos 0) && eqZ (u n) (pos 0)) (or-false (someSum n m u) (not (eqZ (m n) (pos 0) && eqZ (u n) (pos 0))) e .1))
-
-      last : j ≡ n → (m j ≡ pos 0) × (u j ≡ pos 0)
-      last q = (ap m q ∙ eqZ-true (m n) (pos 0) (zeros .0), ap u q ∙ eqZ-true (u n) (pos 0) (zeros .1))
-
-no-termZ : (m u : ℕ → ℤ) → someSum 6 m u ≡ false → (p s : ℕ) → termZ 6 m u p s ≡ pos 0
-unfolding termSum fold
-no-termZ m u e p s = fold-ext _+ℤ_ (pos 0) 6 all all (λ j. cond (agrees p s j) (m j) (u j)) (λ j. pos 0) (λ j h. refl) (λ j h. either (agrees p s j) (m j) (u j) (no-sum m u 6 e j h .0) (no-sum m u 6 e j h .1))
-  where
-    either : (b : Bool) (x y : ℤ) → x ≡ pos 0 → y ≡ pos 0 → cond b x y ≡ pos 0
-    either true x y e d = e
-    either false x y e d = d
-
 pub family-emptyZ : (B : Board) (d : Side) (also f : ℕ) (a : List ℤ) → someSum 6 (placesZ (d .groups + f * 6) a) (placesZ (also + f * 6) a) ≡ false → FamilyCreditedZ B d also f a a
 family-emptyZ B d also f a none =
     let s = isHorizontal d in

@@ -22,42 +22,11 @@ use Rattle.terms.specs.Terms.{agrees, termSum}
 use Rattle.terms.specs.TermsLaws.{three-at, same-term}
 use Rattle.cells.specs.Cells.{longClass, shortClass, patternAt, cellSum, family, familyOf}
 use Rattle.tables.specs.CellsLaws.{cell-same, term-all, group-none, families-by-edges, class-by-edges}
+use Rattle.sum_terms.specs.SumTermsLaws.{same-termZ}
 use Rattle.sums.specs.Sums.{Likelihoods, matchAt, mismatchAt, likelihoodAt, gain, score, sideScore, cellScore, LikelihoodsOk}
-use Rattle.sums.specs.SumParts.{placesZ, valueAt, termZ, TermsZ, familyZ}
+use Rattle.sum_terms.specs.SumTerms.{placesZ, termZ, TermsZ}
+use Rattle.sums.specs.SumParts.{valueAt, familyZ}
 use Rattle.sums.specs.SumsRoom.{groupScore}
-
--- ---- terms
--- one group more: the match sum stands from `from` on, the mismatch sum from `also` on, and b is the pattern's bit
-module _ (a : List ℤ) (from also p s j : ℕ) where
-  pub term-more : termZ (j + 1) (placesZ from a) (placesZ also a) p s
-      ≡ termZ j (placesZ from a) (placesZ also a) p s +ℤ cond (agrees p s j) (placesZ from a j) (placesZ also a j)
-  unfolding termSum
-  term-more = fold-hit _+ℤ_ (pos 0) all _ j refl
-
-  pub read-match : (b start : ℕ) → b ≡ bitAt p ((s + j / 2) % 3) → b ≡ j % 2 → start ≡ from → getD a (start + j) (pos 0) ≡ cond (agrees p s j) (placesZ from a j) (placesZ also a j)
-  read-match b start e h q = ap (λ x. getD a (x + j) (pos 0)) q ∙ sym (rw (eq-eqb (bitAt p ((s + j / 2) % 3)) (j % 2) (sym e ∙ h)))
-
-  pub read-mismatch : (b start : ℕ) → b ≡ bitAt p ((s + j / 2) % 3) → (b ≡ j % 2 → ⊥) → start ≡ also → getD a (start + j) (pos 0) ≡ cond (agrees p s j) (placesZ from a j) (placesZ also a j)
-  read-mismatch b start e h q = ap (λ x. getD a (x + j) (pos 0)) q ∙ sym (rw (ne-eqb (bitAt p ((s + j / 2) % 3)) (j % 2) (λ r. h (e ∙ r))))
-
--- the size of a term of n groups
-pub term-small : (m u : ℕ → ℤ) (n p s : ℕ) → ((j : ℕ) → j < n → (natAbs (m j) ≤ 2 ^ 53) × (natAbs (u j) ≤ 2 ^ 53)) → n ≤ 6 → natAbs (termZ n m u p s) ≤ 6 * 2 ^ 53
-unfolding termSum
-term-small m u n p s h l =
-    let a = sum-size (2 ^ 53) n all (λ j. cond (agrees p s j) (m j) (u j)) (λ j k e. either (agrees p s j) j k) in
-    let b : count n all ≤ n = count-le all n in
-    omega arith
-  where
-    either : (t : Bool) (j : ℕ) → j < n → natAbs (cond t (m j) (u j)) ≤ 2 ^ 53
-    either true j k = h j k .0
-    either false j k = h j k .1
-
-pub terms-atZ : (m u : ℕ → ℤ) (t : List (List ℤ)) (p s : ℕ) → TermsZ m u t → p < 8 → s < 3 → getD (getD t p []) s (pos 0) ≡ termZ 6 m u p s
-terms-atZ m u t p s T h k = ap (λ r. getD r s (pos 0)) (T .rows p h) ∙ three-at (termZ 6 m u p) (pos 0) s k
-
--- groups that hold the same have the same terms
-pub same-termZ : (n : ℕ) (m m' u u' : ℕ → ℤ) (p s : ℕ) → ((j : ℕ) → j < n → m j ≡ m' j) → ((j : ℕ) → j < n → u j ≡ u' j) → termZ n m u p s ≡ termZ n m' u' p s
-same-termZ n m m' u u' p s e f = same-term n one one p s (λ j h. refl) _+ℤ_ (pos 0) true _ _ (λ b j h. ap₂ (λ x y. cond b x y) (e j h) (f j h))
 
 pub same-cellZ : (m m' u u' : ℕ → ℤ) (n : ℕ) → ((k : ℕ) → k < n * 6 → m k ≡ m' k) → ((k : ℕ) → k < n * 6 → u k ≡ u' k) → (ps : List ℕ) (lc s : ℕ)
     → cellSum _+ℤ_ (pos 0) (familyZ m u) ps n lc s ≡ cellSum _+ℤ_ (pos 0) (familyZ m' u') ps n lc s

@@ -21,7 +21,8 @@ use Rattle.cells.specs.Cells.{longClass, shortClass}
 use Rattle.room.specs.RoomLaws.{cells-in, side-stands, groups-in, groups-past, laid-ext, laid-clear, laid-groups, laid-cells}
 use Rattle.tables.specs.Stages.{row-groups, both}
 use Rattle.sums.specs.Sums.{Likelihoods, cellScore}
-use Rattle.sums.specs.SumParts.{placesZ, valueAt, rowsSum, SumsFillReady, SumsFilled, cellZ, SideReadyZ, SideBuiltZ}
+use Rattle.sum_terms.specs.SumTerms.{placesZ}
+use Rattle.sums.specs.SumParts.{valueAt, rowsSum, SumsFillReady, SumsFilled, cellZ, SideReadyZ, SideBuiltZ}
 use Rattle.sums.specs.SumsRoom.{groupScore, SumsReady, SumsBuilt}
 use Rattle.sums.specs.SumsLaws.{same-cellZ, group-small, families-small, cell-score}
 

@@ -7,7 +7,7 @@ ghost use lib.ListN.{length, getD, set};
 ghost use lib.IntN.{pos, natAbs, _+ℤ_};
 ghost use Rattle.board.specs.Hits.{edges, tables};
 ghost use Rattle.sums.specs.Sums.{likelihoods};
-ghost use Rattle.sums.specs.SumParts.{placesZ, termZ, rowZ, Twelve, someSum, TermsZ, SumsFillReady, SumsFilled, RunReadyZ, RunCreditedZ, FamilyReadyZ, FamilyCreditedZ, SideReadyZ, SideBuiltZ};
+ghost use Rattle.sums.specs.SumParts.{SumsFillReady, SumsFilled, RunReadyZ, RunCreditedZ, FamilyReadyZ, FamilyCreditedZ, SideReadyZ, SideBuiltZ};
 ghost use Rattle.sums.specs.SumsRoom.{SumsReady, SumsBuilt};
 use laws::Periods;
 use room::Side;
@@ -37,7 +37,7 @@ fn fill_sums(
     ensures { λ _. ⌜ SumsFilled (periods .h) (periods .v) (edges (now (rows .entry)) (now (cols .entry)) (now (orientations .entry)) (now (bits .entry)) []) (likelihoods (now (matches .entry)) (now (mismatches .entry))) t base (length (now (rows .entry))) (now (sums .entry)) (now (sums .exit)) ⌝ }
 {
     let row = room::row_of_groups(periods);
-    let matrix = board::transform::matrix_of(t);
+    let matrix = lookup::matrix_of(t);
     let h = laws::modulus_of(periods.h as u32);
     let v = laws::modulus_of(periods.v as u32);
     for i in 0..rows.len() {
@@ -49,49 +49,6 @@ fn fill_sums(
         let u = likelihood::quantize_ll(mismatches[i]);
         add_at(sums, at + row, u);
     }
-}
-
-// What the six groups of a family add at short class s of a class that reads the pattern: the match sum of a group that agrees, the mismatch sum of
-// one that does not. The match groups stand from `from` on, the mismatch groups from `also` on.
-fn fold_sum(sums: &[i64], from: usize, also: usize, pattern: u8, s: u32) -> i64
-    requires { ⌜ Twelve from also (now sums) ⌝ }
-    requires { ⌜ s < 3 ⌝ }
-    ensures { λ r. ⌜ r ≡ termZ 6 (placesZ from (now (sums .entry))) (placesZ also (now (sums .entry))) pattern s ⌝ }
-{
-    let mut sum: i64 = 0;
-    for j in 0..6u32 {
-        let predicted = board::pattern::pattern_bit(pattern, (s + j / 2) % 3);
-        let start = if predicted as u32 == j % 2 {
-            from
-        } else {
-            also
-        };
-        sum = sum + sums[start + j as usize];
-    }
-    sum
-}
-
-// The row of one pattern: the term of each short class.
-fn fold_sum_row(sums: &[i64], from: usize, also: usize, pattern: u8) -> [i64; 3]
-    requires { ⌜ Twelve from also (now sums) ⌝ }
-    ensures { λ r. ⌜ r ≡ rowZ (placesZ from (now (sums .entry))) (placesZ also (now (sums .entry))) pattern ⌝ }
-{
-    let a = fold_sum(sums, from, also, pattern, 0);
-    let b = fold_sum(sums, from, also, pattern, 1);
-    let c = fold_sum(sums, from, also, pattern, 2);
-    [a, b, c]
-}
-
-// The table of terms of a family, a row for each pattern.
-fn fold_sums(sums: &[i64], from: usize, also: usize) -> [[i64; 3]; 8]
-    requires { ⌜ Twelve from also (now sums) ⌝ }
-    ensures { λ r. ⌜ TermsZ (placesZ from (now (sums .entry))) (placesZ also (now (sums .entry))) r ⌝ }
-{
-    let mut terms = [[0i64; 3]; 8];
-    for pattern in 0..8 {
-        terms[pattern] = fold_sum_row(sums, from, also, pattern as u8);
-    }
-    terms
 }
 
 // Credits a run of n classes, as `credit_run` does counts.
@@ -136,7 +93,7 @@ fn credit_sum_held<'a>(
     let stride = side.stride;
     let across = side.across;
     let cells = side.cells;
-    let terms = fold_sums(sums, side.groups + family * 6, also + family * 6);
+    let terms = sum_terms::fold_sums(sums, side.groups + family * 6, also + family * 6);
     let part = board::pattern::patterns_from(h, v, orientation, family);
     let n = part.len();
     credit_sum_run(sums, terms, part, n, cells, stride, across);
@@ -152,22 +109,6 @@ fn credit_sum_held<'a>(
     );
 }
 
-// Whether one of the twelve sums of a family is not 0.
-fn some_sum(sums: &[i64], from: usize, also: usize) -> bool
-    requires { ⌜ Twelve from also (now sums) ⌝ }
-    ensures { λ r. ⌜ r ≡ someSum 6 (placesZ from (now (sums .entry))) (placesZ also (now (sums .entry))) ⌝ }
-{
-    for j in 0..6 {
-        if sums[from + j] != 0 {
-            return true;
-        }
-        if sums[also + j] != 0 {
-            return true;
-        }
-    }
-    false
-}
-
 // Credits one family of a side. A family whose twelve sums are all 0 stores nothing.
 fn credit_sum_family<'a>(
     h: &'a [u8],
@@ -180,7 +121,7 @@ fn credit_sum_family<'a>(
     requires { ⌜ FamilyReadyZ (tables (now h) (now v)) side also family (now sums) ⌝ }
     ensures { λ _. ⌜ FamilyCreditedZ (tables (now (h .entry)) (now (v .entry))) side also family (now (sums .entry)) (now (sums .exit)) ⌝ }
 {
-    if some_sum(sums, side.groups + family * 6, also + family * 6) {
+    if sum_terms::some_sum(sums, side.groups + family * 6, also + family * 6) {
         credit_sum_held(h, v, side, also, family, sums);
     }
 }
@@ -218,7 +159,7 @@ pub fn build_sums<'a>(
         v: v.len(),
     };
     let end = room::used_by_sums(periods);
-    room::clear_i64(sums, end);
+    clearing::clear_i64(sums, end);
     let horizontal = room::horizontal(periods);
     fill_sums(
         rows,

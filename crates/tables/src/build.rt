@@ -38,8 +38,8 @@ pub fn build_tables<'a>(
         v: v.len(),
     };
     let end = room::used_by_tables(periods);
-    room::clear_u32(counts, end);
-    room::clear_f32(weights, end);
+    clearing::clear_u32(counts, end);
+    clearing::clear_f32(weights, end);
     let horizontal = room::horizontal(periods);
     groups::groups::fill_groups(
         rows,

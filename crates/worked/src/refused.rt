@@ -228,7 +228,7 @@ fn soft_of(a: u32, b: u32) -> Admission {
     let h = horizontal_of(a, b);
     let v = vertical_of(a, b);
     let n = lengths_of(a, b);
-    admission::refusal::soft_admission(
+    soft_admission::soft_admission(
         front_i32(&rows, n.logical),
         front_i32(&cols, n.cols),
         front_u8(&orientations, n.logical),

@@ -144,7 +144,7 @@ fn soft_of(a: Bad, b: Bad) -> Admission {
     let mismatches = column_f32(-2.0, -65537.0, 7, 2, a, b);
     let transforms = [5u8; 1];
     let table = [2u8; 167];
-    admission::refusal::soft_admission(
+    soft_admission::soft_admission(
         lent_i32(&rows),
         lent_i32(&cols),
         lent_u8(&orientations),

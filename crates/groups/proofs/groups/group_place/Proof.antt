@@ -5,7 +5,7 @@ use lib.IntN.{ℤ, natAbs}
 use mir.Syntax.{w32}
 use Rattle.laws.specs.Signed.{read}
 use borrow.Author.Tests.{eq-eqb, ne-eqb}
-use Rattle.board.specs.declared.transform.EdgeLookup.{EdgeLookup}
+use Rattle.board.specs.declared.edge.EdgeLookup.{EdgeLookup}
 use Rattle.board.specs.Transform.{lookupOf}
 use Rattle.board.specs.TransformLaws.{lookup-near}
 use Rattle.room.specs.Room.{PeriodsOk}

@@ -11,8 +11,8 @@ use mir.Facts.{toZ-ofZ}
 use Rattle.laws.specs.Words.{origins}
 use Rattle.grid.specs.RowMajor.{lowest}
 use Rattle.grid.specs.RowMajorLaws.{lowest-no, lowest-yes}
-use Rattle.pair.specs.Level.{sAt, tiedSum}
-use Rattle.pair.specs.SumsLaws.{read-eq}
+use Rattle.level.specs.Level.{sAt, tiedSum}
+use Rattle.level.specs.SumsLaws.{read-eq}
 use Rattle.grid.specs.RowFloor.{floor-stays}
 use Rattle.pair.proofs.pair.lowest_tied_key.Statement.{statement}
 use Rattle.pair.proofs.pair.lowest_tied_key.Tie as tie

@@ -8,10 +8,10 @@ use mir.Val.{toZ, ofZ}
 use mir.Facts.{toZ-ofZ}
 use Rattle.laws.specs.Words.{origins}
 use Rattle.grid.specs.BoardGrid.{none-small}
-use Rattle.pair.specs.Level.{sAt, tiedSum}
+use Rattle.level.specs.Level.{sAt, tiedSum}
 use Rattle.pair.specs.Pair.{otherIn}
 use Rattle.pair.specs.PairLaws.{other-step, other-kept}
-use Rattle.pair.specs.SumsLaws.{read-eq}
+use Rattle.level.specs.SumsLaws.{read-eq}
 use Rattle.pair.proofs.pair.other_in.Statement.{statement}
 use Rattle.pair.proofs.pair.other_in.Tie as tie
 

@@ -9,10 +9,10 @@ use mir.Val.{toZ, ofZ}
 use mir.Facts.{toZ-ofZ}
 use Rattle.laws.specs.Words.{origins}
 use Rattle.grid.specs.BoardGrid.{none-small}
-use Rattle.pair.specs.Level.{sAt, tiedSum}
+use Rattle.level.specs.Level.{sAt, tiedSum}
 use Rattle.pair.specs.Pair.{otherPair}
 use Rattle.pair.specs.PairLaws.{pair-no, pair-yes}
-use Rattle.pair.specs.SumsLaws.{read-eq}
+use Rattle.level.specs.SumsLaws.{read-eq}
 use Rattle.pair.proofs.pair.other_pair.Statement.{statement}
 use Rattle.pair.proofs.pair.other_pair.Tie as tie
 

@@ -11,8 +11,8 @@ use Rattle.laws.specs.Words.{origins}
 use Rattle.grid.specs.RowMajor.{rowMajor}
 use Rattle.grid.specs.RowMajorLaws.{major-no, major-yes}
 use Rattle.grid.specs.BoardGrid.{none-small}
-use Rattle.pair.specs.Level.{sAt, tiedSum}
-use Rattle.pair.specs.SumsLaws.{read-eq}
+use Rattle.level.specs.Level.{sAt, tiedSum}
+use Rattle.level.specs.SumsLaws.{read-eq}
 use Rattle.pair.proofs.pair.row_major_first_tied.Statement.{statement}
 use Rattle.pair.proofs.pair.row_major_first_tied.Tie as tie
 

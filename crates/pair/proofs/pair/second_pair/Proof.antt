@@ -1,7 +1,7 @@
 use borrow.Author.Needs.{needs}
 use mathlib.Core.Bool.{true, false}
 use Rattle.pair.specs.PairLaws.{second-down, second-across}
-use Rattle.pair.specs.SumsLaws.{sum-fits, sums-lt}
+use Rattle.level.specs.SumsLaws.{sum-fits, sums-lt}
 use Rattle.pair.proofs.pair.second_pair.Statement.{statement}
 use Rattle.pair.proofs.pair.second_pair.Tie as tie
 

@@ -5,9 +5,9 @@ use borrow.Author.Needs.{needs}
 use native.Mathlib.Nat.{div-le-self, mod-le}
 use Rattle.laws.specs.Words.{origins}
 use Rattle.grid.specs.BoardGrid.{grid}
-use Rattle.pair.specs.Level.{sAt}
-use Rattle.pair.specs.Sums.{sums}
-use Rattle.pair.specs.SumsLaws.{sum-fits, sum-small, sum-read}
+use Rattle.level.specs.Level.{sAt}
+use Rattle.level.specs.Sums.{sums}
+use Rattle.level.specs.SumsLaws.{sum-fits, sum-small, sum-read}
 use Rattle.soft.specs.ScanLaws.{candidate-made}
 use Rattle.soft.proofs.record.candidate_of.Statement.{statement}
 use Rattle.soft.proofs.record.candidate_of.Tie as tie

@@ -1,5 +1,5 @@
 use borrow.Author.Needs.{needs}
-use Rattle.pair.specs.Sums.{sums}
+use Rattle.level.specs.Sums.{sums}
 use Rattle.pair.specs.PairLaws.{two-small}
 use Rattle.soft.specs.ScanLaws.{folded}
 use Rattle.soft.proofs.record.fold_transform.Statement.{statement}

@@ -5,7 +5,7 @@ use native.Mathlib.Omega.{arith}
 use lib.IntN.{ℤ}
 use lib.ListN.{take, drop}
 use borrow.Author.Needs.{needs}
-use Rattle.pair.specs.Sums.{SumTables, sums, SumsOk}
+use Rattle.level.specs.Sums.{SumTables, sums, SumsOk}
 use Rattle.soft.specs.Scan.{softFolded}
 use Rattle.soft.specs.SelectLaws.{roomSums}
 use Rattle.soft.proofs.select.fold_room.Statement.{statement}

@@ -1,0 +1,4 @@
+pub mod Level
+pub mod LevelLaws
+pub mod Sums
+pub mod SumsLaws

@@ -1,0 +1,2 @@
+pub mod SumTerms
+pub mod SumTermsLaws

@@ -9,7 +9,7 @@ pub struct Square {
     pub col: u32,
 }
 
-// What a found answer holds: the square that the camera faces, how well it fits, and the best competitor.
+// What a found hard answer holds: the square that the camera faces, how well the logical list fits there, and the best competitor. Whatever counts edges is a whole number and says so by its name.
 pub struct Decoded {
     pub square: Square,
     pub hits: u32,
@@ -18,14 +18,44 @@ pub struct Decoded {
     pub error_rate: f32,
     pub mean_confidence: f32,
     pub best_score: f32,
-    pub runner_up_score: f32,
-    pub margin: f32,
     pub runner_up: Square,
+    pub runner_up_hits: u32,
+    pub margin_hits: u32,
 }
 
-// The answer of hard and soft decode.
+// The answer of hard decode.
 pub enum Answer {
     Found(Decoded),
+    Refused(Refusal),
+}
+
+// What a found soft answer holds: the square, how well the physical list fits there, the two best scores, which are log likelihoods, with the placing that has the second, and the best competitor by
+// hits on the logical list. The second by likelihood and the runner-up by hits may be two squares.
+pub struct SoftDecoded {
+    pub square: Square,
+    pub hits: u32,
+    pub edges: u32,
+    pub weighted_score: f32,
+    pub error_rate: f32,
+    pub mean_confidence: f32,
+    pub best_score: f32,
+    pub second: Square,
+    pub second_score: f32,
+    pub margin: f32,
+    pub runner_up: Square,
+    pub runner_up_hits: u32,
+}
+
+// The answer of soft decode.
+pub enum SoftAnswer {
+    Found(SoftDecoded),
+    Refused(Refusal),
+}
+
+// The answer of either decoder, for those who tell of both.
+pub enum AnyAnswer {
+    Hard(Decoded),
+    Soft(SoftDecoded),
     Refused(Refusal),
 }
 

@@ -55,11 +55,11 @@ flatFound d = record {
   «error_rate» = d .«error_rate»;
   «mean_confidence» = d .«mean_confidence»;
   «best_score» = d .«best_score»;
-  «runner_up_score» = d .«runner_up_score»;
-  margin = d .margin;
   «runner_up_transform» = d .«runner_up» .transform;
   «runner_up_row» = d .«runner_up» .row;
   «runner_up_col» = d .«runner_up» .col;
+  «runner_up_hits» = d .«runner_up_hits»;
+  «margin_hits» = d .«margin_hits»;
 }
 
 -- a refusal: its number, the list and the position of its edge, 0xFFFFFFFF for every other whole number, and x for every float
@@ -77,18 +77,18 @@ refusedWith n l i x = record {
   «error_rate» = x;
   «mean_confidence» = x;
   «best_score» = x;
-  «runner_up_score» = x;
-  margin = x;
   «runner_up_transform» = nothing;
   «runner_up_row» = nothing;
   «runner_up_col» = nothing;
+  «runner_up_hits» = nothing;
+  «margin_hits» = nothing;
 }
 
 -- and x is NaN
 abbrev pub flatRefused : Refusal → FlatAnswer
 flatRefused r = refusedWith (r .number) (flatList (r .place)) (flatPosition (r .place)) nan
 
--- the answer of a decoder
+-- the answer of hard decode
 abbrev pub flat : Answer → FlatAnswer
 flat (Found d) = flatFound d
 flat (Refused r) = flatRefused r

@@ -1,2 +1,3 @@
 pub mod Flat
+pub mod FlatSoft
 pub mod FlatLaws

@@ -1,4 +1,4 @@
-// The answer of a decoder as a struct of plain numbers, for callers whose language has no enum with fields. A refusal has its number and its place, and fills every other field with what no found answer has.
+// The answer of hard decode as a struct of plain numbers, for callers whose language has no enum with fields. A refusal has its number and its place, and fills every other field with what no found answer has.
 ghost use mathlib.Core.Path.{_≡_};
 ghost use lib.Ieee.{nan};
 ghost use Rattle.flat.specs.Flat.{flat, flatFound, flatRefused, listNumber, flatList, flatPosition};
@@ -21,7 +21,7 @@ const PHYSICAL_LIST: u32 = 2;
 
 const ONLY_LIST: u32 = 3;
 
-// The answer of hard and soft decode: refusal is NOT_REFUSED when found. List and position are of the edge that a refusal is about, and NOTHING where it is about none.
+// The answer of hard decode: refusal is NOT_REFUSED when found. List and position are of the edge that a refusal is about, and NOTHING where it is about none.
 #[repr(C)]
 pub struct FlatAnswer {
     pub refusal: u32,
@@ -36,11 +36,11 @@ pub struct FlatAnswer {
     pub error_rate: f32,
     pub mean_confidence: f32,
     pub best_score: f32,
-    pub runner_up_score: f32,
-    pub margin: f32,
     pub runner_up_transform: u32,
     pub runner_up_row: u32,
     pub runner_up_col: u32,
+    pub runner_up_hits: u32,
+    pub margin_hits: u32,
 }
 
 // The place of a float in a refusal.
@@ -105,11 +105,11 @@ fn found(d: Decoded) -> FlatAnswer
         error_rate: d.error_rate,
         mean_confidence: d.mean_confidence,
         best_score: d.best_score,
-        runner_up_score: d.runner_up_score,
-        margin: d.margin,
         runner_up_transform,
         runner_up_row: runner.row,
         runner_up_col: runner.col,
+        runner_up_hits: d.runner_up_hits,
+        margin_hits: d.margin_hits,
     }
 }
 
@@ -134,15 +134,15 @@ fn refused(refusal: Refusal) -> FlatAnswer
         error_rate: none,
         mean_confidence: none,
         best_score: none,
-        runner_up_score: none,
-        margin: none,
         runner_up_transform: NOTHING,
         runner_up_row: NOTHING,
         runner_up_col: NOTHING,
+        runner_up_hits: NOTHING,
+        margin_hits: NOTHING,
     }
 }
 
-// The answer of a decoder as a struct.
+// The answer of hard decode as a struct.
 pub fn flattened(answer: Answer) -> FlatAnswer
     ensures { λ r. ⌜ r ≡ flat answer ⌝ }
 {

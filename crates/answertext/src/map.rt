@@ -1,7 +1,7 @@
 // The picture's file: an earlier picture is removed first, and a new one is written beside its place and then renamed.
 use crate::picture::put_head;
 use crate::picture::put_picture;
-use answer::Decoded;
+use crate::shown::Shown;
 use console::page::put_argument;
 use console::page::write;
 use slices::page::blank;
@@ -45,9 +45,9 @@ fn save_as(i: usize, page: &[u8; 32768], n: usize) -> bool {
 }
 
 // The picture of a found answer in the file that argument i names; false after a message where it cannot be written.
-pub fn draw(i: usize, d: Decoded, extent: Extent) -> bool {
+pub fn draw(i: usize, shown: Shown, extent: Extent) -> bool {
     let mut page = blank();
-    let n = put_picture(&mut page, 0, d, extent);
+    let n = put_picture(&mut page, 0, shown, extent);
     is_whole(n) && save_as(i, &page, n)
 }
 

@@ -1,10 +1,10 @@
 // The picture: the whole board (SVG) with the square that the camera faces, the view's outline and the runner-up. Its unit is a square of the board; two pixels show one.
+use crate::shown::Shown;
 use crate::words::SIDE;
 use crate::words::entry_of;
 use crate::words::one_of;
 use crate::words::orientation_of;
 use crate::words::put_told;
-use answer::Decoded;
 use answer::Square;
 use console::form::put_wholes;
 use slices::page::put;
@@ -233,9 +233,9 @@ fn put_board(page: &mut [u8; 32768], at: usize) -> usize {
 }
 
 // What each mark is, in words, below the board.
-fn put_legend(page: &mut [u8; 32768], at: usize, d: Decoded, x: Span, y: Span) -> usize {
-    let square = d.square;
-    let runner = d.runner_up;
+fn put_legend(page: &mut [u8; 32768], at: usize, shown: Shown, x: Span, y: Span) -> usize {
+    let square = shown.square;
+    let runner = shown.runner_up;
     let wholes = [
         square.row,
         square.col,
@@ -243,14 +243,15 @@ fn put_legend(page: &mut [u8; 32768], at: usize, d: Decoded, x: Span, y: Span) -
         square.transform as u32,
         y.size,
         x.size,
-        d.hits,
-        d.edges,
+        shown.hits,
+        shown.edges,
         runner.row,
         runner.col,
         orientation_of(runner.transform),
         runner.transform as u32,
+        shown.runner_up_hits,
     ];
-    let floats = [d.error_rate, d.runner_up_score];
+    let floats = [shown.error_rate];
     put_told(
         page,
         at,
@@ -259,7 +260,7 @@ fn put_legend(page: &mut [u8; 32768], at: usize, d: Decoded, x: Span, y: Span) -
         <text x=\"70\" y=\"1126\" fill=\"#c00000\">arrow: right in the view; broken arrow: down in the view; they start at the view's row 0, column 0</text>\n\
         <text x=\"70\" y=\"1152\" fill=\"#1f6fd0\">outline of the view: % rows by % columns of the board</text>\n\
         <text x=\"70\" y=\"1178\">hits: % of % edges, error rate ~</text>\n\
-        <text x=\"70\" y=\"1204\" fill=\"#d07000\">runner-up: row %, column %, @ (transform %), with ~ hits</text>\n\
+        <text x=\"70\" y=\"1204\" fill=\"#d07000\">runner-up: row %, column %, @ (transform %), with % hits</text>\n\
         </svg>\n",
         &wholes,
         &floats,
@@ -267,12 +268,17 @@ fn put_legend(page: &mut [u8; 32768], at: usize, d: Decoded, x: Span, y: Span) -
 }
 
 // The whole picture of a found answer.
-pub(crate) fn put_picture(page: &mut [u8; 32768], at: usize, d: Decoded, extent: Extent) -> usize {
-    let x = span_of_columns(extent, d.square);
-    let y = span_of_rows(extent, d.square);
+pub(crate) fn put_picture(
+    page: &mut [u8; 32768],
+    at: usize,
+    shown: Shown,
+    extent: Extent,
+) -> usize {
+    let x = span_of_columns(extent, shown.square);
+    let y = span_of_rows(extent, shown.square);
     let n = put_board(page, at);
     let n = put_outline(page, n, x, y);
-    let n = put_runner(page, n, d.runner_up);
-    let n = put_faced(page, n, d.square);
-    put_legend(page, n, d, x, y)
+    let n = put_runner(page, n, shown.runner_up);
+    let n = put_faced(page, n, shown.square);
+    put_legend(page, n, shown, x, y)
 }

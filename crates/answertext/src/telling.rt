@@ -1,6 +1,8 @@
 // The answer, for people and for programs. A refusal is written without a square in any form.
+use crate::shown::Shown;
+use crate::shown::of_hard;
+use crate::shown::of_soft;
 use crate::words::DECODE;
-use crate::words::LEAD;
 use crate::words::PLAIN_DECODE;
 use crate::words::advice_of;
 use crate::words::directions_of;
@@ -10,8 +12,9 @@ use crate::words::one_of;
 use crate::words::orientation_of;
 use crate::words::put_told;
 use crate::words::remark_of;
-use answer::Answer;
+use answer::AnyAnswer;
 use answer::Decoded;
+use answer::SoftDecoded;
 use console::form::put_wholes;
 use console::page::put_count;
 use refusals::EdgePlace;
@@ -58,37 +61,92 @@ fn put_settings(
     put_told(page, n, last, &remarks, &floats)
 }
 
-// A found answer for people.
-fn put_found(page: &mut [u8; 32768], at: usize, d: Decoded, soft: bool) -> usize {
-    let square = d.square;
-    let runner = d.runner_up;
+// The square, how the board lies there and how well a list fits, for people.
+fn put_square(page: &mut [u8; 32768], at: usize, shown: Shown) -> usize {
+    let square = shown.square;
     let wholes = [
         square.row,
         square.col,
         orientation_of(square.transform),
         square.transform as u32,
         directions_of(square.transform),
-        d.hits,
-        d.edges,
-        one_of(LEAD, soft),
-        runner.row,
-        runner.col,
-        orientation_of(runner.transform),
-        runner.transform as u32,
+        shown.hits,
+        shown.edges,
     ];
-    let floats = [d.error_rate, d.mean_confidence, d.margin, d.runner_up_score];
+    let floats = [shown.error_rate, shown.mean_confidence];
     put_told(
         page,
         at,
         b"found row %, column %\n\
         \x20 orientation  the board appears @ (transform %):\n\
         \x20              @\n\
-        \x20 hits         % of % edges, error rate ~, mean confidence ~\n\
-        \x20 lead         ~@\n\
-        \x20 runner-up    row %, column %, @ (transform %), with ~ hits\n",
+        \x20 hits         % of % edges, error rate ~, mean confidence ~\n",
         &wholes,
         &floats,
     )
+}
+
+// The runner-up by hits, for people.
+fn put_runner_up(page: &mut [u8; 32768], at: usize, shown: Shown) -> usize {
+    let runner = shown.runner_up;
+    let wholes = [
+        runner.row,
+        runner.col,
+        orientation_of(runner.transform),
+        runner.transform as u32,
+        shown.runner_up_hits,
+    ];
+    let none = [0.0f32; 1];
+    put_told(
+        page,
+        at,
+        b"  runner-up    row %, column %, @ (transform %), with % hits\n",
+        &wholes,
+        &none,
+    )
+}
+
+// A found hard answer for people: the lead is in hits.
+fn put_found(page: &mut [u8; 32768], at: usize, d: Decoded) -> usize {
+    let shown = of_hard(d);
+    let wholes = [d.margin_hits];
+    let n = put_square(page, at, shown);
+    let n = put_wholes(
+        page,
+        n,
+        b"  lead         % hits over the runner-up\n",
+        &wholes,
+    );
+    put_runner_up(page, n, shown)
+}
+
+// The two best by log likelihood, for people: the lead is for each edge, and the second may be another square than the runner-up.
+fn put_likelihoods(page: &mut [u8; 32768], at: usize, d: SoftDecoded) -> usize {
+    let second = d.second;
+    let wholes = [
+        second.row,
+        second.col,
+        orientation_of(second.transform),
+        second.transform as u32,
+    ];
+    let floats = [d.margin, d.best_score, d.second_score];
+    put_told(
+        page,
+        at,
+        b"  lead         ~ in log likelihood for each edge\n\
+        \x20 likelihood   ~ in log likelihood, and ~ at the second\n\
+        \x20 second       row %, column %, @ (transform %), by log likelihood\n",
+        &wholes,
+        &floats,
+    )
+}
+
+// A found soft answer for people.
+fn put_soft_found(page: &mut [u8; 32768], at: usize, d: SoftDecoded) -> usize {
+    let shown = of_soft(d);
+    let n = put_square(page, at, shown);
+    let n = put_likelihoods(page, n, d);
+    put_runner_up(page, n, shown)
 }
 
 // A refusal that is about one edge: its number, its list and its position, counted from 1 for people.
@@ -134,10 +192,17 @@ fn put_refused(page: &mut [u8; 32768], at: usize, refusal: Refusal) -> usize {
 }
 
 // The answer for people.
-pub fn put_answer(page: &mut [u8; 32768], at: usize, a: Answer, s: Settings, soft: bool) -> usize {
+pub fn put_answer(
+    page: &mut [u8; 32768],
+    at: usize,
+    a: AnyAnswer,
+    s: Settings,
+    soft: bool,
+) -> usize {
     let n = match a {
-        Answer::Found(d) => put_found(page, at, d, soft),
-        Answer::Refused(r) => put_refused(page, at, r),
+        AnyAnswer::Hard(d) => put_found(page, at, d),
+        AnyAnswer::Soft(d) => put_soft_found(page, at, d),
+        AnyAnswer::Refused(r) => put_refused(page, at, r),
     };
     put_settings(
         page,
@@ -150,36 +215,75 @@ pub fn put_answer(page: &mut [u8; 32768], at: usize, a: Answer, s: Settings, sof
     )
 }
 
-// A found answer in keys and values.
-fn put_plain_found(page: &mut [u8; 32768], at: usize, d: Decoded) -> usize {
-    let square = d.square;
-    let runner = d.runner_up;
+// The square and how well a list fits there, in keys and values.
+fn put_plain_square(page: &mut [u8; 32768], at: usize, shown: Shown) -> usize {
+    let square = shown.square;
     let wholes = [
         square.row,
         square.col,
         square.transform as u32,
-        d.hits,
-        d.edges,
+        shown.hits,
+        shown.edges,
+    ];
+    let floats = [shown.error_rate, shown.mean_confidence];
+    put_told(
+        page,
+        at,
+        b"result=found square=%,% transform=% hits=% edges=% rate=~ mean=~",
+        &wholes,
+        &floats,
+    )
+}
+
+// The runner-up by hits, in keys and values.
+fn put_plain_runner_up(page: &mut [u8; 32768], at: usize, shown: Shown) -> usize {
+    let runner = shown.runner_up;
+    let wholes = [
+        shown.runner_up_hits,
         runner.row,
         runner.col,
         runner.transform as u32,
     ];
-    let floats = [
-        d.error_rate,
-        d.mean_confidence,
-        d.weighted_score,
-        d.best_score,
-        d.margin,
-        d.runner_up_score,
-    ];
-    put_told(
+    put_wholes(
         page,
         at,
-        b"result=found square=%,% transform=% hits=% edges=% rate=~ mean=~ weighted=~ score=~ lead=~ \
-        runner_hits=~ runner_square=%,% runner_transform=%",
+        b" runner_hits=% runner_square=%,% runner_transform=%",
+        &wholes,
+    )
+}
+
+// A found hard answer in keys and values.
+fn put_plain_found(page: &mut [u8; 32768], at: usize, d: Decoded) -> usize {
+    let shown = of_hard(d);
+    let wholes = [d.margin_hits];
+    let floats = [d.weighted_score, d.best_score];
+    let n = put_plain_square(page, at, shown);
+    let n = put_told(
+        page,
+        n,
+        b" weighted=~ score=~ lead_hits=%",
         &wholes,
         &floats,
-    )
+    );
+    put_plain_runner_up(page, n, shown)
+}
+
+// A found soft answer in keys and values: what is a log likelihood says so by its key.
+fn put_plain_soft_found(page: &mut [u8; 32768], at: usize, d: SoftDecoded) -> usize {
+    let shown = of_soft(d);
+    let second = d.second;
+    let wholes = [second.row, second.col, second.transform as u32];
+    let floats = [d.weighted_score, d.best_score, d.second_score, d.margin];
+    let n = put_plain_square(page, at, shown);
+    let n = put_told(
+        page,
+        n,
+        b" log_likelihood_per_edge=~ log_likelihood=~ second_log_likelihood=~ lead_log_likelihood_per_edge=~ \
+        second_square=%,% second_transform=%",
+        &wholes,
+        &floats,
+    );
+    put_plain_runner_up(page, n, shown)
 }
 
 // A refusal in keys and values; where it is about an edge, its list, and its position from 0.
@@ -206,10 +310,17 @@ fn put_plain_refused(page: &mut [u8; 32768], at: usize, refusal: Refusal) -> usi
 }
 
 // The answer in keys and values, for programs; the line is left open.
-pub fn put_plain(page: &mut [u8; 32768], at: usize, a: Answer, s: Settings, soft: bool) -> usize {
+pub fn put_plain(
+    page: &mut [u8; 32768],
+    at: usize,
+    a: AnyAnswer,
+    s: Settings,
+    soft: bool,
+) -> usize {
     let n = match a {
-        Answer::Found(d) => put_plain_found(page, at, d),
-        Answer::Refused(r) => put_plain_refused(page, at, r),
+        AnyAnswer::Hard(d) => put_plain_found(page, at, d),
+        AnyAnswer::Soft(d) => put_plain_soft_found(page, at, d),
+        AnyAnswer::Refused(r) => put_plain_refused(page, at, r),
     };
     put_settings(
         page,

@@ -2,25 +2,22 @@
 use console::form::put_form;
 use refusals::ListName;
 
-// How far ahead the square is: by hits, and after it by likelihood.
-pub(crate) const LEAD: u32 = 45;
-
 // How the view was decoded, for people and for programs: hard, and after it soft.
-pub(crate) const DECODE: u32 = 47;
+pub(crate) const DECODE: u32 = 45;
 
-pub(crate) const PLAIN_DECODE: u32 = 49;
+pub(crate) const PLAIN_DECODE: u32 = 47;
 
 // An entry of a matrix: 0, and after it 1 and -1.
-const ENTRY: u32 = 51;
+const ENTRY: u32 = 49;
 
 // A remark on a setting that the file gave, which is empty, and after it on one that it did not.
-const OWN: u32 = 54;
+const OWN: u32 = 52;
 
 // A name that stands right of its square, and after it left.
-pub(crate) const SIDE: u32 = 56;
+pub(crate) const SIDE: u32 = 54;
 
 // A list: the logical one, and after it the physical and the only one.
-const LIST: u32 = 58;
+const LIST: u32 = 56;
 
 // A form with phrases: orientations from 0 on and directions from 9 on by transform, meanings from 18 on and advice from 37 on by refusal, then the phrases above. A turn
 // is what the view shows of the board as printed; directions are where on the board one goes when one goes right, and down, in the view. A file that was read
@@ -81,8 +78,6 @@ pub(crate) fn put_told(
         show more of the board, or better the light or the focus\n\
         show more of the board, or lower the margin\n\
         take the picture again; if it stays so, check how the likelihoods are made\n\
-        \x20hits over the runner-up\n\
-        \x20in log likelihood for each edge\n\
         hard, by hits (the view has no log likelihoods)\n\
         soft, by log likelihoods and then by hits\n\
         hard\n\

@@ -1,8 +1,7 @@
 // An answer as seventeen words: 0 or the refusal's number, transform, row, column, hits, edges, weighted score, rate, mean, best score, the runner-up's score (before
 // the gate: its hits), margin, the runner-up's transform, row and column, and the list and the position of the edge that a refusal is about. A place that an answer
 // leaves empty holds 0xffffffff.
-use answer::Answer;
-use answer::Decoded;
+use answer::AnyAnswer;
 use answer::MatchStats;
 use answer::StatsAnswer;
 use console::print::bits_of;
@@ -13,6 +12,8 @@ use hard::select::Selection;
 use refusals::Refusal;
 use scan::scan::Candidate;
 use scan::scan::RunnerUp;
+use ten_fields::TenAnswer;
+use ten_fields::TenFields;
 
 // The place of the number in an answer that is no refusal.
 const NOT_REFUSED: u32 = 0;
@@ -27,8 +28,8 @@ fn refused(refusal: Refusal) -> [u32; 17] {
     words
 }
 
-// What a found answer holds.
-fn found(d: Decoded) -> [u32; 17] {
+// What a found answer holds, in document 01's ten fields.
+fn found(d: TenFields) -> [u32; 17] {
     [
         NOT_REFUSED,
         d.square.transform as u32,
@@ -51,10 +52,11 @@ fn found(d: Decoded) -> [u32; 17] {
 }
 
 // Hard or soft decode.
-pub(crate) fn words_of(a: Answer) -> [u32; 17] {
-    match a {
-        Answer::Found(d) => found(d),
-        Answer::Refused(r) => refused(r),
+pub(crate) fn words_of(a: AnyAnswer) -> [u32; 17] {
+    let ten = ten_fields::ten_fields(a);
+    match ten {
+        TenAnswer::Found(d) => found(d),
+        TenAnswer::Refused(r) => refused(r),
     }
 }
 

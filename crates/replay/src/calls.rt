@@ -61,7 +61,7 @@ fn hard_call(
 ) -> [u32; 17] {
     let mut counts = [7u32; 3010];
     let mut weights = [7.0f32; 3010];
-    words_of(decode_hard::decode_hard(
+    let answer = decode_hard::decode_hard(
         part_i32(wholes, FIRST, l.rows),
         part_i32(wholes, SECOND, l.cols),
         part_u8(bytes, FIRST, l.orientations),
@@ -78,7 +78,8 @@ fn hard_call(
         limit,
         room_u32(&mut counts, room.counts),
         room_f32(&mut weights, room.weights),
-    ))
+    );
+    words_of(ten_fields::any_of_hard(answer))
 }
 
 // Soft decode.
@@ -96,7 +97,7 @@ fn soft_call(
     let mut counts = [7u32; 3010];
     let mut weights = [7.0f32; 3010];
     let mut sums = [7i64; 5014];
-    words_of(decode_soft::decode_soft(
+    let answer = decode_soft::decode_soft(
         part_i32(wholes, FIRST, l.rows),
         part_i32(wholes, SECOND, l.cols),
         part_u8(bytes, FIRST, l.orientations),
@@ -117,7 +118,8 @@ fn soft_call(
         room_u32(&mut counts, room.counts),
         room_f32(&mut weights, room.weights),
         room_i64(&mut sums, room.sums),
-    ))
+    );
+    words_of(ten_fields::any_of_soft(answer))
 }
 
 // Match statistics of the physical list.

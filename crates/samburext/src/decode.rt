@@ -1,5 +1,5 @@
 // The decoder called on what the files gave. One list serves for both where the view has only one; where the physical list has log likelihoods, decode is soft.
-use answer::Answer;
+use answer::AnyAnswer;
 use slices::part::part_f32;
 use slices::part::part_i32;
 use slices::part::part_u8;
@@ -57,10 +57,10 @@ fn hard_of(
     transforms: &[u8],
     tables: &[u8],
     limit: f32,
-) -> Answer {
+) -> AnyAnswer {
     let mut counts = [0u32; 3006];
     let mut weights = [0.0f32; 3006];
-    decode_hard::decode_hard(
+    let answer = decode_hard::decode_hard(
         part_i32(wholes, l.from, l.edges),
         part_i32(wholes, l.second, l.edges),
         part_u8(bytes, l.from, l.edges),
@@ -77,7 +77,8 @@ fn hard_of(
         limit,
         &mut counts,
         &mut weights,
-    )
+    );
+    ten_fields::any_of_hard(answer)
 }
 
 // What soft decode says of two parts of the columns.
@@ -91,11 +92,11 @@ fn soft_of(
     tables: &[u8],
     limit: f32,
     margin: f32,
-) -> Answer {
+) -> AnyAnswer {
     let mut counts = [0u32; 3006];
     let mut weights = [0.0f32; 3006];
     let mut sums = [0i64; 5010];
-    decode_soft::decode_soft(
+    let answer = decode_soft::decode_soft(
         part_i32(wholes, l.from, l.edges),
         part_i32(wholes, l.second, l.edges),
         part_u8(bytes, l.from, l.edges),
@@ -116,7 +117,8 @@ fn soft_of(
         &mut counts,
         &mut weights,
         &mut sums,
-    )
+    );
+    ten_fields::any_of_soft(answer)
 }
 
 // The transforms that are listed.
@@ -131,7 +133,7 @@ pub(crate) fn decode(
     bytes: &[u8; 32768],
     floats: &[f32; 49152],
     tables: &[u8; 334],
-) -> Answer {
+) -> AnyAnswer {
     let l = part_of(view, false);
     let p = part_of(view, true);
     let settings = view.settings;

@@ -1,8 +1,10 @@
 // The command: which square of a board a camera faces. A program has no exit status; the script `samburext` at the root makes one of the first word written.
 mod decode; // the decoder called on what the files gave
 
-use answer::Answer;
+use answer::AnyAnswer;
 use answertext::map;
+use answertext::shown;
+use answertext::shown::Shown;
 use answertext::telling;
 use console::form;
 use console::page::put_argument;
@@ -52,7 +54,7 @@ fn put_plain_map(page: &mut [u8; 32768], at: usize, state: u32) -> usize {
 }
 
 // The answer written as it was asked for.
-fn tell(o: Options, a: Answer, view: View, found: bool) {
+fn tell(o: Options, a: AnyAnswer, view: View, found: bool) {
     let soft = decode::is_soft(view);
     let state = map_state(o, found);
     let settings = view.settings;
@@ -67,21 +69,23 @@ fn tell(o: Options, a: Answer, view: View, found: bool) {
     say(&room, n);
 }
 
-// The answer with its picture, if one is asked for. Where the picture cannot be written, no answer is given.
-fn conclude(o: Options, a: Answer, view: View) {
+// A found answer with its picture, if one is asked for. Where the picture cannot be written, no answer is given.
+fn conclude_found(o: Options, a: AnyAnswer, found: Shown, view: View) {
+    if o.map != 0 {
+        if !map::draw(o.map, found, view.extent) {
+            give_up(o);
+            return;
+        }
+    }
+    tell(o, a, view, true);
+}
+
+// The answer; a refusal has no picture.
+fn conclude(o: Options, a: AnyAnswer, view: View) {
     match a {
-        Answer::Found(d) => {
-            if o.map != 0 {
-                if !map::draw(o.map, d, view.extent) {
-                    give_up(o);
-                    return;
-                }
-            }
-            tell(o, a, view, true);
-        }
-        Answer::Refused(_) => {
-            tell(o, a, view, false);
-        }
+        AnyAnswer::Hard(d) => conclude_found(o, a, shown::of_hard(d), view),
+        AnyAnswer::Soft(d) => conclude_found(o, a, shown::of_soft(d), view),
+        AnyAnswer::Refused(_) => tell(o, a, view, false),
     }
 }
 

@@ -6,11 +6,24 @@ use lib.IntN.{pos}
 use lib.Ieee.{Float, nan, binary32, ofInt}
 use Rattle.answer.specs.declared.Decoded.{Decoded}
 use Rattle.answer.specs.declared.SoftDecoded.{SoftDecoded}
+use Rattle.answer.specs.declared.Answer.{Answer}
+use Rattle.answer.specs.declared.Answer.the-variants as hard
+use Rattle.answer.specs.declared.SoftAnswer.{SoftAnswer}
+use Rattle.answer.specs.declared.SoftAnswer.the-variants as soft
 use Rattle.answer.specs.declared.AnyAnswer.{AnyAnswer}
 use Rattle.answer.specs.declared.AnyAnswer.the-variants as any
 use Rattle.ten_fields.specs.declared.TenFields.{TenFields}
 use Rattle.ten_fields.specs.declared.TenAnswer.{TenAnswer}
 use Rattle.ten_fields.specs.declared.TenAnswer.the-variants.{Found, Refused}
+
+-- a hard answer, and a soft one, as one of either decoder's
+abbrev pub anyOfHard : Answer → AnyAnswer
+anyOfHard (hard.Found d) = any.Hard d
+anyOfHard (hard.Refused r) = any.Refused r
+
+abbrev pub anyOfSoft : SoftAnswer → AnyAnswer
+anyOfSoft (soft.Found d) = any.Soft d
+anyOfSoft (soft.Refused r) = any.Refused r
 
 -- a count as an f32: every whole number up to 2^24 is one. (Above it, where no count of an answer is, NaN.)
 unfoldable pub asScore : ℕ → Float

@@ -1,8 +1,10 @@
 // Document 01's answer of ten fields, derived from the answers that say by their names what they count: for comparisons with the Rust, and for those who knew the old answer.
 ghost use mathlib.Core.Path.{_≡_};
-ghost use Rattle.ten_fields.specs.TenFields.{asScore, tenOfHard, tenOfSoft, tenFields};
+ghost use Rattle.ten_fields.specs.TenFields.{anyOfHard, anyOfSoft, asScore, tenOfHard, tenOfSoft, tenFields};
+use answer::Answer;
 use answer::AnyAnswer;
 use answer::Decoded;
+use answer::SoftAnswer;
 use answer::SoftDecoded;
 use answer::Square;
 use refusals::Refusal;
@@ -25,6 +27,26 @@ pub struct TenFields {
 pub enum TenAnswer {
     Found(TenFields),
     Refused(Refusal),
+}
+
+// A hard answer as one of either decoder's.
+pub fn any_of_hard(answer: Answer) -> AnyAnswer
+    ensures { λ r. ⌜ r ≡ anyOfHard answer ⌝ }
+{
+    match answer {
+        Answer::Found(d) => AnyAnswer::Hard(d),
+        Answer::Refused(refusal) => AnyAnswer::Refused(refusal),
+    }
+}
+
+// A soft answer as one of either decoder's.
+pub fn any_of_soft(answer: SoftAnswer) -> AnyAnswer
+    ensures { λ r. ⌜ r ≡ anyOfSoft answer ⌝ }
+{
+    match answer {
+        SoftAnswer::Found(d) => AnyAnswer::Soft(d),
+        SoftAnswer::Refused(refusal) => AnyAnswer::Refused(refusal),
+    }
 }
 
 // A count as a score. Above 2^24, which no answer has, it is no number.

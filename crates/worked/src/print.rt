@@ -3,6 +3,8 @@ ghost use Prim.Native.Nat.{_≤_, _^_};
 ghost use lib.IntN.{natAbs};
 use answer::Answer;
 use answer::Decoded;
+use answer::SoftAnswer;
+use answer::SoftDecoded;
 use answer::StatsAnswer;
 use console::form::put_line;
 use console::page::say;
@@ -35,7 +37,7 @@ pub(crate) fn print_whole(n: i64)
     }
 }
 
-// What a found answer holds.
+// What a found hard answer holds.
 fn print_found(d: Decoded) {
     let square = d.square;
     let runner = d.runner_up;
@@ -45,21 +47,56 @@ fn print_found(d: Decoded) {
         square.col,
         d.hits,
         d.edges,
+        d.margin_hits,
         runner.transform as u32,
         runner.row,
         runner.col,
+        d.runner_up_hits,
     ];
     let floats = [
         d.weighted_score,
         d.error_rate,
         d.mean_confidence,
         d.best_score,
-        d.runner_up_score,
-        d.margin,
     ];
     print_form(
-        b"found transform % row % column %, hits % of %, weighted ^, rate ^, mean ^, best ^, next ^, margin ^, \
-        runner-up transform % row % column %",
+        b"found transform % row % column %, hits % of %, weighted ^, rate ^, mean ^, best ^, margin % hits, \
+        runner-up transform % row % column % with % hits",
+        &wholes,
+        &floats,
+    );
+}
+
+// What a found soft answer holds.
+fn print_soft_found(d: SoftDecoded) {
+    let square = d.square;
+    let second = d.second;
+    let runner = d.runner_up;
+    let wholes = [
+        square.transform as u32,
+        square.row,
+        square.col,
+        d.hits,
+        d.edges,
+        second.transform as u32,
+        second.row,
+        second.col,
+        runner.transform as u32,
+        runner.row,
+        runner.col,
+        d.runner_up_hits,
+    ];
+    let floats = [
+        d.weighted_score,
+        d.error_rate,
+        d.mean_confidence,
+        d.best_score,
+        d.margin,
+        d.second_score,
+    ];
+    print_form(
+        b"found transform % row % column %, hits % of %, weighted ^, rate ^, mean ^, best ^, margin ^, \
+        second transform % row % column % with ^, runner-up transform % row % column % with % hits",
         &wholes,
         &floats,
     );
@@ -92,11 +129,19 @@ fn print_refused(refusal: Refusal) {
     print_number_and_place(refusal);
 }
 
-// All that hard or soft decode answers; a refusal is its number and its place alone.
+// All that hard decode answers; a refusal is its number and its place alone.
 pub(crate) fn print_answer(a: Answer) {
     match a {
         Answer::Found(d) => print_found(d),
         Answer::Refused(r) => print_refused(r),
+    }
+}
+
+// The same of soft decode.
+pub(crate) fn print_soft_answer(a: SoftAnswer) {
+    match a {
+        SoftAnswer::Found(d) => print_soft_found(d),
+        SoftAnswer::Refused(r) => print_refused(r),
     }
 }
 

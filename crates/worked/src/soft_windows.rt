@@ -7,7 +7,7 @@ use crate::cut::front_u8;
 use crate::cut::put_window;
 use crate::cut::repeat;
 use crate::cut::turn_bits;
-use crate::print::print_answer;
+use crate::print::print_soft_answer;
 use crate::room::print_room;
 use crate::room::print_sums;
 use console::print::print;
@@ -58,7 +58,7 @@ fn show<'a>(
         &mut sums,
     );
     print(b": ");
-    print_answer(answer);
+    print_soft_answer(answer);
     print_room(&counts, &weights);
     print_sums(&sums);
     print(b"\n");

@@ -1,0 +1,45 @@
+// What hard and soft answers have in common: the square and how well a list fits there, and the runner-up by hits.
+use answer::Decoded;
+use answer::SoftDecoded;
+use answer::Square;
+
+// The common part of a found answer, which words and picture show alike.
+pub struct Shown {
+    pub square: Square,
+    pub hits: u32,
+    pub edges: u32,
+    pub error_rate: f32,
+    pub mean_confidence: f32,
+    pub runner_up: Square,
+    pub runner_up_hits: u32,
+}
+
+// Of a hard answer.
+pub fn of_hard(d: Decoded) -> Shown {
+    let square = d.square;
+    let runner_up = d.runner_up;
+    Shown {
+        square,
+        hits: d.hits,
+        edges: d.edges,
+        error_rate: d.error_rate,
+        mean_confidence: d.mean_confidence,
+        runner_up,
+        runner_up_hits: d.runner_up_hits,
+    }
+}
+
+// Of a soft answer.
+pub fn of_soft(d: SoftDecoded) -> Shown {
+    let square = d.square;
+    let runner_up = d.runner_up;
+    Shown {
+        square,
+        hits: d.hits,
+        edges: d.edges,
+        error_rate: d.error_rate,
+        mean_confidence: d.mean_confidence,
+        runner_up,
+        runner_up_hits: d.runner_up_hits,
+    }
+}

@@ -15,8 +15,19 @@ use Rattle.figures.specs.Gate.{passed}
 use Rattle.figures.specs.declared.Fit.{Fit}
 use Rattle.margin.specs.declared.slots.SoftCandidate.{SoftCandidate}
 use Rattle.margin.specs.Margin.{softMargin}
-use Rattle.answer.specs.declared.Decoded.{Decoded}
+use Rattle.answer.specs.declared.SoftDecoded.{SoftDecoded}
+use Rattle.answer.specs.declared.SoftAnswer.{SoftAnswer}
+use Rattle.answer.specs.declared.SoftAnswer.the-variants.{Refused}
 use Rattle.soft_verdict.specs.declared.SoftBest.{SoftBest}
+
+-- a refusal by its number, and nothing else
+abbrev pub softRefusedBy : ℕ → SoftAnswer
+softRefusedBy n = Refused (numbered n)
+
+-- an accepted call is answered by x, any other with its refusal
+abbrev pub softWhenAccepted : Admission → SoftAnswer → SoftAnswer
+softWhenAccepted admission.Accepted x = x
+softWhenAccepted (admission.Refused r) x = Refused r
 
 -- "Then hard selection on the logical list must give the same origin and matrix and pass the gate"
 unfoldable pub softVerdict : ℕ → SoftCandidate → ℕ → Candidate → RunnerUp → ℕ → Admission
@@ -25,10 +36,10 @@ softVerdict t first s w runner edges =
     (cond (passed edges (w .hits) (runner .hits)) admission.Accepted (admission.Refused (numbered why.notFarAhead)))
     (admission.Refused (numbered why.softHardDisagree))
 
--- "the runner-up fields are replaced by the hard runner-up (score = its hits); the margin stays. Best score = f32 total, weighted score = that / edges; edges,
--- hits, rate and mean confidence are the physical list's."
-unfoldable pub softDecodedOf : ℕ → SoftBest → Fit → ℕ → RunnerUp → Decoded
-softDecodedOf t best fit edges hard = record {
+-- "the runner-up fields are replaced by the hard runner-up ..; the margin stays. Best score = f32 total, weighted score = that / edges; edges, hits, rate and mean confidence are
+-- the physical list's." C-12: "separate places for the hard runner-up's hits and the soft second-best total", with "its own transform and origin"
+unfoldable pub softDecodedOf : ℕ → ℕ → SoftBest → Fit → ℕ → RunnerUp → SoftDecoded
+softDecodedOf t u best fit edges hard = record {
   square = record { transform = t; row = best .first .placing .row; col = best .first .placing .col };
   hits = fit .hits;
   edges = edges;
@@ -36,9 +47,11 @@ softDecodedOf t best fit edges hard = record {
   «error_rate» = rateOf edges (fit .hits);
   «mean_confidence» = meanOf (fit .hits) (fit .weight);
   «best_score» = best .first .total;
-  «runner_up_score» = ofInt binary32 (pos (hard .hits));
+  second = record { transform = u; row = best .second .placing .row; col = best .second .placing .col };
+  «second_score» = best .second .total;
   margin = best .margin;
   «runner_up» = record { transform = hard .transform; row = hard .row; col = hard .col };
+  «runner_up_hits» = hard .hits;
 }
 
 -- the two best candidates of a list of so many edges, with their margin

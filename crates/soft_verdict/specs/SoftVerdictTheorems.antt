@@ -4,7 +4,10 @@ use mathlib.Core.Path.{_≡_, refl}
 use mathlib.Core.Bool.{Bool, true, false, cond}
 use Prim.Native.Nat.{ℕ}
 use native.Mathlib.Omega.{arith}
+use lib.IntN.{pos}
+use lib.Ieee.{binary32, sub, div, ofInt}
 use Rattle.laws.specs.Tests.{clash}
+use Rattle.refusals.specs.declared.Refusal.{Refusal}
 use Rattle.refusals.specs.declared.Admission.{Admission}
 use Rattle.refusals.specs.declared.Admission.the-variants as admission
 use Rattle.refusals.specs.Numbers.{numbered}
@@ -14,9 +17,12 @@ use Rattle.scan.specs.declared.scan.RunnerUp.{RunnerUp}
 use Rattle.figures.specs.Gate.{passed}
 use Rattle.figures.specs.declared.Fit.{Fit}
 use Rattle.margin.specs.declared.slots.SoftCandidate.{SoftCandidate}
+use Rattle.margin.specs.Margin.{softMargin}
 use Rattle.verdict.specs.VerdictTheorems.{Agree, Says, test, agree-of, of-agree, of-differ}
 use Rattle.soft_verdict.specs.declared.SoftBest.{SoftBest}
-use Rattle.soft_verdict.specs.SoftVerdict.{softVerdict, softDecodedOf}
+use Rattle.answer.specs.declared.SoftDecoded.{SoftDecoded}
+use Rattle.answer.specs.declared.SoftAnswer.the-variants.{Found, Refused}
+use Rattle.soft_verdict.specs.SoftVerdict.{softVerdict, softDecodedOf, bestOf}
 
 -- ---- two tests, one inside the other
 cond-first : (a b : Bool) (x y z : Admission) → a ≡ true → b ≡ true → cond a (cond b x y) z ≡ x
@@ -60,12 +66,32 @@ module _ (t : ℕ) (first : SoftCandidate) (s : ℕ) (w : Candidate) (runner : R
       go true false e g k = let z : _≡_ {A = ℕ} 0 1 = cc in absurd (omega arith)
       go false b e g k = let z : _≡_ {A = ℕ} 0 1 = cc in absurd (omega arith)
 
--- A FOUND SOFT ANSWER SAYS the soft winner's square with its total and margin, the physical list's hits, and the hard runner-up
-pub soft-says : (t : ℕ) (best : SoftBest) (fit : Fit) (edges : ℕ) (runner : RunnerUp)
-    → Says t (best .first .placing) (fit .hits) edges runner (softDecodedOf t best fit edges runner) × (softDecodedOf t best fit edges runner .«best_score» ≡ best .first .total) × (softDecodedOf t best fit edges runner .margin ≡ best .margin)
+-- what a found soft answer says besides: the total of its square, the second by likelihood under the transform u with its own total, and the margin of the two
+pub record SaysByLikelihood (u : ℕ) (best : SoftBest) (d : SoftDecoded) : Type 0 where
+  pub best-score : d .«best_score» ≡ best .first .total
+  pub second-transform : d .second .transform ≡ u
+  pub second-row : d .second .row ≡ best .second .placing .row
+  pub second-col : d .second .col ≡ best .second .placing .col
+  pub second-score : d .«second_score» ≡ best .second .total
+  pub margin : d .margin ≡ best .margin
+
+-- A FOUND SOFT ANSWER SAYS the soft winner's square with its total and margin, the second by likelihood with its total, the physical list's hits, and the hard runner-up
+pub soft-says : (t u : ℕ) (best : SoftBest) (fit : Fit) (edges : ℕ) (runner : RunnerUp)
+    → let d = softDecodedOf t u best fit edges runner in
+    Says t (best .first .placing) (fit .hits) edges runner (d .square) (d .hits) (d .edges) (d .«runner_up») (d .«runner_up_hits») × SaysByLikelihood u best d
 unfolding softDecodedOf
-soft-says t best fit edges runner = (
+soft-says t u best fit edges runner = (
   record { transform = refl; row = refl; col = refl; hits-told = refl; edges-told = refl; runner-up-hits = refl; runner-up-transform = refl; runner-up-row = refl; runner-up-col = refl },
-  refl,
-  refl,
+  record { best-score = refl; second-transform = refl; second-row = refl; second-col = refl; second-score = refl; margin = refl },
 )
+
+-- THE MARGIN OF THE TWO: (best - second) / edges of exactly the two totals that the answer holds
+pub margin-of-the-two : (t u : ℕ) (first second : SoftCandidate) (fit : Fit) (edges : ℕ) (runner : RunnerUp)
+    → let d = softDecodedOf t u (bestOf first second edges) fit edges runner in
+    d .margin ≡ div binary32 (sub binary32 (d .«best_score») (d .«second_score»)) (ofInt binary32 (pos (d .edges)))
+unfolding softDecodedOf
+margin-of-the-two t u first second fit edges runner = refl
+
+-- A FOUND ANSWER AND A REFUSAL are never the same
+pub never-both-soft : (d : SoftDecoded) (r : Refusal) → Refused r ≡ Found d → ⊥
+never-both-soft d r e = let z : _≡_ {A = ℕ} 0 1 = cc in omega arith

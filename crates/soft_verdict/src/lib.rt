@@ -1,8 +1,9 @@
 // The verdict on the soft winner, by value: against the hard winner and the gate, and the found answer put together.
 ghost use mathlib.Core.Path.{_≡_};
 ghost use Prim.Native.Nat.{_≤_, _<_};
-ghost use Rattle.soft_verdict.specs.SoftVerdict.{softVerdict, softDecodedOf};
-use answer::Decoded;
+ghost use Rattle.soft_verdict.specs.SoftVerdict.{softRefusedBy, softVerdict, softDecodedOf};
+use answer::SoftAnswer;
+use answer::SoftDecoded;
 use answer::Square;
 use figures::Fit;
 use margin::slots::SoftCandidate;
@@ -17,6 +18,16 @@ pub struct SoftBest {
     pub first: SoftCandidate,
     pub second: SoftCandidate,
     pub margin: f32,
+}
+
+// A refusal of soft decode by its number.
+pub fn refuse_soft(number: u32) -> SoftAnswer
+    ensures { λ r. ⌜ r ≡ softRefusedBy number ⌝ }
+{
+    SoftAnswer::Refused(Refusal {
+        number,
+        place: Place::Nowhere,
+    })
 }
 
 // The soft winner under transform t against the hard winner w of the logical list under transform s: they disagree, it is not far ahead, or accepted.
@@ -49,17 +60,30 @@ pub fn soft_verdict(
     })
 }
 
-// What a found soft answer says: the soft winner with its total and margin, the physical list's fit, and the hard runner-up.
-pub fn soft_decoded(t: u8, best: SoftBest, fit: Fit, edges: u32, runner: RunnerUp) -> Decoded
-    requires { ⌜ (fit .hits ≤ edges) × (edges ≤ 8192) × (runner .hits ≤ 8192) ⌝ }
-    ensures { λ r. ⌜ r ≡ softDecodedOf t best fit edges runner ⌝ }
+// What a found soft answer says: the soft winner under transform t with its total and margin, the second by likelihood under transform u with its own total, the physical list's fit, and the hard
+// runner-up with its hits.
+pub fn soft_decoded(
+    t: u8,
+    u: u8,
+    best: SoftBest,
+    fit: Fit,
+    edges: u32,
+    runner: RunnerUp,
+) -> SoftDecoded
+    requires { ⌜ (fit .hits ≤ edges) × (edges ≤ 8192) ⌝ }
+    ensures { λ r. ⌜ r ≡ softDecodedOf t u best fit edges runner ⌝ }
 {
     let square = Square {
         transform: t,
         row: best.first.placing.row,
         col: best.first.placing.col,
     };
-    let competitor = Square {
+    let second = Square {
+        transform: u,
+        row: best.second.placing.row,
+        col: best.second.placing.col,
+    };
+    let runner_up = Square {
         transform: runner.transform,
         row: runner.row,
         col: runner.col,
@@ -67,8 +91,7 @@ pub fn soft_decoded(t: u8, best: SoftBest, fit: Fit, edges: u32, runner: RunnerU
     let weighted_score = best.first.total / edges as f32;
     let error_rate = figures::rate(edges, fit.hits);
     let mean_confidence = figures::mean(fit.hits, fit.weight);
-    let runner_up_score = runner.hits as f32;
-    Decoded {
+    SoftDecoded {
         square,
         hits: fit.hits,
         edges,
@@ -76,8 +99,10 @@ pub fn soft_decoded(t: u8, best: SoftBest, fit: Fit, edges: u32, runner: RunnerU
         error_rate,
         mean_confidence,
         best_score: best.first.total,
-        runner_up_score,
+        second,
+        second_score: best.second.total,
         margin: best.margin,
-        runner_up: competitor,
+        runner_up,
+        runner_up_hits: runner.hits,
     }
 }

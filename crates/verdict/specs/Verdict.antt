@@ -30,7 +30,7 @@ unfoldable pub agreed : ℕ → Candidate → ℕ → Candidate → Bool
 agreed t a s b = eqb t s && (eqb (a .placing .row) (b .placing .row) && eqb (a .placing .col) (b .placing .col))
 
 -- "The answer holds the logical list's transform, origin, hits, edges, weighted score, rate, mean confidence, best score (= weighted score), runner-up hits
--- as score, margin, and the runner-up's transform and origin." "margin = best minus runner-up hits, not below 0"
+-- .., margin, and the runner-up's transform and origin." "margin = best minus runner-up hits, not below 0". C-12: what is counted is a whole number
 unfoldable pub decodedOf : ℕ → Candidate → RunnerUp → ℕ → Decoded
 decodedOf t w runner edges = record {
   square = record { transform = t; row = w .placing .row; col = w .placing .col };
@@ -40,12 +40,13 @@ decodedOf t w runner edges = record {
   «error_rate» = rateOf edges (w .hits);
   «mean_confidence» = meanOf (w .hits) (w .weight);
   «best_score» = w .score;
-  «runner_up_score» = ofInt binary32 (pos (runner .hits));
-  margin = ofInt binary32 (pos (w .hits - runner .hits));
   «runner_up» = record { transform = runner .transform; row = runner .row; col = runner .col };
+  «runner_up_hits» = runner .hits;
+  «margin_hits» = w .hits - runner .hits;
 }
 
-abbrev pub pick : Bool → Answer → Answer → Answer
+-- one of two answers, of whatever type
+abbrev pub pick : {A : Type 0} → Bool → A → A → A
 pick true a b = a
 pick false a b = b
 

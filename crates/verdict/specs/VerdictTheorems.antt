@@ -5,8 +5,6 @@ use mathlib.Core.Bool.{Bool, true, false, _&&_}
 use Prim.Native.Nat.{ℕ, _-_}
 use native.Mathlib.Omega.{arith}
 use lib.Dec.{eqb}
-use lib.IntN.{pos}
-use lib.Ieee.{binary32, ofInt}
 use borrow.Author.Tests.{eq-eqb, eqb-true}
 use Rattle.laws.specs.Tests.{clash, not-so, and-true}
 use Rattle.refusals.specs.declared.Refusal.{Refusal}
@@ -16,6 +14,7 @@ use Rattle.board.specs.declared.edge.Placing.{Placing}
 use Rattle.scan.specs.declared.scan.Candidate.{Candidate}
 use Rattle.scan.specs.declared.scan.RunnerUp.{RunnerUp}
 use Rattle.figures.specs.Gate.{passed}
+use Rattle.answer.specs.declared.Square.{Square}
 use Rattle.answer.specs.declared.Decoded.{Decoded}
 use Rattle.answer.specs.declared.Answer.{Answer}
 use Rattle.answer.specs.declared.Answer.the-variants.{Found, Refused}
@@ -27,17 +26,17 @@ pub record Agree (t : ℕ) (P : Placing) (s : ℕ) (Q : Placing) : Type 0 where
   pub row : P .row ≡ Q .row
   pub col : P .col ≡ Q .col
 
--- what an answer says: the square of the placing P under the transform t, so many hits of so many edges, and the runner-up's square and hits
-pub record Says (t : ℕ) (P : Placing) (hits edges : ℕ) (runner : RunnerUp) (d : Decoded) : Type 0 where
-  pub transform : d .square .transform ≡ t
-  pub row : d .square .row ≡ P .row
-  pub col : d .square .col ≡ P .col
-  pub hits-told : d .hits ≡ hits
-  pub edges-told : d .edges ≡ edges
-  pub runner-up-hits : d .«runner_up_score» ≡ ofInt binary32 (pos (runner .hits))
-  pub runner-up-transform : d .«runner_up» .transform ≡ runner .transform
-  pub runner-up-row : d .«runner_up» .row ≡ runner .row
-  pub runner-up-col : d .«runner_up» .col ≡ runner .col
+-- what an answer says, hard or soft: the square of the placing P under the transform t, so many hits of so many edges, and the runner-up's square and hits
+pub record Says (t : ℕ) (P : Placing) (hits edges : ℕ) (runner : RunnerUp) (square : Square) (told-hits told-edges : ℕ) (runner-up : Square) (runner-up-told : ℕ) : Type 0 where
+  pub transform : square .transform ≡ t
+  pub row : square .row ≡ P .row
+  pub col : square .col ≡ P .col
+  pub hits-told : told-hits ≡ hits
+  pub edges-told : told-edges ≡ edges
+  pub runner-up-hits : runner-up-told ≡ runner .hits
+  pub runner-up-transform : runner-up .transform ≡ runner .transform
+  pub runner-up-row : runner-up .row ≡ runner .row
+  pub runner-up-col : runner-up .col ≡ runner .col
 
 -- ---- the test of agreement
 abbrev pub test : ℕ → Placing → ℕ → Placing → Bool
@@ -93,8 +92,8 @@ module _ (t : ℕ) (w : Candidate) (runner : RunnerUp) (s : ℕ) (p : Candidate)
   pub record Judged (d : Decoded) : Type 0 where
     pub agree : Agree t (w .placing) s (p .placing)
     pub ahead : passed edges (w .hits) (runner .hits) ≡ true
-    pub says : Says t (w .placing) (w .hits) edges runner d
-    pub margin : d .margin ≡ ofInt binary32 (pos (w .hits - runner .hits))
+    pub says : Says t (w .placing) (w .hits) edges runner (d .square) (d .hits) (d .edges) (d .«runner_up») (d .«runner_up_hits»)
+    pub margin : d .«margin_hits» ≡ w .hits - runner .hits
 
   -- what is found is told as document 01 says
   pub judged-is : (d : Decoded) → judged t w runner s p edges ≡ Found d → decodedOf t w runner edges ≡ d

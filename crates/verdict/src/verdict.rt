@@ -49,8 +49,7 @@ fn decoded(t: u8, w: Candidate, runner: RunnerUp, edges: u32) -> Decoded
     };
     let error_rate = figures::rate(edges, w.hits);
     let mean_confidence = figures::mean(w.hits, w.weight);
-    let runner_up_score = runner.hits as f32;
-    let margin = figures::margin(w.hits, runner.hits) as f32;
+    let margin_hits = figures::margin(w.hits, runner.hits);
     Decoded {
         square,
         hits: w.hits,
@@ -59,9 +58,9 @@ fn decoded(t: u8, w: Candidate, runner: RunnerUp, edges: u32) -> Decoded
         error_rate,
         mean_confidence,
         best_score: w.score,
-        runner_up_score,
-        margin,
         runner_up: competitor,
+        runner_up_hits: runner.hits,
+        margin_hits,
     }
 }
 

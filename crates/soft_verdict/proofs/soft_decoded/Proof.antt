@@ -19,13 +19,9 @@ rate-requires c κs = search needs
 mean-requires : tie.Need-mean-requires
 mean-requires c κs = search needs
 
-int-to-float-runner-up-score : tie.Need-int-to-float-runner-up-score
-unfolding inFloat
-int-to-float-runner-up-score c = le→leb (c .before .before .before .before .before .args .runner .hits) (2 ^ 24) (omega (arith, c .before .before .before .before .before .pre .2))
-
 returns : tie.Need-returns
 unfolding softDecodedOf
-returns c = rw (c .before .before .rate .ensures, c .before .mean .ensures)
+returns c = rw (c .before .rate .ensures, c .mean .ensures)
 
 pub soft-decoded-spec : {M : Type 1} → statement M
-soft-decoded-spec = tie.close (tie.spec int-to-float-weighted-score rate-requires mean-requires int-to-float-runner-up-score returns)
+soft-decoded-spec = tie.close (tie.spec int-to-float-weighted-score rate-requires mean-requires returns)

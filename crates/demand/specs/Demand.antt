@@ -5,8 +5,7 @@ use mathlib.Core.Bool.{true, false}
 use mathlib.Core.List.{List}
 use Prim.Native.Nat.{ℕ, _+_, _*_, _≤_, _<_}
 use lib.ListN.{getD, length}
-use lib.IntN.{pos}
-use lib.Ieee.{Float, binary32, ofInt}
+use lib.Ieee.{Float}
 use Rattle.laws.specs.Words.{oneF}
 use Rattle.board.specs.declared.edge.Placing.{Placing}
 use Rattle.board.specs.Hits.{EdgeList, Board, size, misses, hitsAt}
@@ -64,10 +63,10 @@ pub record AgreesPhysical (B : Board) (E : EdgeList) (ts : List ℕ) (P : Placin
   pub row : winner .placing .row ≡ P .row
   pub col : winner .placing .col ≡ P .col
 
--- what a found answer says of the placing P and the runner-up Q on the list E
+-- what a found hard answer says of the placing P and the runner-up Q on the list E
 pub record Tells (B : Board) (E : EdgeList) (ts : List ℕ) (d : Decoded) (P Q : Placing) : Type 0 where
   pub square : Names ts P (d .square)
   pub hits : d .hits ≡ hitsAt B E ts P
   pub edges : d .edges ≡ size E
   pub runner-up : Names ts Q (d .«runner_up»)
-  pub runner-up-score : d .«runner_up_score» ≡ ofInt binary32 (pos (hitsAt B E ts Q))
+  pub runner-up-hits : d .«runner_up_hits» ≡ hitsAt B E ts Q

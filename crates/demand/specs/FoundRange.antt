@@ -5,12 +5,14 @@ use mathlib.Core.List.{List}
 use Prim.Native.Nat.{ℕ, _≤_, _<_}
 use native.Mathlib.Omega.{arith}
 use lib.ListN.{length}
+use lib.Ieee.{Float}
 use Rattle.laws.specs.Words.{Finite}
 use Rattle.board.specs.declared.edge.Placing.{Placing}
 use Rattle.board.specs.Hits.{Board}
 use Rattle.admission.specs.Accepted.{TransformsOk}
 use Rattle.answer.specs.declared.Square.{Square}
 use Rattle.answer.specs.declared.Decoded.{Decoded}
+use Rattle.answer.specs.declared.SoftDecoded.{SoftDecoded}
 use Rattle.demand.specs.Demand.{OnBoard, Names}
 
 -- a square on the flat board: 501 rows of 501 columns, under one of eight transforms
@@ -19,22 +21,34 @@ pub record OnFlatBoard (s : Square) : Type 0 where
   pub row : s .row < 501
   pub col : s .col < 501
 
--- the floats of a found answer
-pub record FloatsFinite (d : Decoded) : Type 0 where
-  pub weighted-score : Finite (d .«weighted_score»)
-  pub error-rate : Finite (d .«error_rate»)
-  pub mean-confidence : Finite (d .«mean_confidence»)
-  pub best-score : Finite (d .«best_score»)
-  pub runner-up-score : Finite (d .«runner_up_score»)
-  pub margin : Finite (d .margin)
+-- what hard and soft answers share: the square, hits of edges, and the runner-up with its hits
+pub record WholesInRange (square : Square) (hits edges : ℕ) (runner-up : Square) (runner-up-hits : ℕ) : Type 0 where
+  pub on-board : OnFlatBoard square
+  pub some-hits : hits ≤ edges
+  pub few : edges ≤ 8192
+  pub runner-up-on : OnFlatBoard runner-up
+  pub runner-up-few : runner-up-hits ≤ 8192
 
--- a found answer: whole numbers and floats
+-- and four floats
+pub record FloatsFinite (weighted-score error-rate mean-confidence best-score : Float) : Type 0 where
+  pub weighted : Finite weighted-score
+  pub rate : Finite error-rate
+  pub mean : Finite mean-confidence
+  pub best : Finite best-score
+
+-- a found hard answer: whole numbers and floats
 pub record AnswerInRange (d : Decoded) : Type 0 where
-  pub square : OnFlatBoard (d .square)
-  pub hits : d .hits ≤ d .edges
-  pub edges : d .edges ≤ 8192
-  pub runner-up : OnFlatBoard (d .«runner_up»)
-  pub floats : FloatsFinite d
+  pub wholes : WholesInRange (d .square) (d .hits) (d .edges) (d .«runner_up») (d .«runner_up_hits»)
+  pub margin : d .«margin_hits» ≤ d .hits
+  pub floats : FloatsFinite (d .«weighted_score») (d .«error_rate») (d .«mean_confidence») (d .«best_score»)
+
+-- a found soft answer: besides, the second by likelihood with its total, and the margin
+pub record SoftAnswerInRange (d : SoftDecoded) : Type 0 where
+  pub wholes : WholesInRange (d .square) (d .hits) (d .edges) (d .«runner_up») (d .«runner_up_hits»)
+  pub floats : FloatsFinite (d .«weighted_score») (d .«error_rate») (d .«mean_confidence») (d .«best_score»)
+  pub second : OnFlatBoard (d .second)
+  pub second-score : Finite (d .«second_score»)
+  pub margin : Finite (d .margin)
 
 pub on-flat-board : (B : Board) (ts : List ℕ) (P : Placing) (s : Square) → TransformsOk ts → (length (B .h) ≡ 167) × (length (B .v) ≡ 167) → OnBoard B ts P → Names ts P s → OnFlatBoard s
 on-flat-board B ts P s k p o n = record {

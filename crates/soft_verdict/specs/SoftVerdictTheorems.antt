@@ -1,6 +1,6 @@
 -- What a soft verdict tells, in the winners' own numbers: accepted exactly when the soft and the hard winner agree and the gate is passed; a found answer tells the soft
 -- winner's square and total, the physical list's hits, and the hard runner-up. A refusal has its own number.
-use mathlib.Core.Path.{_≡_, refl}
+use mathlib.Core.Path.{_≡_, refl, ap}
 use mathlib.Core.Bool.{Bool, true, false, cond}
 use Prim.Native.Nat.{ℕ}
 use native.Mathlib.Omega.{arith}
@@ -22,7 +22,7 @@ use Rattle.verdict.specs.VerdictTheorems.{Agree, Says, test, agree-of, of-agree
 use Rattle.soft_verdict.specs.declared.SoftBest.{SoftBest}
 use Rattle.answer.specs.declared.SoftDecoded.{SoftDecoded}
 use Rattle.answer.specs.declared.SoftAnswer.the-variants.{Found, Refused}
-use Rattle.soft_verdict.specs.SoftVerdict.{softVerdict, softDecodedOf, bestOf}
+use Rattle.soft_verdict.specs.SoftVerdict.{softRefusedBy, softVerdict, softDecodedOf, bestOf}
 
 -- ---- two tests, one inside the other
 cond-first : (a b : Bool) (x y z : Admission) → a ≡ true → b ≡ true → cond a (cond b x y) z ≡ x
@@ -95,3 +95,10 @@ margin-of-the-two t u first second fit edges runner = refl
 -- A FOUND ANSWER AND A REFUSAL are never the same
 pub never-both-soft : (d : SoftDecoded) (r : Refusal) → Refused r ≡ Found d → ⊥
 never-both-soft d r e = let z : _≡_ {A = ℕ} 0 1 = cc in omega arith
+
+-- two numbers that differ are two refusals
+pub soft-apart : (m n : ℕ) → (m ≡ n → ⊥) → {A : Type 0} → softRefusedBy m ≡ softRefusedBy n → A
+soft-apart m n d e = let z : numbered m ≡ numbered n = cc in absurd (d (ap (λ (x : Refusal). x .number) z))
+
+pub soft-found-not : (d : SoftDecoded) (n : ℕ) → {A : Type 0} → Found d ≡ softRefusedBy n → A
+soft-found-not d n e = let z : _≡_ {A = ℕ} 0 1 = cc in absurd (omega arith)

@@ -60,21 +60,21 @@ fn score_of(hits: u32) -> f32
 }
 
 // The ten fields of a found hard answer.
-fn ten_of_hard(d: Decoded) -> TenFields
-    ensures { λ r. ⌜ r ≡ tenOfHard d ⌝ }
+fn ten_of_hard(hard: Decoded) -> TenFields
+    ensures { λ r. ⌜ r ≡ tenOfHard hard ⌝ }
 {
-    let square = d.square;
-    let runner_up = d.runner_up;
-    let runner_up_score = score_of(d.runner_up_hits);
-    let margin = score_of(d.margin_hits);
+    let square = hard.square;
+    let runner_up = hard.runner_up;
+    let runner_up_score = score_of(hard.runner_up_hits);
+    let margin = score_of(hard.margin_hits);
     TenFields {
         square,
-        hits: d.hits,
-        edges: d.edges,
-        weighted_score: d.weighted_score,
-        error_rate: d.error_rate,
-        mean_confidence: d.mean_confidence,
-        best_score: d.best_score,
+        hits: hard.hits,
+        edges: hard.edges,
+        weighted_score: hard.weighted_score,
+        error_rate: hard.error_rate,
+        mean_confidence: hard.mean_confidence,
+        best_score: hard.best_score,
         runner_up_score,
         margin,
         runner_up,
@@ -82,22 +82,22 @@ fn ten_of_hard(d: Decoded) -> TenFields
 }
 
 // The ten fields of a found soft answer: the second by likelihood had no place there.
-fn ten_of_soft(d: SoftDecoded) -> TenFields
-    ensures { λ r. ⌜ r ≡ tenOfSoft d ⌝ }
+fn ten_of_soft(soft: SoftDecoded) -> TenFields
+    ensures { λ r. ⌜ r ≡ tenOfSoft soft ⌝ }
 {
-    let square = d.square;
-    let runner_up = d.runner_up;
-    let runner_up_score = score_of(d.runner_up_hits);
+    let square = soft.square;
+    let runner_up = soft.runner_up;
+    let runner_up_score = score_of(soft.runner_up_hits);
     TenFields {
         square,
-        hits: d.hits,
-        edges: d.edges,
-        weighted_score: d.weighted_score,
-        error_rate: d.error_rate,
-        mean_confidence: d.mean_confidence,
-        best_score: d.best_score,
+        hits: soft.hits,
+        edges: soft.edges,
+        weighted_score: soft.weighted_score,
+        error_rate: soft.error_rate,
+        mean_confidence: soft.mean_confidence,
+        best_score: soft.best_score,
         runner_up_score,
-        margin: d.margin,
+        margin: soft.margin,
         runner_up,
     }
 }

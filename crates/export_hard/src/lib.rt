@@ -6,7 +6,7 @@ use flat::flat::FlatAnswer;
 
 // Hard decode: which square the camera faces by its two edge lists, or a refusal.
 #[no_mangle]
-pub extern "C" fn samburext_decode_hard_2<'a>(
+pub extern "C" fn samburext_decode_hard_3<'a>(
     lrows: &[i32],
     lcols: &[i32],
     lorientations: &[u8],

@@ -3,11 +3,11 @@ ghost use Rattle.board.specs.Hits.{edges, tables};
 ghost use Rattle.likelihood.specs.Likelihood.{likelihoods};
 ghost use Rattle.admission.specs.Calls.{softCall};
 ghost use Rattle.export_soft.specs.Exports.{SoftFlat};
-use flat::flat::FlatAnswer;
+use flat::flat_soft::FlatSoft;
 
 // Soft decode: which square the camera faces by the likelihoods of the physical list, confirmed by the hits of the logical list, or a refusal.
 #[no_mangle]
-pub extern "C" fn samburext_decode_soft_2<'a>(
+pub extern "C" fn samburext_decode_soft_3<'a>(
     lrows: &[i32],
     lcols: &[i32],
     lorientations: &[u8],
@@ -28,7 +28,7 @@ pub extern "C" fn samburext_decode_soft_2<'a>(
     counts: &mut [u32],
     weights: &mut [f32],
     sums: &mut [i64],
-) -> FlatAnswer
+) -> FlatSoft
     ensures { λ r. ⌜ SoftFlat
         (softCall
         (edges (now (lrows .entry)) (now (lcols .entry)) (now (lorientations .entry)) (now (lbits .entry)) (now (lconfidences .entry)))
@@ -59,5 +59,5 @@ pub extern "C" fn samburext_decode_soft_2<'a>(
         weights,
         sums,
     );
-    flat::flat::flattened(answer)
+    flat::flat_soft::flattened_soft(answer)
 }

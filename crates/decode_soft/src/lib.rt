@@ -6,7 +6,7 @@ ghost use Rattle.board.specs.Hits.{edges, tables};
 ghost use Rattle.likelihood.specs.Likelihood.{likelihoods};
 ghost use Rattle.admission.specs.Calls.{softCall};
 ghost use Rattle.decode_soft.specs.SoftAnswer.{SoftDone};
-use answer::Answer;
+use answer::SoftAnswer;
 use laws::Periods;
 use refusals::Admission;
 use soft_core::soft_core;
@@ -34,7 +34,7 @@ pub fn decode_soft<'a>(
     counts: &mut [u32],
     weights: &mut [f32],
     sums: &mut [i64],
-) -> Answer
+) -> SoftAnswer
     ensures { λ r. ⌜ SoftDone
         (softCall
         (edges (now (lrows .entry)) (now (lcols .entry)) (now (lorientations .entry)) (now (lbits .entry)) (now (lconfidences .entry)))
@@ -66,7 +66,7 @@ pub fn decode_soft<'a>(
         sums.len(),
     );
     match admitted {
-        Admission::Refused(refusal) => Answer::Refused(refusal),
+        Admission::Refused(refusal) => SoftAnswer::Refused(refusal),
         Admission::Accepted => {
             let answer = soft_core(
                 lrows,

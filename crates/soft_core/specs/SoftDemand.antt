@@ -6,9 +6,9 @@ use mathlib.Core.List.{List}
 use mathlib.Core.Logic.{_⊎_}
 use Prim.Native.Nat.{ℕ, _<_}
 use lib.ListN.{getD, length}
-use lib.IntN.{ℤ, pos}
+use lib.IntN.{ℤ}
 use lib.Signed.{ltZ}
-use lib.Ieee.{Float, binary32, lt, ofInt}
+use lib.Ieee.{Float, lt}
 use Rattle.laws.specs.Words.{origins}
 use Rattle.board.specs.declared.edge.Placing.{Placing}
 use Rattle.board.specs.Hits.{EdgeList, Board, size, hitsAt}
@@ -21,7 +21,7 @@ use Rattle.margin.specs.declared.slots.SoftCandidate.{SoftCandidate}
 use Rattle.soft.specs.BestPlacing.{FirstPlace, SecondPlace}
 use Rattle.margin.specs.Margin.{softMargin, belowMargin}
 use Rattle.soft.specs.SelectLaws.{scoreAtKey}
-use Rattle.answer.specs.declared.Decoded.{Decoded}
+use Rattle.answer.specs.declared.SoftDecoded.{SoftDecoded}
 use Rattle.demand.specs.Demand.{OnBoard, Same, Names, Leads, RunsUp}
 
 -- the likelihood sum of a placing over the edges, a whole number
@@ -70,8 +70,8 @@ pub record BestByLikelihood (B : Board) (E : EdgeList) (X : Likelihoods) (ts : L
   pub first : FirstPlace (origins (periodOf B true) (periodOf B false)) (length ts) (scoreAtKey B E X ts) (P .listed) (keyAt (periodOf B false) (P .row) (P .col))
   pub second : SecondPlace (origins (periodOf B true) (periodOf B false)) (length ts) (scoreAtKey B E X ts) (P .listed) (keyAt (periodOf B false) (P .row) (P .col)) (Q .listed) (keyAt (periodOf B false) (Q .row) (Q .col))
 
--- what a found soft answer says: the physical list gives the square, its figures and the margin; the logical list gives the lead and the runner-up
-pub record SoftAnswered (call : SoftCall) (d : Decoded) : Type 0 where
+-- what a found soft answer says: the physical list gives the square, its figures, the second by likelihood with its total, and the margin; the logical list gives the lead and the runner-up
+pub record SoftAnswered (call : SoftCall) (d : SoftDecoded) : Type 0 where
   pub square : Placing
   pub second : Placing
   pub runner-up : Placing
@@ -84,8 +84,10 @@ pub record SoftAnswered (call : SoftCall) (d : Decoded) : Type 0 where
   pub hits : d .hits ≡ hitsAt (call .hard .board) (call .hard .physical) (call .hard .transforms) square
   pub edges : d .edges ≡ size (call .hard .physical)
   pub best-score : d .«best_score» ≡ total (call .hard .board) (call .hard .physical) (call .likelihoods) (call .hard .transforms) square
+  pub second-named : Names (call .hard .transforms) second (d .second)
+  pub second-score : d .«second_score» ≡ total (call .hard .board) (call .hard .physical) (call .likelihoods) (call .hard .transforms) second
   pub margin : d .margin ≡ marginOf (call .hard .board) (call .hard .physical) (call .likelihoods) (call .hard .transforms) square second
   pub runner-up-named : Names (call .hard .transforms) runner-up (d .«runner_up»)
-  pub runner-up-score : d .«runner_up_score» ≡ ofInt binary32 (pos (hitsAt (call .hard .board) (call .hard .logical) (call .hard .transforms) runner-up))
+  pub runner-up-hits : d .«runner_up_hits» ≡ hitsAt (call .hard .board) (call .hard .logical) (call .hard .transforms) runner-up
   -- and which of the second-best placings is meant, where several tie
   pub best : BestByLikelihood (call .hard .board) (call .hard .physical) (call .likelihoods) (call .hard .transforms) square second

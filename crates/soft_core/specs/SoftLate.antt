@@ -6,11 +6,11 @@ use Rattle.board.specs.declared.edge.Placing.{Placing}
 use Rattle.admission.specs.Calls.{SoftCall}
 use Rattle.figures.specs.Figures.{noConfidence}
 use Rattle.margin.specs.Margin.{belowMargin}
-use Rattle.answer.specs.declared.Answer.{Answer}
-use Rattle.verdict.specs.Verdict.{refusedBy}
+use Rattle.answer.specs.declared.SoftAnswer.{SoftAnswer}
 use Rattle.demand.specs.Late.{Exactly, LogicalKept, SameSquare}
 use Rattle.demand.specs.OneSelection.{NoneWithinLimit, NoneLeads}
 use Rattle.soft_core.specs.SoftDemand.{marginOf, FirstByLikelihood, SecondByLikelihood}
+use Rattle.soft_verdict.specs.SoftVerdict.{softRefusedBy}
 
 -- the physical list has confidence, and the margin of its own best placing is below the soft margin, or is not
 pub record OwnMargin (call : SoftCall) (below : Bool) : Type 0 where
@@ -35,15 +35,15 @@ pub record SoftNoneAhead (call : SoftCall) : Type 0 where
   pub none-leads : NoneLeads (call .hard .board) (call .hard .logical) (call .hard .transforms) (call .hard .error-limit)
 
 -- the five numbers
-pub record SoftLate (call : SoftCall) (answer : Answer) : Type 0 where
+pub record SoftLate (call : SoftCall) (answer : SoftAnswer) : Type 0 where
   -- "total confidence is 0": of the physical list, or of the logical one where the margin is cleared
-  pub ten : Exactly (answer ≡ refusedBy 10) ((noConfidence (call .hard .physical) ≡ true) ⊎ (OwnMargin call false × (noConfidence (call .hard .logical) ≡ true)))
+  pub ten : Exactly (answer ≡ softRefusedBy 10) ((noConfidence (call .hard .physical) ≡ true) ⊎ (OwnMargin call false × (noConfidence (call .hard .logical) ≡ true)))
   -- "no listed transform's best hits are within the limit"
-  pub eleven : Exactly (answer ≡ refusedBy 11)
+  pub eleven : Exactly (answer ≡ softRefusedBy 11)
       (OwnMargin call false × (noConfidence (call .hard .logical) ≡ false) × NoneWithinLimit (call .hard .board) (call .hard .logical) (call .hard .transforms) (call .hard .error-limit))
   -- "gate not passed"
-  pub thirteen : Exactly (answer ≡ refusedBy 13) (SoftNoneAhead call)
+  pub thirteen : Exactly (answer ≡ softRefusedBy 13) (SoftNoneAhead call)
   -- "margin below the soft margin"
-  pub fourteen : Exactly (answer ≡ refusedBy 14) (OwnMargin call true)
+  pub fourteen : Exactly (answer ≡ softRefusedBy 14) (OwnMargin call true)
   -- "soft and hard winners differ"
-  pub fifteen : Exactly (answer ≡ refusedBy 15) (SoftWinnersDiffer call)
+  pub fifteen : Exactly (answer ≡ softRefusedBy 15) (SoftWinnersDiffer call)

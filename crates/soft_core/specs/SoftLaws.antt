@@ -48,12 +48,11 @@ use Rattle.soft.specs.Select.{softScanOf, softSelection, SoftReady, SoftScanned
 use Rattle.soft.specs.SelectLaws.{room-beyond, scanned-unique, soft-best-edges}
 use Rattle.figures.specs.declared.Fit.{Fit}
 use Rattle.soft_verdict.specs.declared.SoftBest.{SoftBest}
-use Rattle.answer.specs.declared.Decoded.{Decoded}
-use Rattle.answer.specs.declared.Answer.{Answer}
-use Rattle.answer.specs.declared.Answer.the-variants.{Found, Refused}
-use Rattle.verdict.specs.Verdict.{refusedBy, whenAccepted}
+use Rattle.answer.specs.declared.SoftDecoded.{SoftDecoded}
+use Rattle.answer.specs.declared.SoftAnswer.{SoftAnswer}
+use Rattle.answer.specs.declared.SoftAnswer.the-variants.{Found, Refused}
 use Rattle.demand.specs.Ready.{ready-logical, beyond}
-use Rattle.soft_verdict.specs.SoftVerdict.{softVerdict, softDecodedOf, bestOf}
+use Rattle.soft_verdict.specs.SoftVerdict.{softRefusedBy, softWhenAccepted, softVerdict, softDecodedOf, bestOf}
 use Rattle.soft_core.specs.Soft.{cellFit, fitOf, softJudged, afterHard, afterSoft, tooClose, softCore, FitDone, By, Figured, LogicalRooms, PastMargin, CoreRooms, LogicalDone, SoftCoreDone}
 
 -- ---- a statement by a test
@@ -129,8 +128,8 @@ module _ (call : HardCall) (c : List ℕ) (w : List Float) (A : HardAccepted cal
 
   module _ (x : Candidate) (runner : RunnerUp) (k : r ≡ sel.Selected x runner) (n : Admission) (v : n ≡ softVerdict (getD (call .transforms) (best .first .placing .listed) 0) (best .first) (getD (call .transforms) (x .placing .listed) 0) x runner (size (call .logical))) where
     -- the answer under a verdict
-    abbrev under : Admission → Answer
-    under y = let t = getD (call .transforms) (best .first .placing .listed) 0 in whenAccepted y (Found (softDecodedOf t best (fitOf (call .board) (call .physical) t (best .first .placing .row) (best .first .placing .col)) (size (call .physical)) runner))
+    abbrev under : Admission → SoftAnswer
+    under y = let t = getD (call .transforms) (best .first .placing .listed) 0 in softWhenAccepted y (Found (softDecodedOf t (getD (call .transforms) (best .second .placing .listed) 0) best (fitOf (call .board) (call .physical) t (best .first .placing .row) (best .first .placing .col)) (size (call .physical)) runner))
 
     logical-answer : under n ≡ afterHard call best (selection (call .board) (call .logical) (call .transforms) (call .error-limit))
     unfolding softJudged
@@ -144,11 +143,11 @@ module _ (call : HardCall) (c : List ℕ) (w : List Float) (A : HardAccepted cal
       pub own-few : own .hits ≤ size (call .physical)
       own-few = subst (λ (z : Fit). z .hits ≤ size (call .physical)) (sym (F .answer)) (fit-few (call .board) (call .physical) (getD (call .transforms) (best .first .placing .listed) 0) (best .first .placing .row) (best .first .placing .col) (A .board) (A .physical))
 
-      pub verdict-found : (a : Decoded) → n ≡ admission.Accepted → a ≡ softDecodedOf (getD (call .transforms) (best .first .placing .listed) 0) best own (size (call .physical)) runner → LogicalDone call best c c'' w w'' (Found a)
+      pub verdict-found : (a : SoftDecoded) → n ≡ admission.Accepted → a ≡ softDecodedOf (getD (call .transforms) (best .first .placing .listed) 0) (getD (call .transforms) (best .second .placing .listed) 0) best own (size (call .physical)) runner → LogicalDone call best c c'' w w'' (Found a)
       unfolding Figured
       verdict-found a o e =
           record {
-            answer = ap Found (e ∙ ap (λ (z : Fit). softDecodedOf (getD (call .transforms) (best .first .placing .listed) 0) best z (size (call .physical)) runner) (F .answer)) ∙ ap under (sym o) ∙ logical-answer;
+            answer = ap Found (e ∙ ap (λ (z : Fit). softDecodedOf (getD (call .transforms) (best .first .placing .listed) 0) (getD (call .transforms) (best .second .placing .listed) 0) best z (size (call .physical)) runner) (F .answer)) ∙ ap under (sym o) ∙ logical-answer;
             rooms = record { counts = c'; weights = w'; selected = D .rooms; figured = F .rooms };
             counts = beyond-trans 0 (tablesRoom (call .board)) c c' c'' (logical-rooms .0) (record { len = F .rooms .counts .len; same = F .rooms .counts .surplus });
             weights = beyond-trans nan (tablesRoom (call .board)) w w' w'' (logical-rooms .1) (record { len = F .rooms .weights .len; same = F .rooms .weights .surplus });
@@ -160,6 +159,11 @@ abbrev firstPlaceOf : SoftChoice → ℕ
 firstPlaceOf Nothing = 0
 firstPlaceOf (Chosen first second) = first .placing .listed
 
+-- and in second place
+abbrev secondPlaceOf : SoftChoice → ℕ
+secondPlaceOf Nothing = 0
+secondPlaceOf (Chosen first second) = second .placing .listed
+
 module _ (call : SoftCall) (m n o : ℕ) (A : SoftAccepted call m n o) where
   pub likelihoods-ok : LikelihoodsOk (call .hard .physical) (call .likelihoods)
   likelihoods-ok = record { matches = A .matches; mismatches = A .mismatches; match = λ i h. A .likely i h .0; mismatch = λ i h. A .likely i h .1 }
@@ -169,6 +173,12 @@ module _ (call : SoftCall) (m n o : ℕ) (A : SoftAccepted call m n o) where
       let b = soft-best-edges (call .hard .board) (call .hard .physical) (call .likelihoods) (call .hard .transforms) (A .hard .board) (A .hard .physical) likelihoods-ok (A .hard .transforms .some) in
       let p : first .placing .listed ≡ b .p = ap firstPlaceOf (sym e ∙ b .chosen) in
       omega (arith, b .first .listed)
+
+  pub second-listed : (first second : SoftCandidate) → softSelection (call .hard .board) (call .hard .physical) (call .likelihoods) (call .hard .transforms) ≡ Chosen first second → second .placing .listed < length (call .hard .transforms)
+  second-listed first second e =
+      let b = soft-best-edges (call .hard .board) (call .hard .physical) (call .likelihoods) (call .hard .transforms) (A .hard .board) (A .hard .physical) likelihoods-ok (A .hard .transforms .some) in
+      let p : second .placing .listed ≡ b .q = ap secondPlaceOf (sym e ∙ b .chosen) in
+      omega (arith, b .second .listed)
 
 module _ (call : SoftCall) (c : List ℕ) (w : List Float) (a : List ℤ) (A : SoftAccepted call (length c) (length w) (length a)) where
   pub ready-soft : SoftReady (call .hard .board) (call .hard .physical) (call .likelihoods) (call .hard .transforms) a
@@ -182,7 +192,7 @@ module _ (call : SoftCall) (c : List ℕ) (w : List Float) (a : List ℤ) (A : S
   }
 
   -- no confidence
-  pub core-none : (r : Answer) → eq (totalConfidence (call .hard .physical)) zeroF ≡ true → r ≡ refusedBy why.noConfidence → SoftCoreDone call c c w w a a r
+  pub core-none : (r : SoftAnswer) → eq (totalConfidence (call .hard .physical)) zeroF ≡ true → r ≡ softRefusedBy why.noConfidence → SoftCoreDone call c c w w a a r
   unfolding softCore noConfidence CoreRooms
   core-none r h e = record { answer = e ∙ sym (rw h); rooms = by-true _ _ _ h (refl, refl, refl); counts = beyond-refl 0 (tablesRoom (call .hard .board)) c; weights = beyond-refl nan (tablesRoom (call .hard .board)) w; sums = beyond-refl (pos 0) (sumsRoom (call .hard .board)) a }
 
@@ -198,26 +208,26 @@ module _ (call : SoftCall) (c : List ℕ) (w : List Float) (a : List ℤ) (A : S
     core-answer y e = ap (afterSoft (call .hard) (call .soft-margin)) (sym e ∙ choice-told) ∙ sym (rw h)
 
     -- past the physical list's confidence: its sums are built, and the choice decides
-    core-rooms : (y : SoftChoice) (c' : List ℕ) (w' : List Float) (r : Answer) → x ≡ y → PastMargin (call .hard) (call .soft-margin) y r c c' w w' → CoreRooms call r c c' w w' a a'
+    core-rooms : (y : SoftChoice) (c' : List ℕ) (w' : List Float) (r : SoftAnswer) → x ≡ y → PastMargin (call .hard) (call .soft-margin) y r c c' w w' → CoreRooms call r c c' w w' a a'
     unfolding noConfidence CoreRooms
     core-rooms y c' w' r e p =
         by-false _ _ _ h (subst (λ (z : SoftChoice). PastMargin (call .hard) (call .soft-margin) z r c c' w w') (sym e ∙ choice-told) p, S .room)
 
     -- no two candidates
-    pub core-nothing : (r : Answer) → x ≡ Nothing → r ≡ refusedBy why.softMargin → SoftCoreDone call c c w w a a' r
+    pub core-nothing : (r : SoftAnswer) → x ≡ Nothing → r ≡ softRefusedBy why.softMargin → SoftCoreDone call c c w w a a' r
     unfolding PastMargin
     core-nothing r k e = record { answer = e ∙ core-answer Nothing k; rooms = core-rooms Nothing c w r k (refl, refl); counts = beyond-refl 0 (tablesRoom (call .hard .board)) c; weights = beyond-refl nan (tablesRoom (call .hard .board)) w; sums = sums-beyond }
 
     module _ (first second : SoftCandidate) (k : x ≡ Chosen first second) (m : Float) (f : m ≡ softMargin first second (size (call .hard .physical))) where
       -- the margin is too small
-      pub core-below : (b : Bool) (r : Answer) → b ≡ belowMargin m (call .soft-margin) → b ≡ true → r ≡ refusedBy why.softMargin → SoftCoreDone call c c w w a a' r
+      pub core-below : (b : Bool) (r : SoftAnswer) → b ≡ belowMargin m (call .soft-margin) → b ≡ true → r ≡ softRefusedBy why.softMargin → SoftCoreDone call c c w w a a' r
       unfolding PastMargin
       core-below b r d t e =
           let q : belowMargin (softMargin first second (size (call .hard .physical))) (call .soft-margin) ≡ true = ap (λ (z : Float). belowMargin z (call .soft-margin)) (sym f) ∙ sym d ∙ t in
           record { answer = e ∙ sym (rw q) ∙ core-answer (Chosen first second) k; rooms = core-rooms (Chosen first second) c w r k (by-true _ _ _ q (refl, refl)); counts = beyond-refl 0 (tablesRoom (call .hard .board)) c; weights = beyond-refl nan (tablesRoom (call .hard .board)) w; sums = sums-beyond }
 
       -- else the logical list decides
-      pub core-logical : (b : Bool) (c' : List ℕ) (w' : List Float) (r : Answer) → b ≡ belowMargin m (call .soft-margin) → b ≡ false → LogicalDone (call .hard) (record { first = first; second = second; margin = m }) c c' w w' r → SoftCoreDone call c c' w w' a a' r
+      pub core-logical : (b : Bool) (c' : List ℕ) (w' : List Float) (r : SoftAnswer) → b ≡ belowMargin m (call .soft-margin) → b ≡ false → LogicalDone (call .hard) (record { first = first; second = second; margin = m }) c c' w w' r → SoftCoreDone call c c' w w' a a' r
       unfolding PastMargin
       core-logical b c' w' r d t D =
           let q : belowMargin (softMargin first second (size (call .hard .physical))) (call .soft-margin) ≡ false = ap (λ (z : Float). belowMargin z (call .soft-margin)) (sym f) ∙ sym d ∙ t in
@@ -232,16 +242,16 @@ module _ (call : SoftCall) (c : List ℕ) (w : List Float) (a : List ℤ) (A : S
           }
 
 -- ---- any two results that the core's promise allows are equal, and so are the rooms
-figured-same : (y : Answer) (B : Board) (E : EdgeList) (t : ℕ) (m c d : List ℕ) (v w x : List Float) → Figured y B E t m c v w → Figured y B E t m d v x → (c ≡ d) × (w ≡ x)
+figured-same : (y : SoftAnswer) (B : Board) (E : EdgeList) (t : ℕ) (m c d : List ℕ) (v w x : List Float) → Figured y B E t m c v w → Figured y B E t m d v x → (c ≡ d) × (w ≡ x)
 unfolding Figured
 figured-same (Found a) B E t m c d v w x f g = rooms-equal B E t m c d v w x f g
 figured-same (Refused n) B E t m c d v w x f g = (f .0 ∙ sym (g .0), f .1 ∙ sym (g .1))
 
-figured-over : (y : Answer) (B : Board) (E : EdgeList) (t : ℕ) (m n c d : List ℕ) (v u w x : List Float) → m ≡ n → v ≡ u → Figured y B E t m c v w → Figured y B E t n d u x → (c ≡ d) × (w ≡ x)
+figured-over : (y : SoftAnswer) (B : Board) (E : EdgeList) (t : ℕ) (m n c d : List ℕ) (v u w x : List Float) → m ≡ n → v ≡ u → Figured y B E t m c v w → Figured y B E t n d u x → (c ≡ d) × (w ≡ x)
 figured-over y B E t m n c d v u w x e o f g =
     figured-same y B E t m c d v w x f (subst (λ (k : List ℕ). Figured y B E t k d v x) (sym e) (subst (λ (k : List Float). Figured y B E t n d k x) (sym o) g))
 
-logical-same : (call : HardCall) (best : SoftBest) (r : Answer) (c c' d' : List ℕ) (w w' x' : List Float) → LogicalRooms call best r c c' w w' → LogicalRooms call best r c d' w x' → (c' ≡ d') × (w' ≡ x')
+logical-same : (call : HardCall) (best : SoftBest) (r : SoftAnswer) (c c' d' : List ℕ) (w w' x' : List Float) → LogicalRooms call best r c c' w w' → LogicalRooms call best r c d' w x' → (c' ≡ d') × (w' ≡ x')
 logical-same call best r c c' d' w w' x' p q =
     let s = selection (call .board) (call .logical) (call .transforms) (call .error-limit) in
     let e =
@@ -254,14 +264,14 @@ unfolding By
 by-same true A A' B B' C f g p q = f p q
 by-same false A A' B B' C f g p q = g p q
 
-margin-same : (call : HardCall) (least : Float) (y : SoftChoice) (r : Answer) (c c' d' : List ℕ) (w w' x' : List Float) → PastMargin call least y r c c' w w' → PastMargin call least y r c d' w x' → (c' ≡ d') × (w' ≡ x')
+margin-same : (call : HardCall) (least : Float) (y : SoftChoice) (r : SoftAnswer) (c c' d' : List ℕ) (w w' x' : List Float) → PastMargin call least y r c c' w w' → PastMargin call least y r c d' w x' → (c' ≡ d') × (w' ≡ x')
 unfolding PastMargin
 margin-same call least Nothing r c c' d' w w' x' p q = (p .0 ∙ sym (q .0), p .1 ∙ sym (q .1))
 margin-same call least (Chosen first second) r c c' d' w w' x' p q =
     by-same (tooClose call least first second) _ _ _ _ _ (λ f g. (f .0 ∙ sym (g .0), f .1 ∙ sym (g .1)))
     (λ f g. logical-same call (bestOf first second (size (call .physical))) r c c' d' w w' x' f g) p q
 
-pub core-unique : (call : SoftCall) (c c' d' : List ℕ) (w w' x' : List Float) (a a' b' : List ℤ) (r s : Answer) → SoftCoreDone call c c' w w' a a' r → SoftCoreDone call c d' w x' a b' s → (r ≡ s) × (c' ≡ d') × (w' ≡ x') × (a' ≡ b')
+pub core-unique : (call : SoftCall) (c c' d' : List ℕ) (w w' x' : List Float) (a a' b' : List ℤ) (r s : SoftAnswer) → SoftCoreDone call c c' w w' a a' r → SoftCoreDone call c d' w x' a b' s → (r ≡ s) × (c' ≡ d') × (w' ≡ x') × (a' ≡ b')
 unfolding CoreRooms
 core-unique call c c' d' w w' x' a a' b' r s p q =
     let e : r ≡ s = p .answer ∙ sym (q .answer) in
@@ -272,5 +282,5 @@ core-unique call c c' d' w w' x' a a' b' r s p q =
     let z = softScanOf B E X ts (length ts) in
     by-same (noConfidence E) _ _ _ _ _ (λ f g. (e, f .0 ∙ sym (g .0), f .1 ∙ sym (g .1), f .2 ∙ sym (g .2)))
     (λ f g.
-    let m = margin-same (call .hard) (call .soft-margin) (softSelection B E X ts) r c c' d' w w' x' (f .0) (subst (λ (y : Answer). PastMargin (call .hard) (call .soft-margin) (softSelection B E X ts) y c d' w x') (sym e) (g .0)) in
+    let m = margin-same (call .hard) (call .soft-margin) (softSelection B E X ts) r c c' d' w w' x' (f .0) (subst (λ (y : SoftAnswer). PastMargin (call .hard) (call .soft-margin) (softSelection B E X ts) y c d' w x') (sym e) (g .0)) in
     (e, m .0, m .1, scanned-unique B E X ts (length ts) a a' b' z z (record { answer = refl; room = f .1 }) (record { answer = refl; room = g .1 }) .1)) (p .rooms) (q .rooms)

@@ -26,17 +26,17 @@ use Rattle.margin.specs.declared.slots.SoftChoice.the-variants.{Chosen}
 use Rattle.margin.specs.Margin.{belowMargin}
 use Rattle.soft.specs.Select.{softSelection}
 use Rattle.soft_verdict.specs.declared.SoftBest.{SoftBest}
-use Rattle.answer.specs.declared.Decoded.{Decoded}
-use Rattle.answer.specs.declared.Answer.{Answer}
-use Rattle.answer.specs.declared.Answer.the-variants.{Found, Refused}
-use Rattle.verdict.specs.Verdict.{refusedBy, pick, whenAccepted}
-use Rattle.soft_verdict.specs.SoftVerdict.{softVerdict, softDecodedOf, bestOf}
+use Rattle.answer.specs.declared.SoftDecoded.{SoftDecoded}
+use Rattle.answer.specs.declared.SoftAnswer.{SoftAnswer}
+use Rattle.answer.specs.declared.SoftAnswer.the-variants.{Found, Refused}
+use Rattle.verdict.specs.Verdict.{pick}
+use Rattle.soft_verdict.specs.SoftVerdict.{softRefusedBy, softWhenAccepted, softVerdict, softDecodedOf, bestOf}
 use Rattle.demand.specs.OneSelection.{NoneWithinLimit, SomeWithinLimit, NoneLeads, Winner, Ended, ended, none-refused, within-refused, some-winner, winner-some}
 use Rattle.demand.specs.Winners.{winner-leads}
 use Rattle.soft_core.specs.SoftDemand.{withTotal, marginOf, BestByLikelihood}
 use Rattle.soft_core.specs.Soft.{fitOf, softJudged, afterHard, afterSoft, softCore}
 use Rattle.soft_core.specs.SoftTheorems.{own-best, own-exists, first-placing, second-placing}
-use Rattle.demand.specs.Answers.{apart, found-not}
+use Rattle.soft_verdict.specs.SoftVerdictTheorems.{soft-apart, soft-found-not}
 
 module _ (call : SoftCall) (m n o : ℕ) (A : SoftAccepted call m n o) where
   abbrev few : length (call .hard .transforms) ≤ 8
@@ -78,14 +78,14 @@ module _ (call : SoftCall) (m n o : ℕ) (A : SoftAccepted call m n o) where
   SoftHardAgree w = eqb t (getD (call .hard .transforms) (w .winner .placing .listed) 0) && (eqb (Q .row) (w .winner .placing .row) && eqb (Q .col) (w .winner .placing .col))
 
   -- ---- the ways in which an accepted call ends, in document 01's order
-  pub data SoftEnd : Answer → Type 0 where
-    no-physical-confidence : noConfidence (call .hard .physical) ≡ true → SoftEnd (refusedBy why.noConfidence)
-    margin-below : noConfidence (call .hard .physical) ≡ false → Below ≡ true → SoftEnd (refusedBy why.softMargin)
-    no-logical-confidence : noConfidence (call .hard .physical) ≡ false → Below ≡ false → noConfidence (call .hard .logical) ≡ true → SoftEnd (refusedBy why.noConfidence)
-    none-within : noConfidence (call .hard .physical) ≡ false → Below ≡ false → noConfidence (call .hard .logical) ≡ false → LogicalNone → SoftEnd (refusedBy why.noneWithinLimit)
-    winners-differ : noConfidence (call .hard .physical) ≡ false → Below ≡ false → (w : LogicalWinner) → SoftHardAgree w ≡ false → SoftEnd (refusedBy why.softHardDisagree)
-    none-leads : noConfidence (call .hard .physical) ≡ false → Below ≡ false → (w : LogicalWinner) → SoftHardAgree w ≡ true → LogicalLeads → SoftEnd (refusedBy why.notFarAhead)
-    found : noConfidence (call .hard .physical) ≡ false → Below ≡ false → (w : LogicalWinner) → SoftHardAgree w ≡ true → (d : Decoded) → SoftEnd (Found d)
+  pub data SoftEnd : SoftAnswer → Type 0 where
+    no-physical-confidence : noConfidence (call .hard .physical) ≡ true → SoftEnd (softRefusedBy why.noConfidence)
+    margin-below : noConfidence (call .hard .physical) ≡ false → Below ≡ true → SoftEnd (softRefusedBy why.softMargin)
+    no-logical-confidence : noConfidence (call .hard .physical) ≡ false → Below ≡ false → noConfidence (call .hard .logical) ≡ true → SoftEnd (softRefusedBy why.noConfidence)
+    none-within : noConfidence (call .hard .physical) ≡ false → Below ≡ false → noConfidence (call .hard .logical) ≡ false → LogicalNone → SoftEnd (softRefusedBy why.noneWithinLimit)
+    winners-differ : noConfidence (call .hard .physical) ≡ false → Below ≡ false → (w : LogicalWinner) → SoftHardAgree w ≡ false → SoftEnd (softRefusedBy why.softHardDisagree)
+    none-leads : noConfidence (call .hard .physical) ≡ false → Below ≡ false → (w : LogicalWinner) → SoftHardAgree w ≡ true → LogicalLeads → SoftEnd (softRefusedBy why.notFarAhead)
+    found : noConfidence (call .hard .physical) ≡ false → Below ≡ false → (w : LogicalWinner) → SoftHardAgree w ≡ true → (d : SoftDecoded) → SoftEnd (Found d)
 
   abbrev best : SoftBest
   best =
@@ -97,11 +97,11 @@ module _ (call : SoftCall) (m n o : ℕ) (A : SoftAccepted call m n o) where
       told : (noConfidence (call .hard .logical) ≡ false) × LogicalWithin × ((passed (size (call .hard .logical)) (w .winner .hits) (w .runner-up .hits) ≡ true) ⊎ LogicalLeads)
       told = winner-some (call .hard .board) (call .hard .logical) (call .hard .transforms) (call .hard .error-limit) (A .hard .board) (A .hard .logical) few w
 
-      abbrev answer : Answer
-      answer = Found (softDecodedOf t best (fitOf (call .hard .board) (call .hard .physical) t (Q .row) (Q .col)) (size (call .hard .physical)) (w .runner-up))
+      abbrev answer : SoftAnswer
+      answer = Found (softDecodedOf t (getD (call .hard .transforms) (R .listed) 0) best (fitOf (call .hard .board) (call .hard .physical) t (Q .row) (Q .col)) (size (call .hard .physical)) (w .runner-up))
 
       by-verdict : (a g : Bool) → SoftHardAgree w ≡ a → passed (size (call .hard .logical)) (w .winner .hits) (w .runner-up .hits) ≡ g
-          → SoftEnd (whenAccepted (cond a (cond g admission.Accepted (admission.Refused (numbered why.notFarAhead))) (admission.Refused (numbered why.softHardDisagree))) answer)
+          → SoftEnd (softWhenAccepted (cond a (cond g admission.Accepted (admission.Refused (numbered why.notFarAhead))) (admission.Refused (numbered why.softHardDisagree))) answer)
       by-verdict true true e h = found c b w e _
       by-verdict true false e h = none-leads c b w e (⊎-elim (λ k. clash k h) (λ k. k) (told .2))
       by-verdict false g e h = winners-differ c b w e
@@ -117,14 +117,14 @@ module _ (call : SoftCall) (m n o : ℕ) (A : SoftAccepted call m n o) where
     by-logical (sel.Selected x r) e h = by-judged (record { winner = x; runner-up = r; selected = e })
 
   by-margin : (b : Bool) → Below ≡ b → noConfidence (call .hard .physical) ≡ false
-      → SoftEnd (pick b (refusedBy why.softMargin) (afterHard (call .hard) best (selection (call .hard .board) (call .hard .logical) (call .hard .transforms) (call .hard .error-limit))))
+      → SoftEnd (pick b (softRefusedBy why.softMargin) (afterHard (call .hard) best (selection (call .hard .board) (call .hard .logical) (call .hard .transforms) (call .hard .error-limit))))
   by-margin true e c = margin-below c e
   by-margin false e c =
       by-logical c e (selection (call .hard .board) (call .hard .logical) (call .hard .transforms) (call .hard .error-limit)) refl
       (ended (call .hard .board) (call .hard .logical) (call .hard .transforms) (call .hard .error-limit) (A .hard .board) (A .hard .logical) few)
 
   by-confidence : (b : Bool) → noConfidence (call .hard .physical) ≡ b
-      → SoftEnd (pick b (refusedBy why.noConfidence) (afterSoft (call .hard) (call .soft-margin) (softSelection (call .hard .board) (call .hard .physical) (call .likelihoods) (call .hard .transforms))))
+      → SoftEnd (pick b (softRefusedBy why.noConfidence) (afterSoft (call .hard) (call .soft-margin) (softSelection (call .hard .board) (call .hard .physical) (call .likelihoods) (call .hard .transforms))))
   by-confidence true e = no-physical-confidence e
   by-confidence false e = rw soft-two (by-margin Below refl e)
 
@@ -140,10 +140,10 @@ module _ (call : SoftCall) (m n o : ℕ) (A : SoftAccepted call m n o) where
   pub soft-late : (r : Refusal) → softCore call ≡ Refused r → Late (r .number) × (r .place ≡ Nowhere)
   soft-late r e = go (softCore call) soft-ends e
     where
-      numbers : (k : ℕ) → Late k → refusedBy k ≡ Refused r → Late (r .number) × (r .place ≡ Nowhere)
+      numbers : (k : ℕ) → Late k → softRefusedBy k ≡ Refused r → Late (r .number) × (r .place ≡ Nowhere)
       numbers k h q = let z : numbered k ≡ r = cc in (subst Late (ap (λ (x : Refusal). x .number) z) h, sym (ap (λ (x : Refusal). x .place) z))
 
-      go : (a : Answer) → SoftEnd a → a ≡ Refused r → Late (r .number) × (r .place ≡ Nowhere)
+      go : (a : SoftAnswer) → SoftEnd a → a ≡ Refused r → Late (r .number) × (r .place ≡ Nowhere)
       go a (no-physical-confidence h) q = numbers why.noConfidence (omega arith, omega arith, λ z. omega arith) q
       go a (margin-below h k) q = numbers why.softMargin (omega arith, omega arith, λ z. omega arith) q
       go a (no-logical-confidence h k l) q = numbers why.noConfidence (omega arith, omega arith, λ z. omega arith) q
@@ -161,7 +161,7 @@ module _ (call : SoftCall) (m n o : ℕ) (A : SoftAccepted call m n o) where
   unfolding softCore
   core-clear h = rw (h .0, soft-two, h .1)
 
-  core-unsure : noConfidence (call .hard .physical) ≡ true → softCore call ≡ refusedBy why.noConfidence
+  core-unsure : noConfidence (call .hard .physical) ≡ true → softCore call ≡ softRefusedBy why.noConfidence
   unfolding softCore
   core-unsure h = rw h
 
@@ -169,19 +169,19 @@ module _ (call : SoftCall) (m n o : ℕ) (A : SoftAccepted call m n o) where
   abbrev SoftNoConfidence : Type 0
   SoftNoConfidence = (noConfidence (call .hard .physical) ≡ true) ⊎ (Clear × (noConfidence (call .hard .logical) ≡ true))
 
-  pub soft-10 : (softCore call ≡ refusedBy why.noConfidence → SoftNoConfidence) × (SoftNoConfidence → softCore call ≡ refusedBy why.noConfidence)
+  pub soft-10 : (softCore call ≡ softRefusedBy why.noConfidence → SoftNoConfidence) × (SoftNoConfidence → softCore call ≡ softRefusedBy why.noConfidence)
   soft-10 = ((λ e. go (softCore call) soft-ends e), back)
     where
-      go : (a : Answer) → SoftEnd a → a ≡ refusedBy why.noConfidence → SoftNoConfidence
+      go : (a : SoftAnswer) → SoftEnd a → a ≡ softRefusedBy why.noConfidence → SoftNoConfidence
       go a (no-physical-confidence h) q = inl h
-      go a (margin-below h k) q = apart why.softMargin why.noConfidence (λ z. omega arith) q
+      go a (margin-below h k) q = soft-apart why.softMargin why.noConfidence (λ z. omega arith) q
       go a (no-logical-confidence h k l) q = inr ((h, k), l)
-      go a (none-within h k l i) q = apart why.noneWithinLimit why.noConfidence (λ z. omega arith) q
-      go a (winners-differ h k w l) q = apart why.softHardDisagree why.noConfidence (λ z. omega arith) q
-      go a (none-leads h k w l i) q = apart why.notFarAhead why.noConfidence (λ z. omega arith) q
-      go a (found h k w l d) q = found-not d why.noConfidence q
+      go a (none-within h k l i) q = soft-apart why.noneWithinLimit why.noConfidence (λ z. omega arith) q
+      go a (winners-differ h k w l) q = soft-apart why.softHardDisagree why.noConfidence (λ z. omega arith) q
+      go a (none-leads h k w l i) q = soft-apart why.notFarAhead why.noConfidence (λ z. omega arith) q
+      go a (found h k w l d) q = soft-found-not d why.noConfidence q
 
-      back : SoftNoConfidence → softCore call ≡ refusedBy why.noConfidence
+      back : SoftNoConfidence → softCore call ≡ softRefusedBy why.noConfidence
       back (inl h) = core-unsure h
       back (inr h) = core-clear (h .0) ∙ ap (afterHard (call .hard) best) (none-refused (call .hard .board) (call .hard .logical) (call .hard .transforms) (call .hard .error-limit) (A .hard .board) (A .hard .logical) few (h .1))
 
@@ -189,37 +189,37 @@ module _ (call : SoftCall) (m n o : ℕ) (A : SoftAccepted call m n o) where
   abbrev MarginBelow : Type 0
   MarginBelow = (noConfidence (call .hard .physical) ≡ false) × (Below ≡ true)
 
-  pub soft-14 : (softCore call ≡ refusedBy why.softMargin → MarginBelow) × (MarginBelow → softCore call ≡ refusedBy why.softMargin)
+  pub soft-14 : (softCore call ≡ softRefusedBy why.softMargin → MarginBelow) × (MarginBelow → softCore call ≡ softRefusedBy why.softMargin)
   unfolding softCore
   soft-14 = ((λ e. go (softCore call) soft-ends e), λ h. rw (h .0, soft-two, h .1))
     where
-      go : (a : Answer) → SoftEnd a → a ≡ refusedBy why.softMargin → MarginBelow
-      go a (no-physical-confidence h) q = apart why.noConfidence why.softMargin (λ z. omega arith) q
+      go : (a : SoftAnswer) → SoftEnd a → a ≡ softRefusedBy why.softMargin → MarginBelow
+      go a (no-physical-confidence h) q = soft-apart why.noConfidence why.softMargin (λ z. omega arith) q
       go a (margin-below h k) q = (h, k)
-      go a (no-logical-confidence h k l) q = apart why.noConfidence why.softMargin (λ z. omega arith) q
-      go a (none-within h k l i) q = apart why.noneWithinLimit why.softMargin (λ z. omega arith) q
-      go a (winners-differ h k w l) q = apart why.softHardDisagree why.softMargin (λ z. omega arith) q
-      go a (none-leads h k w l i) q = apart why.notFarAhead why.softMargin (λ z. omega arith) q
-      go a (found h k w l d) q = found-not d why.softMargin q
+      go a (no-logical-confidence h k l) q = soft-apart why.noConfidence why.softMargin (λ z. omega arith) q
+      go a (none-within h k l i) q = soft-apart why.noneWithinLimit why.softMargin (λ z. omega arith) q
+      go a (winners-differ h k w l) q = soft-apart why.softHardDisagree why.softMargin (λ z. omega arith) q
+      go a (none-leads h k w l i) q = soft-apart why.notFarAhead why.softMargin (λ z. omega arith) q
+      go a (found h k w l d) q = soft-found-not d why.softMargin q
 
   -- 11: no placing of the logical list is within the limit
   abbrev NoneWithin : Type 0
   NoneWithin = Clear × (noConfidence (call .hard .logical) ≡ false) × LogicalNone
 
-  pub soft-11 : (softCore call ≡ refusedBy why.noneWithinLimit → NoneWithin) × (NoneWithin → softCore call ≡ refusedBy why.noneWithinLimit)
+  pub soft-11 : (softCore call ≡ softRefusedBy why.noneWithinLimit → NoneWithin) × (NoneWithin → softCore call ≡ softRefusedBy why.noneWithinLimit)
   soft-11 = (
     (λ e. go (softCore call) soft-ends e),
     λ h. core-clear (h .0) ∙ ap (afterHard (call .hard) best) (within-refused (call .hard .board) (call .hard .logical) (call .hard .transforms) (call .hard .error-limit) (A .hard .board) (A .hard .logical) few (h .1) (h .2)),
   )
     where
-      go : (a : Answer) → SoftEnd a → a ≡ refusedBy why.noneWithinLimit → NoneWithin
-      go a (no-physical-confidence h) q = apart why.noConfidence why.noneWithinLimit (λ z. omega arith) q
-      go a (margin-below h k) q = apart why.softMargin why.noneWithinLimit (λ z. omega arith) q
-      go a (no-logical-confidence h k l) q = apart why.noConfidence why.noneWithinLimit (λ z. omega arith) q
+      go : (a : SoftAnswer) → SoftEnd a → a ≡ softRefusedBy why.noneWithinLimit → NoneWithin
+      go a (no-physical-confidence h) q = soft-apart why.noConfidence why.noneWithinLimit (λ z. omega arith) q
+      go a (margin-below h k) q = soft-apart why.softMargin why.noneWithinLimit (λ z. omega arith) q
+      go a (no-logical-confidence h k l) q = soft-apart why.noConfidence why.noneWithinLimit (λ z. omega arith) q
       go a (none-within h k l i) q = ((h, k), l, i)
-      go a (winners-differ h k w l) q = apart why.softHardDisagree why.noneWithinLimit (λ z. omega arith) q
-      go a (none-leads h k w l i) q = apart why.notFarAhead why.noneWithinLimit (λ z. omega arith) q
-      go a (found h k w l d) q = found-not d why.noneWithinLimit q
+      go a (winners-differ h k w l) q = soft-apart why.softHardDisagree why.noneWithinLimit (λ z. omega arith) q
+      go a (none-leads h k w l i) q = soft-apart why.notFarAhead why.noneWithinLimit (λ z. omega arith) q
+      go a (found h k w l d) q = soft-found-not d why.noneWithinLimit q
 
   -- what a winner of the logical list comes to
   judged-is : Clear → (w : LogicalWinner) → softCore call ≡ softJudged (call .hard) best (w .winner) (w .runner-up)
@@ -231,18 +231,18 @@ module _ (call : SoftCall) (m n o : ℕ) (A : SoftAccepted call m n o) where
     pub logical : LogicalWinner
     pub differ : SoftHardAgree logical ≡ false
 
-  pub soft-15 : (softCore call ≡ refusedBy why.softHardDisagree → SoftHardDisagree) × (SoftHardDisagree → softCore call ≡ refusedBy why.softHardDisagree)
+  pub soft-15 : (softCore call ≡ softRefusedBy why.softHardDisagree → SoftHardDisagree) × (SoftHardDisagree → softCore call ≡ softRefusedBy why.softHardDisagree)
   unfolding softJudged softVerdict
   soft-15 = ((λ e. go (softCore call) soft-ends e), λ d. judged-is (d .clear) (d .logical) ∙ rw (d .differ))
     where
-      go : (a : Answer) → SoftEnd a → a ≡ refusedBy why.softHardDisagree → SoftHardDisagree
-      go a (no-physical-confidence h) q = apart why.noConfidence why.softHardDisagree (λ z. omega arith) q
-      go a (margin-below h k) q = apart why.softMargin why.softHardDisagree (λ z. omega arith) q
-      go a (no-logical-confidence h k l) q = apart why.noConfidence why.softHardDisagree (λ z. omega arith) q
-      go a (none-within h k l i) q = apart why.noneWithinLimit why.softHardDisagree (λ z. omega arith) q
+      go : (a : SoftAnswer) → SoftEnd a → a ≡ softRefusedBy why.softHardDisagree → SoftHardDisagree
+      go a (no-physical-confidence h) q = soft-apart why.noConfidence why.softHardDisagree (λ z. omega arith) q
+      go a (margin-below h k) q = soft-apart why.softMargin why.softHardDisagree (λ z. omega arith) q
+      go a (no-logical-confidence h k l) q = soft-apart why.noConfidence why.softHardDisagree (λ z. omega arith) q
+      go a (none-within h k l i) q = soft-apart why.noneWithinLimit why.softHardDisagree (λ z. omega arith) q
       go a (winners-differ h k w l) q = record { clear = (h, k); logical = w; differ = l }
-      go a (none-leads h k w l i) q = apart why.notFarAhead why.softHardDisagree (λ z. omega arith) q
-      go a (found h k w l d) q = found-not d why.softHardDisagree q
+      go a (none-leads h k w l i) q = soft-apart why.notFarAhead why.softHardDisagree (λ z. omega arith) q
+      go a (found h k w l d) q = soft-found-not d why.softHardDisagree q
 
   -- 13: the winners agree, and no placing of the logical list leads
   pub record SoftNotAhead : Type 0 where
@@ -251,18 +251,18 @@ module _ (call : SoftCall) (m n o : ℕ) (A : SoftAccepted call m n o) where
     pub agree : SoftHardAgree logical ≡ true
     pub none-lead : LogicalLeads
 
-  pub soft-13 : (softCore call ≡ refusedBy why.notFarAhead → SoftNotAhead) × (SoftNotAhead → softCore call ≡ refusedBy why.notFarAhead)
+  pub soft-13 : (softCore call ≡ softRefusedBy why.notFarAhead → SoftNotAhead) × (SoftNotAhead → softCore call ≡ softRefusedBy why.notFarAhead)
   unfolding softJudged softVerdict
   soft-13 = ((λ e. go (softCore call) soft-ends e), λ d. judged-is (d .clear) (d .logical) ∙ rw (d .agree, not-passed d))
     where
-      go : (a : Answer) → SoftEnd a → a ≡ refusedBy why.notFarAhead → SoftNotAhead
-      go a (no-physical-confidence h) q = apart why.noConfidence why.notFarAhead (λ z. omega arith) q
-      go a (margin-below h k) q = apart why.softMargin why.notFarAhead (λ z. omega arith) q
-      go a (no-logical-confidence h k l) q = apart why.noConfidence why.notFarAhead (λ z. omega arith) q
-      go a (none-within h k l i) q = apart why.noneWithinLimit why.notFarAhead (λ z. omega arith) q
-      go a (winners-differ h k w l) q = apart why.softHardDisagree why.notFarAhead (λ z. omega arith) q
+      go : (a : SoftAnswer) → SoftEnd a → a ≡ softRefusedBy why.notFarAhead → SoftNotAhead
+      go a (no-physical-confidence h) q = soft-apart why.noConfidence why.notFarAhead (λ z. omega arith) q
+      go a (margin-below h k) q = soft-apart why.softMargin why.notFarAhead (λ z. omega arith) q
+      go a (no-logical-confidence h k l) q = soft-apart why.noConfidence why.notFarAhead (λ z. omega arith) q
+      go a (none-within h k l i) q = soft-apart why.noneWithinLimit why.notFarAhead (λ z. omega arith) q
+      go a (winners-differ h k w l) q = soft-apart why.softHardDisagree why.notFarAhead (λ z. omega arith) q
       go a (none-leads h k w l i) q = record { clear = (h, k); logical = w; agree = l; none-lead = i }
-      go a (found h k w l d) q = found-not d why.notFarAhead q
+      go a (found h k w l d) q = soft-found-not d why.notFarAhead q
 
       not-passed : (d : SoftNotAhead) → passed (size (call .hard .logical)) (d .logical .winner .hits) (d .logical .runner-up .hits) ≡ false
       not-passed d =

@@ -44,16 +44,16 @@ use Rattle.refusals.specs.declared.Admission.{Admission}
 use Rattle.refusals.specs.declared.Admission.the-variants as admission
 use Rattle.refusals.specs.Numbers.{numbered}
 use Rattle.refusals.specs.Numbers as why
-use Rattle.answer.specs.declared.Decoded.{Decoded}
-use Rattle.answer.specs.declared.Answer.{Answer}
-use Rattle.answer.specs.declared.Answer.the-variants.{Found, Refused}
-use Rattle.verdict.specs.Verdict.{refusedBy, pick, whenAccepted}
-use Rattle.soft_verdict.specs.SoftVerdict.{softVerdict, softDecodedOf, bestOf}
+use Rattle.answer.specs.declared.SoftDecoded.{SoftDecoded}
+use Rattle.answer.specs.declared.SoftAnswer.{SoftAnswer}
+use Rattle.answer.specs.declared.SoftAnswer.the-variants.{Found, Refused}
+use Rattle.verdict.specs.Verdict.{pick}
+use Rattle.soft_verdict.specs.SoftVerdict.{softRefusedBy, softWhenAccepted, softVerdict, softDecodedOf, bestOf}
 use Rattle.soft_core.specs.Soft.{cellFit, fitOf, softJudged, afterHard, afterSoft, softCore}
 use Rattle.soft_core.specs.SoftLaws.{likelihoods-ok}
 use Rattle.demand.specs.Demand.{OnBoard, Same, Leads, RunsUp, Names}
 use Rattle.demand.specs.DemandLaws.{keyOf, placing, placing-on, key-same, key-back, row-back, col-back, leads-sole}
-use Rattle.verdict.specs.VerdictTheorems.{never-both}
+use Rattle.soft_verdict.specs.SoftVerdictTheorems.{never-both-soft}
 use Rattle.soft_core.specs.SoftDemand.{total, withTotal, marginOf, FirstByLikelihood, SecondByLikelihood, BestByLikelihood, SoftAnswered}
 use Rattle.soft_core.specs.SoftPlaces.{first-once, best-by-rows, second-total}
 use Rattle.demand.specs.Winners.{runnerAt, winner-on, winner-leads, winner-hits, named, runner-hits, runs-up}
@@ -130,7 +130,7 @@ module _ (call : SoftCall) (m n o : ℕ) (A : SoftAccepted call m n o) where
 
   -- ---- found: then its own best placing clears the margin and leads
   -- how an answer comes to be found: the two best by likelihood, the winner of the logical list with its runner-up, and what is told of them
-  pub record FoundBy (d : Decoded) : Type 0 where
+  pub record FoundBy (d : SoftDecoded) : Type 0 where
     pub first : Placing
     pub second : Placing
     pub best : BestByLikelihood (call .hard .board) (call .hard .physical) (call .likelihoods) (call .hard .transforms) first second
@@ -139,14 +139,14 @@ module _ (call : SoftCall) (m n o : ℕ) (A : SoftAccepted call m n o) where
     pub runner : RunnerUp
     pub selected : selection (call .hard .board) (call .hard .logical) (call .hard .transforms) (call .hard .error-limit) ≡ sel.Selected winner runner
     pub agrees : (getD (call .hard .transforms) (first .listed) 0 ≡ getD (call .hard .transforms) (winner .placing .listed) 0) × (first .row ≡ winner .placing .row) × (first .col ≡ winner .placing .col) × (passed (size (call .hard .logical)) (winner .hits) (runner .hits) ≡ true)
-    pub told : softDecodedOf (getD (call .hard .transforms) (first .listed) 0) (bestOf (withTotal (call .hard .board) (call .hard .physical) (call .likelihoods) (call .hard .transforms) first) (withTotal (call .hard .board) (call .hard .physical) (call .likelihoods) (call .hard .transforms) second) (size (call .hard .physical))) (fitOf (call .hard .board) (call .hard .physical) (getD (call .hard .transforms) (first .listed) 0) (first .row) (first .col)) (size (call .hard .physical)) runner ≡ d
+    pub told : softDecodedOf (getD (call .hard .transforms) (first .listed) 0) (getD (call .hard .transforms) (second .listed) 0) (bestOf (withTotal (call .hard .board) (call .hard .physical) (call .likelihoods) (call .hard .transforms) first) (withTotal (call .hard .board) (call .hard .physical) (call .likelihoods) (call .hard .transforms) second) (size (call .hard .physical))) (fitOf (call .hard .board) (call .hard .physical) (getD (call .hard .transforms) (first .listed) 0) (first .row) (first .col)) (size (call .hard .physical)) runner ≡ d
 
-  module _ (d : Decoded) (Q R : Placing) (b : BestByLikelihood (call .hard .board) (call .hard .physical) (call .likelihoods) (call .hard .transforms) Q R) (clear : belowMargin (marginOf (call .hard .board) (call .hard .physical) (call .likelihoods) (call .hard .transforms) Q R) (call .soft-margin) ≡ false) where
+  module _ (d : SoftDecoded) (Q R : Placing) (b : BestByLikelihood (call .hard .board) (call .hard .physical) (call .likelihoods) (call .hard .transforms) Q R) (clear : belowMargin (marginOf (call .hard .board) (call .hard .physical) (call .likelihoods) (call .hard .transforms) Q R) (call .soft-margin) ≡ false) where
     abbrev t : ℕ
     t = getD (call .hard .transforms) (Q .listed) 0
 
-    abbrev answer : RunnerUp → Decoded
-    answer r = softDecodedOf t (bestOf (withTotal (call .hard .board) (call .hard .physical) (call .likelihoods) (call .hard .transforms) Q) (withTotal (call .hard .board) (call .hard .physical) (call .likelihoods) (call .hard .transforms) R) (size (call .hard .physical))) (fitOf (call .hard .board) (call .hard .physical) t (Q .row) (Q .col)) (size (call .hard .physical)) r
+    abbrev answer : RunnerUp → SoftDecoded
+    answer r = softDecodedOf t (getD (call .hard .transforms) (R .listed) 0) (bestOf (withTotal (call .hard .board) (call .hard .physical) (call .likelihoods) (call .hard .transforms) Q) (withTotal (call .hard .board) (call .hard .physical) (call .likelihoods) (call .hard .transforms) R) (size (call .hard .physical))) (fitOf (call .hard .board) (call .hard .physical) t (Q .row) (Q .col)) (size (call .hard .physical)) r
 
     module _ (x : Candidate) (r : RunnerUp) (e : selection (call .hard .board) (call .hard .logical) (call .hard .transforms) (call .hard .error-limit) ≡ sel.Selected x r) (p : (t ≡ getD (call .hard .transforms) (x .placing .listed) 0) × (Q .row ≡ x .placing .row) × (Q .col ≡ x .placing .col) × (passed (size (call .hard .logical)) (x .hits) (r .hits) ≡ true)) where
       lead : Leads (call .hard .board) (call .hard .logical) (call .hard .transforms) (call .hard .error-limit) (x .placing)
@@ -163,11 +163,11 @@ module _ (call : SoftCall) (m n o : ℕ) (A : SoftAccepted call m n o) where
       same-one : x .placing ≡ Q
       same-one = let q = same-place (eqb (Q .listed) (x .placing .listed)) refl in λ i. record { listed = sym q i; row = sym (p .1) i; col = sym (p .2) i }
 
-      soft-answered : softDecodedOf t (bestOf (withTotal (call .hard .board) (call .hard .physical) (call .likelihoods) (call .hard .transforms) Q) (withTotal (call .hard .board) (call .hard .physical) (call .likelihoods) (call .hard .transforms) R) (size (call .hard .physical))) (fitOf (call .hard .board) (call .hard .physical) t (Q .row) (Q .col)) (size (call .hard .physical)) r ≡ d → SoftAnswered call d
+      soft-answered : softDecodedOf t (getD (call .hard .transforms) (R .listed) 0) (bestOf (withTotal (call .hard .board) (call .hard .physical) (call .likelihoods) (call .hard .transforms) Q) (withTotal (call .hard .board) (call .hard .physical) (call .likelihoods) (call .hard .transforms) R) (size (call .hard .physical))) (fitOf (call .hard .board) (call .hard .physical) t (Q .row) (Q .col)) (size (call .hard .physical)) r ≡ d → SoftAnswered call d
       unfolding softDecodedOf
       soft-answered q =
           let l = named (call .hard .board) (call .hard .logical) (call .hard .transforms) (call .hard .error-limit) (A .hard .board) (A .hard .logical) (A .hard .transforms .few) x r e (p .3) in
-          subst (λ (z : Decoded). SoftAnswered call z) q (record {
+          subst (λ (z : SoftDecoded). SoftAnswered call z) q (record {
             square = Q;
             second = R;
             runner-up = runnerAt (l .0) r;
@@ -180,16 +180,18 @@ module _ (call : SoftCall) (m n o : ℕ) (A : SoftAccepted call m n o) where
             hits = fit-hits (call .hard .board) (call .hard .physical) t (Q .row) (Q .col) (A .hard .board);
             edges = refl;
             best-score = refl;
+            second-named = (refl, refl, refl);
+            second-score = refl;
             margin = refl;
             runner-up-named = (l .2, refl, refl);
-            runner-up-score = ap (λ (z : ℕ). ofInt binary32 (pos z)) (sym (runner-hits (call .hard .board) (call .hard .logical) (call .hard .transforms) (call .hard .error-limit) (A .hard .board) (A .hard .logical) (A .hard .transforms .few) x r e (p .3)));
+            runner-up-hits = sym (runner-hits (call .hard .board) (call .hard .logical) (call .hard .transforms) (call .hard .error-limit) (A .hard .board) (A .hard .logical) (A .hard .transforms .few) x r e (p .3));
             best = b;
           })
 
     abbrev verdict : Candidate → RunnerUp → Admission
     verdict x r = softVerdict t (withTotal (call .hard .board) (call .hard .physical) (call .likelihoods) (call .hard .transforms) Q) (getD (call .hard .transforms) (x .placing .listed) 0) x r (size (call .hard .logical))
 
-    by-verdict : (x : Candidate) (r : RunnerUp) (v : Admission) → selection (call .hard .board) (call .hard .logical) (call .hard .transforms) (call .hard .error-limit) ≡ sel.Selected x r → verdict x r ≡ v → whenAccepted v (Found (answer r)) ≡ Found d → FoundBy d
+    by-verdict : (x : Candidate) (r : RunnerUp) (v : Admission) → selection (call .hard .board) (call .hard .logical) (call .hard .transforms) (call .hard .error-limit) ≡ sel.Selected x r → verdict x r ≡ v → softWhenAccepted v (Found (answer r)) ≡ Found d → FoundBy d
     by-verdict x r admission.Accepted e h k = record {
       first = Q;
       second = R;
@@ -201,38 +203,38 @@ module _ (call : SoftCall) (m n o : ℕ) (A : SoftAccepted call m n o) where
       agrees = verdict-passed t (withTotal (call .hard .board) (call .hard .physical) (call .likelihoods) (call .hard .transforms) Q) (getD (call .hard .transforms) (x .placing .listed) 0) x r (size (call .hard .logical)) h;
       told = let q : answer r ≡ d = cc in q;
     }
-    by-verdict x r (admission.Refused j) e h k = absurd (never-both d j k)
+    by-verdict x r (admission.Refused j) e h k = absurd (never-both-soft d j k)
 
     by-logical : (q : Selection) → selection (call .hard .board) (call .hard .logical) (call .hard .transforms) (call .hard .error-limit) ≡ q → afterHard (call .hard) (bestOf (withTotal (call .hard .board) (call .hard .physical) (call .likelihoods) (call .hard .transforms) Q) (withTotal (call .hard .board) (call .hard .physical) (call .likelihoods) (call .hard .transforms) R) (size (call .hard .physical))) q ≡ Found d → FoundBy d
     unfolding softJudged
-    by-logical (sel.Refused j) e h = absurd (never-both d j h)
+    by-logical (sel.Refused j) e h = absurd (never-both-soft d j h)
     by-logical (sel.Selected x r) e h = by-verdict x r (verdict x r) e refl h
 
-  by-margin : (d : Decoded) (Q R : Placing) → BestByLikelihood (call .hard .board) (call .hard .physical) (call .likelihoods) (call .hard .transforms) Q R → (v : Bool) → belowMargin (marginOf (call .hard .board) (call .hard .physical) (call .likelihoods) (call .hard .transforms) Q R) (call .soft-margin) ≡ v
-      → pick v (refusedBy why.softMargin) (afterHard (call .hard) (bestOf (withTotal (call .hard .board) (call .hard .physical) (call .likelihoods) (call .hard .transforms) Q) (withTotal (call .hard .board) (call .hard .physical) (call .likelihoods) (call .hard .transforms) R) (size (call .hard .physical))) (selection (call .hard .board) (call .hard .logical) (call .hard .transforms) (call .hard .error-limit))) ≡ Found d → FoundBy d
-  by-margin d Q R b true e h = absurd (never-both d (numbered why.softMargin) h)
+  by-margin : (d : SoftDecoded) (Q R : Placing) → BestByLikelihood (call .hard .board) (call .hard .physical) (call .likelihoods) (call .hard .transforms) Q R → (v : Bool) → belowMargin (marginOf (call .hard .board) (call .hard .physical) (call .likelihoods) (call .hard .transforms) Q R) (call .soft-margin) ≡ v
+      → pick v (softRefusedBy why.softMargin) (afterHard (call .hard) (bestOf (withTotal (call .hard .board) (call .hard .physical) (call .likelihoods) (call .hard .transforms) Q) (withTotal (call .hard .board) (call .hard .physical) (call .likelihoods) (call .hard .transforms) R) (size (call .hard .physical))) (selection (call .hard .board) (call .hard .logical) (call .hard .transforms) (call .hard .error-limit))) ≡ Found d → FoundBy d
+  by-margin d Q R b true e h = absurd (never-both-soft d (numbered why.softMargin) h)
   by-margin d Q R b false e h = by-logical d Q R b e (selection (call .hard .board) (call .hard .logical) (call .hard .transforms) (call .hard .error-limit)) refl h
 
-  by-confidence : (d : Decoded) (v : Bool) → pick v (refusedBy why.noConfidence) (afterSoft (call .hard) (call .soft-margin) (softSelection (call .hard .board) (call .hard .physical) (call .likelihoods) (call .hard .transforms))) ≡ Found d → FoundBy d
-  by-confidence d true h = absurd (never-both d (numbered why.noConfidence) h)
+  by-confidence : (d : SoftDecoded) (v : Bool) → pick v (softRefusedBy why.noConfidence) (afterSoft (call .hard) (call .soft-margin) (softSelection (call .hard .board) (call .hard .physical) (call .likelihoods) (call .hard .transforms))) ≡ Found d → FoundBy d
+  by-confidence d true h = absurd (never-both-soft d (numbered why.noConfidence) h)
   by-confidence d false h =
       let Q = first-placing in
       let R = second-placing in
       by-margin d Q R own-exists (belowMargin (marginOf (call .hard .board) (call .hard .physical) (call .likelihoods) (call .hard .transforms) Q R) (call .soft-margin)) refl (ap (afterSoft (call .hard) (call .soft-margin)) (sym (own-best Q R own-exists)) ∙ h)
 
   -- how it was found
-  pub found-by : (d : Decoded) → softCore call ≡ Found d → FoundBy d
+  pub found-by : (d : SoftDecoded) → softCore call ≡ Found d → FoundBy d
   unfolding softCore
   found-by d h = by-confidence d (noConfidence (call .hard .physical)) h
 
   -- FOUND MEANS TRUE
-  pub soft-sound : (d : Decoded) → softCore call ≡ Found d → SoftAnswered call d
+  pub soft-sound : (d : SoftDecoded) → softCore call ≡ Found d → SoftAnswered call d
   soft-sound d h = let f = found-by d h in soft-answered d (f .first) (f .second) (f .best) (f .clears) (f .winner) (f .runner) (f .selected) (f .agrees) (f .told)
 
   -- ---- its own best placing clears the margin and leads: then soft decode finds
   -- A TRUE SQUARE IS FOUND
   pub soft-complete : noConfidence (call .hard .physical) ≡ false → noConfidence (call .hard .logical) ≡ false → (Q R : Placing) → BestByLikelihood (call .hard .board) (call .hard .physical) (call .likelihoods) (call .hard .transforms) Q R → belowMargin (marginOf (call .hard .board) (call .hard .physical) (call .likelihoods) (call .hard .transforms) Q R) (call .soft-margin) ≡ false → Leads (call .hard .board) (call .hard .logical) (call .hard .transforms) (call .hard .error-limit) Q
-      → (d : Decoded) × (softCore call ≡ Found d)
+      → (d : SoftDecoded) × (softCore call ≡ Found d)
   unfolding softCore softJudged softVerdict
   soft-complete h g Q R b clear l =
       let s = sole-selected (call .hard .board) (call .hard .logical) (call .hard .transforms) (call .hard .error-limit) (A .hard .board) (A .hard .logical) (A .hard .transforms .few) g (Q .listed) (keyOf (call .hard .board) (A .hard .board) Q) (leads-sole (call .hard .board) (A .hard .board) (call .hard .transforms) (call .hard .logical) (call .hard .error-limit) Q l) in
@@ -243,14 +245,14 @@ module _ (call : SoftCall) (m n o : ℕ) (A : SoftAccepted call m n o) where
       let p1 : eqb t (getD (call .hard .transforms) (x .placing .listed) 0) ≡ true = eq-eqb t (getD (call .hard .transforms) (x .placing .listed) 0) (ap (λ (i : ℕ). getD (call .hard .transforms) i 0) (k .0)) in
       let p2 : eqb (Q .row) (x .placing .row) ≡ true = eq-eqb (Q .row) (x .placing .row) (k .1) in
       let p3 : eqb (Q .col) (x .placing .col) ≡ true = eq-eqb (Q .col) (x .placing .col) (k .2) in
-      (softDecodedOf t (bestOf (withTotal (call .hard .board) (call .hard .physical) (call .likelihoods) (call .hard .transforms) Q) (withTotal (call .hard .board) (call .hard .physical) (call .likelihoods) (call .hard .transforms) R) (size (call .hard .physical))) (fitOf (call .hard .board) (call .hard .physical) t (Q .row) (Q .col)) (size (call .hard .physical)) r, rw (h, own-best Q R b, clear, s .2, p1, p2, p3, s .3))
+      (softDecodedOf t (getD (call .hard .transforms) (R .listed) 0) (bestOf (withTotal (call .hard .board) (call .hard .physical) (call .likelihoods) (call .hard .transforms) Q) (withTotal (call .hard .board) (call .hard .physical) (call .likelihoods) (call .hard .transforms) R) (size (call .hard .physical))) (fitOf (call .hard .board) (call .hard .physical) t (Q .row) (Q .col)) (size (call .hard .physical)) r, rw (h, own-best Q R b, clear, s .2, p1, p2, p3, s .3))
 
   -- the same by rows and columns: a placing that has first place, clears the margin over any that has second place, and leads, is found
   pub soft-complete-by-rows : noConfidence (call .hard .physical) ≡ false → noConfidence (call .hard .logical) ≡ false → (Q R : Placing)
       → FirstByLikelihood (call .hard .board) (call .hard .physical) (call .likelihoods) (call .hard .transforms) Q
       → SecondByLikelihood (call .hard .board) (call .hard .physical) (call .likelihoods) (call .hard .transforms) Q R
       → belowMargin (marginOf (call .hard .board) (call .hard .physical) (call .likelihoods) (call .hard .transforms) Q R) (call .soft-margin) ≡ false
-      → Leads (call .hard .board) (call .hard .logical) (call .hard .transforms) (call .hard .error-limit) Q → (d : Decoded) × (softCore call ≡ Found d)
+      → Leads (call .hard .board) (call .hard .logical) (call .hard .transforms) (call .hard .error-limit) Q → (d : SoftDecoded) × (softCore call ≡ Found d)
   soft-complete-by-rows h g Q R u v clear l =
       let H = call .hard in
       let X = call .likelihoods in

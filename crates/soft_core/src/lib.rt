@@ -10,7 +10,7 @@ ghost use Rattle.admission.specs.Calls.{hardCall, softCall};
 ghost use Rattle.admission.specs.Accepted.{HardAccepted, SoftAccepted};
 ghost use Rattle.soft_verdict.specs.SoftVerdict.{softVerdict, softDecodedOf};
 ghost use Rattle.soft_core.specs.Soft.{cellFit, FitDone, LogicalDone, SoftCoreDone};
-use answer::Answer;
+use answer::SoftAnswer;
 use figures::Fit;
 use hard::select::Selection;
 use laws::Periods;
@@ -20,9 +20,9 @@ use refusals::Admission;
 use scan::scan::Candidate;
 use scan::scan::RunnerUp;
 use soft_verdict::SoftBest;
+use soft_verdict::refuse_soft;
 use soft_verdict::soft_decoded;
 use soft_verdict::soft_verdict;
-use verdict::verdict::refuse;
 
 // The hits and the weight of one origin, read off the tables in the room.
 fn fit_at(counts: &[u32], weights: &[f32], periods: Periods, edges: u32, row: u32, col: u32) -> Fit
@@ -103,13 +103,13 @@ fn soft_logical<'a>(
     error_limit: f32,
     counts: &mut [u32],
     weights: &mut [f32],
-) -> Answer
+) -> SoftAnswer
     requires { ⌜ HardAccepted
         (hardCall
         (edges (now lrows) (now lcols) (now lorientations) (now lbits) (now lconfidences))
         (edges (now prows) (now pcols) (now porientations) (now pbits) (now pconfidences))
         (now transforms) (tables (now h) (now v)) «error_limit») (length (now counts)) (length (now weights)) ⌝ }
-    requires { ⌜ best .first .placing .listed < length (now transforms) ⌝ }
+    requires { ⌜ (best .first .placing .listed < length (now transforms)) × (best .second .placing .listed < length (now transforms)) ⌝ }
     ensures { λ r. ⌜ LogicalDone
         (hardCall
         (edges (now (lrows .entry)) (now (lcols .entry)) (now (lorientations .entry)) (now (lbits .entry)) (now (lconfidences .entry)))
@@ -131,15 +131,17 @@ fn soft_logical<'a>(
         weights,
     );
     match logical {
-        Selection::Refused(refusal) => Answer::Refused(refusal),
+        Selection::Refused(refusal) => SoftAnswer::Refused(refusal),
         Selection::Selected(w, runner) => {
             let at = best.first.placing.listed;
+            let behind = best.second.placing.listed;
             let other = w.placing.listed;
             let t = transforms[at];
+            let u = transforms[behind];
             let s = transforms[other];
             let verdict = soft_verdict(t, best, s, w, runner, lrows.len() as u32);
             match verdict {
-                Admission::Refused(verdict) => Answer::Refused(verdict),
+                Admission::Refused(verdict) => SoftAnswer::Refused(verdict),
                 Admission::Accepted => {
                     let own = fit_of(
                         prows,
@@ -155,7 +157,7 @@ fn soft_logical<'a>(
                         counts,
                         weights,
                     );
-                    Answer::Found(soft_decoded(t, best, own, prows.len() as u32, runner))
+                    SoftAnswer::Found(soft_decoded(t, u, best, own, prows.len() as u32, runner))
                 }
             }
         }
@@ -184,7 +186,7 @@ pub fn soft_core<'a>(
     counts: &mut [u32],
     weights: &mut [f32],
     sums: &mut [i64],
-) -> Answer
+) -> SoftAnswer
     requires { ⌜ SoftAccepted
         (softCall
         (edges (now lrows) (now lcols) (now lorientations) (now lbits) (now lconfidences))
@@ -201,7 +203,7 @@ pub fn soft_core<'a>(
 {
     let conf = figures::total_confidence(pconfidences);
     if conf == 0.0 {
-        return refuse(refusals::NO_CONFIDENCE);
+        return refuse_soft(refusals::NO_CONFIDENCE);
     }
     let scan = soft::select::scan_transforms(
         prows,
@@ -217,11 +219,11 @@ pub fn soft_core<'a>(
         sums,
     );
     match margin::slots::finish(scan) {
-        SoftChoice::Nothing => refuse(refusals::SOFT_MARGIN),
+        SoftChoice::Nothing => refuse_soft(refusals::SOFT_MARGIN),
         SoftChoice::Chosen { first, second } => {
             let margin = margin::margin::soft_margin(first, second, prows.len() as u32);
             if margin::margin::below(margin, soft_margin) {
-                return refuse(refusals::SOFT_MARGIN);
+                return refuse_soft(refusals::SOFT_MARGIN);
             }
             let best = SoftBest {
                 first,

@@ -11,7 +11,7 @@ use Rattle.board.specs.Hits.{edges, tables, size}
 use Rattle.admission.specs.Calls.{SoftCall, softCall}
 use Rattle.likelihood.specs.Likelihood.{likelihoods}
 use Rattle.figures.specs.Figures.{totalConfidence}
-use Rattle.soft_core.specs.SoftLaws.{ready-soft, first-listed, choice-told, core-none, core-nothing, core-below, core-logical}
+use Rattle.soft_core.specs.SoftLaws.{ready-soft, first-listed, second-listed, choice-told, core-none, core-nothing, core-below, core-logical}
 use borrow.Author.Needs.{needs}
 use Rattle.soft_core.proofs.soft_core.Statement.{statement}
 use Rattle.soft_core.proofs.soft_core.Tie as tie
@@ -37,11 +37,11 @@ told c t e = ap (λ (x : Float). eq x zeroF) (sym (c .total-confidence .ensures)
 total-confidence-requires : tie.Need-total-confidence-requires
 total-confidence-requires c κs = search needs
 
-refuse-requires : tie.Need-refuse-requires
-refuse-requires c κs = search needs
+refuse-soft-requires : tie.Need-refuse-soft-requires
+refuse-soft-requires c κs = search needs
 
 returns : tie.Need-returns
-returns c = let s = st (c .before .before) in core-none (call s) (now (s .args .counts)) (now (s .args .weights)) (now (s .args .sums)) (s .pre) _ (told (c .before .before) true (c .before .if1 .taken)) (c .refuse .ensures)
+returns c = let s = st (c .before .before) in core-none (call s) (now (s .args .counts)) (now (s .args .weights)) (now (s .args .sums)) (s .pre) _ (told (c .before .before) true (c .before .if1 .taken)) (c .refuse-soft .ensures)
 
 scan-transforms-requires : tie.Need-scan-transforms-requires
 scan-transforms-requires c κs = let s = st (c .before .before) in ready-soft (call s) (now (s .args .counts)) (now (s .args .weights)) (now (s .args .sums)) (s .pre)
@@ -52,8 +52,8 @@ finish-requires c κs = search needs
 enum-told : tie.Need-enum-told
 enum-told c = search needs
 
-refuse-requires-2 : tie.Need-refuse-requires-2
-refuse-requires-2 c κs = search needs
+refuse-soft-requires-2 : tie.Need-refuse-soft-requires-2
+refuse-soft-requires-2 c κs = search needs
 
 enum-known-first : tie.Need-enum-known-first
 enum-known-first c = search needs
@@ -67,23 +67,23 @@ soft-margin-requires c κs = let s = st (c .before .before .before .before .befo
 below-requires : tie.Need-below-requires
 below-requires c κs = search needs
 
-refuse-requires-3 : tie.Need-refuse-requires-3
-refuse-requires-3 c κs = search needs
+refuse-soft-requires-3 : tie.Need-refuse-soft-requires-3
+refuse-soft-requires-3 c κs = search needs
 
 same-length : tie.Need-same-length
 same-length c = search needs
 
 returns-2 : tie.Need-returns-2
-returns-2 c = let d = c .before .before .before .before .before .before .before .before .before in let s = st (d .before .before .before) in core-below (call s) (now (s .args .counts)) (now (s .args .weights)) (now (s .args .sums)) (s .pre) (told (d .before .before .before) false (d .before .before .if1 .left)) _ (d .scan-transforms .result) (d .scan-transforms .ensures) (c .before .before .before .before .before .before .before .finish .result) (c .before .before .before .before .before .before .before .finish .ensures) (c .before .before .before .before .before .first .given .0 .0) (c .before .before .before .before .before .first .given .0 .1 .0) (c .before .before .before .before .before .first .given .1) _ (c .before .before .before .soft-margin .ensures) (c .before .before .below .result) _ (c .before .before .below .ensures) (c .before .if2 .taken) (c .refuse3 .ensures)
+returns-2 c = let d = c .before .before .before .before .before .before .before .before .before in let s = st (d .before .before .before) in core-below (call s) (now (s .args .counts)) (now (s .args .weights)) (now (s .args .sums)) (s .pre) (told (d .before .before .before) false (d .before .before .if1 .left)) _ (d .scan-transforms .result) (d .scan-transforms .ensures) (c .before .before .before .before .before .before .before .finish .result) (c .before .before .before .before .before .before .before .finish .ensures) (c .before .before .before .before .before .first .given .0 .0) (c .before .before .before .before .before .first .given .0 .1 .0) (c .before .before .before .before .before .first .given .1) _ (c .before .before .before .soft-margin .ensures) (c .before .before .below .result) _ (c .before .before .below .ensures) (c .before .if2 .taken) (c .refuse-soft3 .ensures)
 
 soft-logical-requires : tie.Need-soft-logical-requires
-soft-logical-requires c κs = let d = c .before .before .before .before .before .before .before .before .before .before in let s = st (d .before .before .before) in (s .pre .hard, first-listed (call s) _ _ _ (s .pre) _ _ (sym (choice-told (call s) (now (s .args .counts)) (now (s .args .weights)) (now (s .args .sums)) (s .pre) (told (d .before .before .before) false (d .before .before .if1 .left)) _ (d .scan-transforms .result) (d .scan-transforms .ensures) (c .before .before .before .before .before .before .before .before .finish .result) (c .before .before .before .before .before .before .before .before .finish .ensures)) ∙ c .before .before .before .before .before .before .first .given .1))
+soft-logical-requires c κs = let d = c .before .before .before .before .before .before .before .before .before .before in let s = st (d .before .before .before) in let e = (sym (choice-told (call s) (now (s .args .counts)) (now (s .args .weights)) (now (s .args .sums)) (s .pre) (told (d .before .before .before) false (d .before .before .if1 .left)) _ (d .scan-transforms .result) (d .scan-transforms .ensures) (c .before .before .before .before .before .before .before .before .finish .result) (c .before .before .before .before .before .before .before .before .finish .ensures)) ∙ c .before .before .before .before .before .before .first .given .1) in (s .pre .hard, (first-listed (call s) _ _ _ (s .pre) _ _ e, second-listed (call s) _ _ _ (s .pre) _ _ e))
 
 same-length-2 : tie.Need-same-length-2
 same-length-2 c = search needs
 
 returns-3 : tie.Need-returns-3
-returns-3 c = let d = c .before .before .before .before .before in let s = st (d .before .before .before) in core-nothing (call s) (now (s .args .counts)) (now (s .args .weights)) (now (s .args .sums)) (s .pre) (told (d .before .before .before) false (d .before .before .if1 .left)) _ (d .scan-transforms .result) (d .scan-transforms .ensures) (c .before .before .before .finish .result) (c .before .before .before .finish .ensures) _ (c .before .enum-told .given .1) (c .refuse2 .ensures)
+returns-3 c = let d = c .before .before .before .before .before in let s = st (d .before .before .before) in core-nothing (call s) (now (s .args .counts)) (now (s .args .weights)) (now (s .args .sums)) (s .pre) (told (d .before .before .before) false (d .before .before .if1 .left)) _ (d .scan-transforms .result) (d .scan-transforms .ensures) (c .before .before .before .finish .result) (c .before .before .before .finish .ensures) _ (c .before .enum-told .given .1) (c .refuse-soft2 .ensures)
 
 same-length-3 : tie.Need-same-length-3
 same-length-3 c = search needs
@@ -98,4 +98,4 @@ returns-4 : tie.Need-returns-4
 returns-4 c = let d = c .before .before .before .before .before .before .before .before .before .before .before .before .before .before .before in let s = st (d .before .before .before) in core-logical (call s) (now (s .args .counts)) (now (s .args .weights)) (now (s .args .sums)) (s .pre) (told (d .before .before .before) false (d .before .before .if1 .left)) _ (d .scan-transforms .result) (d .scan-transforms .ensures) (c .before .before .before .before .before .before .before .before .before .before .before .before .before .finish .result) (c .before .before .before .before .before .before .before .before .before .before .before .before .before .finish .ensures) (c .before .before .before .before .before .before .before .before .before .before .before .first .given .0 .0) (c .before .before .before .before .before .before .before .before .before .before .before .first .given .0 .1 .0) (c .before .before .before .before .before .before .before .before .before .before .before .first .given .1) _ (c .before .before .before .before .before .before .before .before .before .soft-margin .ensures) (c .before .before .before .before .before .before .before .before .below .result) _ _ _ (c .before .before .before .before .before .before .before .before .below .ensures) (c .before .before .before .before .before .before .before .if2 .left) (c .before .before .before .before .soft-logical .ensures)
 
 pub soft-core-spec : {M : Type 1} → statement M
-soft-core-spec = tie.close (tie.spec total-confidence-requires refuse-requires returns scan-transforms-requires finish-requires enum-told refuse-requires-2 enum-known-first cast-soft-margin soft-margin-requires below-requires refuse-requires-3 same-length returns-2 soft-logical-requires same-length-2 returns-3 same-length-3 same-length-4 same-length-5 returns-4)
+soft-core-spec = tie.close (tie.spec total-confidence-requires refuse-soft-requires returns scan-transforms-requires finish-requires enum-told refuse-soft-requires-2 enum-known-first cast-soft-margin soft-margin-requires below-requires refuse-soft-requires-3 same-length returns-2 soft-logical-requires same-length-2 returns-3 same-length-3 same-length-4 same-length-5 returns-4)

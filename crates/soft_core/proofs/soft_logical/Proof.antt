@@ -38,13 +38,16 @@ enum-known-logical-2 : tie.Need-enum-known-logical-2
 enum-known-logical-2 c = search needs
 
 shared-slice-read-t : tie.Need-shared-slice-read-t
-shared-slice-read-t c = st (c .before .before .before .before .before .before .before .before) .pre .1
+shared-slice-read-t c = st (c .before .before .before .before .before .before .before .before) .pre .1 .0
+
+shared-slice-read-u : tie.Need-shared-slice-read-u
+shared-slice-read-u c = st (c .before .before .before .before .before .before .before .before .before) .pre .1 .1
 
 shared-slice-read-s : tie.Need-shared-slice-read-s
-shared-slice-read-s c = winner (c .before .before .before) .0
+shared-slice-read-s c = winner (c .before .before .before .before) .0
 
 cast-soft-verdict : tie.Need-cast-soft-verdict
-cast-soft-verdict c = let d = c .before .before .before .before .before .before .before .before .before in let s = st d in omega (arith, s .pre .0 .logical .few)
+cast-soft-verdict c = let d = c .before .before .before .before .before .before .before .before .before .before in let s = st d in omega (arith, s .pre .0 .logical .few)
 
 soft-verdict-requires : tie.Need-soft-verdict-requires
 soft-verdict-requires c κs = search needs
@@ -62,13 +65,13 @@ same-length-2 : tie.Need-same-length-2
 same-length-2 c = search needs
 
 fit-of-requires : tie.Need-fit-of-requires
-fit-of-requires c κs = let d = c .before .before .before .before .before .before .before .before .before .before .before .before .before .before in let s = st d in fit-ready (call s) (now (s .args .counts)) (now (s .args .weights)) (s .pre .0) (s .args .best) _ _ (d .select .result) (d .select .ensures) (s .pre .1)
+fit-of-requires c κs = let d = c .before .before .before .before .before .before .before .before .before .before .before .before .before .before .before in let s = st d in fit-ready (call s) (now (s .args .counts)) (now (s .args .weights)) (s .pre .0) (s .args .best) _ _ (d .select .result) (d .select .ensures) (s .pre .1 .0)
 
 cast-soft-decoded : tie.Need-cast-soft-decoded
-cast-soft-decoded c = let d = c .before .before .before .before .before .before .before .before .before .before .before .before .before .before .before .before .before .before .before in let s = st d in omega (arith, s .pre .0 .physical .few)
+cast-soft-decoded c = let d = c .before .before .before .before .before .before .before .before .before .before .before .before .before .before .before .before .before .before .before .before in let s = st d in omega (arith, s .pre .0 .physical .few)
 
 soft-decoded-requires : tie.Need-soft-decoded-requires
-soft-decoded-requires c κs = let d = c .before .before .before .before .before .before .before .before .before .before .before .before .before .before .before .before .before .before .before in let s = st d in let l = c .before .before .before .before .before .before .before .before .before .before .before .before .before .logical2 .given in let v = c .before .before .before .before .before .before .before .before .before .soft-verdict in let b = winner (c .before .before .before .before .before .before .before .before .before .before .before .before .before) .2 in (own-few (call s) (now (s .args .counts)) (now (s .args .weights)) (s .pre .0) (s .args .best) _ _ (d .select .result) (d .select .ensures) (l .0 .0) (l .0 .1 .0) (l .1) (v .result) (v .ensures) _ _ _ (c .before .before .before .before .fit-of .ensures), s .pre .0 .physical .few, omega (arith, s .pre .0 .logical .few))
+soft-decoded-requires c κs = let d = c .before .before .before .before .before .before .before .before .before .before .before .before .before .before .before .before .before .before .before .before in let s = st d in let l = c .before .before .before .before .before .before .before .before .before .before .before .before .before .before .logical2 .given in let v = c .before .before .before .before .before .before .before .before .before .soft-verdict in (own-few (call s) (now (s .args .counts)) (now (s .args .weights)) (s .pre .0) (s .args .best) _ _ (d .select .result) (d .select .ensures) (l .0 .0) (l .0 .1 .0) (l .1) (v .result) (v .ensures) _ _ _ (c .before .before .before .before .fit-of .ensures), s .pre .0 .physical .few)
 
 same-length-3 : tie.Need-same-length-3
 same-length-3 c = search needs
@@ -80,10 +83,10 @@ returns : tie.Need-returns
 returns c = let d = c .before .before .before .before .before .before .before in let s = st d in let l = c .before .logical .given in logical-refused (call s) (now (s .args .counts)) (now (s .args .weights)) (s .pre .0) (s .args .best) _ _ (d .select .result) (d .select .ensures) (l .0 .0) (l .1)
 
 returns-2 : tie.Need-returns-2
-returns-2 c = let d = c .before .before .before .before .before .before .before .before .before .before .before .before .before in let s = st d in let l = c .before .before .before .before .before .before .before .logical2 .given in let v = c .before .before .before .soft-verdict in verdict-refused (call s) (now (s .args .counts)) (now (s .args .weights)) (s .pre .0) (s .args .best) _ _ (d .select .result) (d .select .ensures) (l .0 .0) (l .0 .1 .0) (l .1) (v .result) (v .ensures) (c .before .verdict .given .0 .0) (c .before .verdict .given .1)
+returns-2 c = let d = c .before .before .before .before .before .before .before .before .before .before .before .before .before .before in let s = st d in let l = c .before .before .before .before .before .before .before .before .logical2 .given in let v = c .before .before .before .soft-verdict in verdict-refused (call s) (now (s .args .counts)) (now (s .args .weights)) (s .pre .0) (s .args .best) _ _ (d .select .result) (d .select .ensures) (l .0 .0) (l .0 .1 .0) (l .1) (v .result) (v .ensures) (c .before .verdict .given .0 .0) (c .before .verdict .given .1)
 
 returns-3 : tie.Need-returns-3
-returns-3 c = let d = c .before .before .before .before .before .before .before .before .before .before .before .before .before .before .before .before .before .before .before .before in let s = st d in let l = c .before .before .before .before .before .before .before .before .before .before .before .before .before .before .logical2 .given in let v = c .before .before .before .before .before .before .before .before .before .before .soft-verdict in verdict-found (call s) (now (s .args .counts)) (now (s .args .weights)) (s .pre .0) (s .args .best) _ _ (d .select .result) (d .select .ensures) (l .0 .0) (l .0 .1 .0) (l .1) (v .result) (v .ensures) _ _ _ (c .before .before .before .before .before .fit-of .ensures) _ (c .before .before .before .before .before .before .before .before .enum-told .given .1) (c .soft-decoded .ensures)
+returns-3 c = let d = c .before .before .before .before .before .before .before .before .before .before .before .before .before .before .before .before .before .before .before .before .before in let s = st d in let l = c .before .before .before .before .before .before .before .before .before .before .before .before .before .before .before .logical2 .given in let v = c .before .before .before .before .before .before .before .before .before .before .soft-verdict in verdict-found (call s) (now (s .args .counts)) (now (s .args .weights)) (s .pre .0) (s .args .best) _ _ (d .select .result) (d .select .ensures) (l .0 .0) (l .0 .1 .0) (l .1) (v .result) (v .ensures) _ _ _ (c .before .before .before .before .before .fit-of .ensures) _ (c .before .before .before .before .before .before .before .before .enum-told .given .1) (c .soft-decoded .ensures)
 
 same-length-5 : tie.Need-same-length-5
 same-length-5 c = returns-3 c .counts .len
@@ -92,4 +95,4 @@ same-length-6 : tie.Need-same-length-6
 same-length-6 c = returns-3 c .weights .len
 
 pub soft-logical-spec : {M : Type 1} → statement M
-soft-logical-spec = tie.close (tie.spec select-requires enum-known-logical enum-known-logical-2 shared-slice-read-t shared-slice-read-s cast-soft-verdict soft-verdict-requires enum-known-verdict enum-told fit-of-requires cast-soft-decoded soft-decoded-requires same-length same-length-2 returns same-length-3 same-length-4 returns-2 same-length-5 same-length-6 returns-3)
+soft-logical-spec = tie.close (tie.spec select-requires enum-known-logical enum-known-logical-2 shared-slice-read-t shared-slice-read-u shared-slice-read-s cast-soft-verdict soft-verdict-requires enum-known-verdict enum-told fit-of-requires cast-soft-decoded soft-decoded-requires same-length same-length-2 returns same-length-3 same-length-4 returns-2 same-length-5 same-length-6 returns-3)

@@ -8,7 +8,7 @@ use native.Mathlib.Omega.{arith}
 use lib.Dec.{ltb}
 use lib.ListN.{length}
 use lib.IntN.{pos}
-use lib.Ieee.{nan}
+use lib.Ieee.{nan, binary32, sub, div, ofInt}
 use Rattle.laws.specs.Words.{zeroF, oneF}
 use Rattle.laws.specs.Cleared.{cleared-written}
 use Rattle.board.specs.declared.edge.Placing.{Placing}
@@ -32,16 +32,20 @@ use Rattle.figures.specs.Figures.{noConfidence}
 use Rattle.answer.specs.declared.Decoded.{Decoded}
 use Rattle.answer.specs.declared.Answer.{Answer}
 use Rattle.answer.specs.declared.Answer.the-variants.{Found, Refused}
+use Rattle.answer.specs.declared.SoftDecoded.{SoftDecoded}
+use Rattle.answer.specs.declared.SoftAnswer.{SoftAnswer}
+use Rattle.answer.specs.declared.SoftAnswer.the-variants as soft
 use Rattle.answer.specs.declared.MatchStats.{MatchStats}
 use Rattle.answer.specs.declared.StatsAnswer.{StatsAnswer}
 use Rattle.answer.specs.declared.StatsAnswer.the-variants as stats
 use Rattle.verdict.specs.Verdict.{whenAccepted}
+use Rattle.soft_verdict.specs.SoftVerdict.{softWhenAccepted}
 use Rattle.demand.specs.Left.{left}
 use Rattle.demand.specs.Demand.{OnBoard, Same, Leads, Names, AgreesPhysical}
 use Rattle.demand.specs.DemandLaws.{leader-named}
 use Rattle.demand.specs.Winners as winners
 use Rattle.demand.specs.AgreesLaws as physical
-use Rattle.demand.specs.FoundRange.{AnswerInRange}
+use Rattle.demand.specs.FoundRange.{AnswerInRange, SoftAnswerInRange}
 use Rattle.decode_hard.specs.Hard.{hardCore, hardAnswer}
 use Rattle.decode_hard.specs.HardRange.{hard-in-range}
 use Rattle.decode_hard.specs.HardNumbers.{hard-late}
@@ -60,7 +64,7 @@ use Rattle.soft_core.specs.SoftPlaces.{best-by-rows}
 use Rattle.soft_core.specs.SoftTheorems.{soft-sound, soft-complete-by-rows}
 use Rattle.stats.specs.Stats.{statsAnswer, statsOf, orCounted}
 use Rattle.stats.specs.StatsRange.{StatsInRange, stats-in-range}
-use Rattle.claims.specs.Promises.{NumberAndPlace, EarlyNumber, RunnerUpAlways, Emptied, HardRoom, SoftRoom, hardChecked, InHardDomain, HardGave, HardPromise, softChecked, InSoftDomain, SoftGave, SoftBestPlacing, SoftClears, SoftPromise, StatsPromise}
+use Rattle.claims.specs.Promises.{NumberAndPlace, EarlyNumber, RunnerUpAlways, Emptied, HardRoom, SoftRoom, hardChecked, InHardDomain, HardGave, HardPromise, softChecked, InSoftDomain, SoftGave, SoftBestPlacing, SoftClears, MarginOfTheTwo, SoftPromise, StatsPromise}
 
 -- ---- EARLY REFUSALS
 pub refusal-is-number-and-place : NumberAndPlace
@@ -83,6 +87,10 @@ runner-up-exists = winners.runner-up-exists
 found-only : (a : Admission) (x : Answer) (d : Decoded) → Found d ≡ whenAccepted a x → (a ≡ admission.Accepted) × (x ≡ Found d)
 found-only admission.Accepted x d e = (refl, sym e)
 found-only (admission.Refused r) x d e = let z : _≡_ {A = ℕ} 0 1 = cc in absurd (omega arith)
+
+soft-found-only : (a : Admission) (x : SoftAnswer) (d : SoftDecoded) → soft.Found d ≡ softWhenAccepted a x → (a ≡ admission.Accepted) × (x ≡ soft.Found d)
+soft-found-only admission.Accepted x d e = (refl, sym e)
+soft-found-only (admission.Refused r) x d e = let z : _≡_ {A = ℕ} 0 1 = cc in absurd (omega arith)
 
 -- ---- ROOM
 module _ {A : Type 0} (d zero : A) (n : ℕ) (a : Admission) (old : List A) where
@@ -195,7 +203,7 @@ module _ (call : HardCall) (before after : HardRoom) (answer : Answer) (done : H
   }
 
 -- ---- SOFT DECODE
-module _ (call : SoftCall) (before after : SoftRoom) (answer : Answer) (done : SoftGave call before after answer) where
+module _ (call : SoftCall) (before after : SoftRoom) (answer : SoftAnswer) (done : SoftGave call before after answer) where
   -- which calls are accepted, from both sides: those in the domain
   pub soft-accepts : (softChecked call before ≡ admission.Accepted → InSoftDomain call before) × (InSoftDomain call before → softChecked call before ≡ admission.Accepted)
   soft-accepts = soft-domain call (length (before .counts)) (length (before .weights)) (length (before .sums))
@@ -205,10 +213,10 @@ module _ (call : SoftCall) (before after : SoftRoom) (answer : Answer) (done : S
 
   -- an early refusal: handed on whole, with its place, and all three slices as they were
   pub soft-refused-early : (refusal : Refusal) → softChecked call before ≡ admission.Refused refusal
-      → (answer ≡ Refused refusal) × (after .counts ≡ before .counts) × (after .weights ≡ before .weights) × (after .sums ≡ before .sums)
+      → (answer ≡ soft.Refused refusal) × (after .counts ≡ before .counts) × (after .weights ≡ before .weights) × (after .sums ≡ before .sums)
   unfolding softAnswer
   soft-refused-early x h = (
-    done .answer ∙ ap (λ (y : Admission). whenAccepted y (softCore call)) h,
+    done .answer ∙ ap (λ (y : Admission). softWhenAccepted y (softCore call)) h,
     done .counts ∙ left-untouched 0 0 (tablesRoom (call .hard .board)) (softChecked call before) (before .counts) x h,
     done .weights ∙ left-untouched nan zeroF (tablesRoom (call .hard .board)) (softChecked call before) (before .weights) x h,
     done .sums ∙ left-untouched (pos 0) (pos 0) (sumsRoom (call .hard .board)) (softChecked call before) (before .sums) x h,
@@ -217,7 +225,7 @@ module _ (call : SoftCall) (before after : SoftRoom) (answer : Answer) (done : S
   -- in the domain the answer is the decoder's
   soft-core : InSoftDomain call before → answer ≡ softCore call
   unfolding softAnswer
-  soft-core domain = done .answer ∙ ap (λ (y : Admission). whenAccepted y (softCore call)) (soft-accepts .1 domain)
+  soft-core domain = done .answer ∙ ap (λ (y : Admission). softWhenAccepted y (softCore call)) (soft-accepts .1 domain)
 
   -- every call in the domain: the first 3,006, 3,006 and 5,010 places are zero, the surplus as it was
   pub soft-room-zero : InSoftDomain call before
@@ -232,7 +240,7 @@ module _ (call : SoftCall) (before after : SoftRoom) (answer : Answer) (done : S
       )
 
   -- refused late means 10, 11, 13, 14 or 15
-  pub soft-refused-late : InSoftDomain call before → (refusal : Refusal) → answer ≡ Refused refusal → ((10 ≤ refusal .number) × (refusal .number ≤ 15) × (refusal .number ≡ 12 → ⊥)) × (refusal .place ≡ Nowhere)
+  pub soft-refused-late : InSoftDomain call before → (refusal : Refusal) → answer ≡ soft.Refused refusal → ((10 ≤ refusal .number) × (refusal .number ≤ 15) × (refusal .number ≡ 12 → ⊥)) × (refusal .place ≡ Nowhere)
   soft-refused-late domain x e = soft-late call (length (before .counts)) (length (before .weights)) (length (before .sums)) (admitted domain) x (sym (soft-core domain) ∙ e)
 
   -- each exactly when (`soft-10` to `soft-15` of SoftNumbers.antt)
@@ -240,29 +248,36 @@ module _ (call : SoftCall) (before after : SoftRoom) (answer : Answer) (done : S
   soft-refused-exactly domain =
       subst (SoftLate call) (sym (soft-core domain)) (soft-late-numbers call (length (before .counts)) (length (before .weights)) (length (before .sums)) (admitted domain))
 
-  soft-told : (found : Decoded) → answer ≡ Found found → InSoftDomain call before × (softCore call ≡ Found found)
+  soft-told : (found : SoftDecoded) → answer ≡ soft.Found found → InSoftDomain call before × (softCore call ≡ soft.Found found)
   unfolding softAnswer
-  soft-told d e = let f = found-only (softChecked call before) (softCore call) d (sym e ∙ done .answer) in (soft-accepts .0 (f .0), f .1)
+  soft-told d e = let f = soft-found-only (softChecked call before) (softCore call) d (sym e ∙ done .answer) in (soft-accepts .0 (f .0), f .1)
 
-  pub soft-answer-in-range : (found : Decoded) → answer ≡ Found found → AnswerInRange found
+  pub soft-answer-in-range : (found : SoftDecoded) → answer ≡ soft.Found found → SoftAnswerInRange found
   soft-answer-in-range d e = let f = soft-told d e in soft-in-range call (length (before .counts)) (length (before .weights)) (length (before .sums)) (admitted (f .0)) d (f .1)
 
-  pub soft-no-influence : (before' after' : SoftRoom) (answer' : Answer) → SoftGave call before' after' answer'
+  pub soft-no-influence : (before' after' : SoftRoom) (answer' : SoftAnswer) → SoftGave call before' after' answer'
       → length (before' .counts) ≡ length (before .counts) → length (before' .weights) ≡ length (before .weights) → length (before' .sums) ≡ length (before .sums) → answer' ≡ answer
   soft-no-influence before' after' answer' other p q r = other .answer ∙ (λ i. softAnswer call (p i) (q i) (r i)) ∙ sym (done .answer)
+
+  -- C-12, the margin of the two totals
+  pub soft-margin-of-the-two : (found : SoftDecoded) → answer ≡ soft.Found found → MarginOfTheTwo found
+  soft-margin-of-the-two d e =
+      let f = soft-told d e in
+      let a = soft-sound call (length (before .counts)) (length (before .weights)) (length (before .sums)) (admitted (f .0)) d (f .1) in
+      a .margin ∙ (λ i. div binary32 (sub binary32 (sym (a .best-score) i) (sym (a .second-score) i)) (ofInt binary32 (pos (sym (a .edges) i))))
 
   -- DEMAND 2
   pub soft-by-the-rules : answer ≡ softAnswer call (length (before .counts)) (length (before .weights)) (length (before .sums))
   soft-by-the-rules = done .answer
 
   -- DEMAND 3, found means true
-  pub soft-found : (found : Decoded) → answer ≡ Found found → InSoftDomain call before × SoftAnswered call found
+  pub soft-found : (found : SoftDecoded) → answer ≡ soft.Found found → InSoftDomain call before × SoftAnswered call found
   soft-found d e = let f = soft-told d e in (f .0, soft-sound call (length (before .counts)) (length (before .weights)) (length (before .sums)) (admitted (f .0)) d (f .1))
 
   -- DEMAND 3, a true square is found. Of second place the margin takes the total alone, so any placing that has it will do
   pub soft-finds-by-rows : InSoftDomain call before → noConfidence (call .hard .physical) ≡ false → noConfidence (call .hard .logical) ≡ false → (square second : Placing)
       → SoftBestPlacing call square second → SoftClears call square second → Leads (call .hard .board) (call .hard .logical) (call .hard .transforms) (call .hard .error-limit) square
-      → (found : Decoded) × (answer ≡ Found found) × Names (call .hard .transforms) square (found .square)
+      → (found : SoftDecoded) × (answer ≡ soft.Found found) × Names (call .hard .transforms) square (found .square)
   soft-finds-by-rows domain k g square second b m l =
       let f = soft-complete-by-rows call (length (before .counts)) (length (before .weights)) (length (before .sums)) (admitted domain) k g square second (b .0) (b .1) m l in
       let s = soft-sound call (length (before .counts)) (length (before .weights)) (length (before .sums)) (admitted domain) (f .0) (f .1) in
@@ -271,7 +286,7 @@ module _ (call : SoftCall) (before after : SoftRoom) (answer : Answer) (done : S
   -- the same of the two that soft selection keeps, by keys and cells
   pub soft-finds : InSoftDomain call before → noConfidence (call .hard .physical) ≡ false → noConfidence (call .hard .logical) ≡ false → (square second : Placing)
       → BestByLikelihood (call .hard .board) (call .hard .physical) (call .likelihoods) (call .hard .transforms) square second → SoftClears call square second
-      → Leads (call .hard .board) (call .hard .logical) (call .hard .transforms) (call .hard .error-limit) square → (found : Decoded) × (answer ≡ Found found) × Names (call .hard .transforms) square (found .square)
+      → Leads (call .hard .board) (call .hard .logical) (call .hard .transforms) (call .hard .error-limit) square → (found : SoftDecoded) × (answer ≡ soft.Found found) × Names (call .hard .transforms) square (found .square)
   soft-finds domain k g square second b =
       soft-finds-by-rows domain k g square second (best-by-rows (call .hard .board) (call .hard .physical) (call .likelihoods) (call .hard .transforms) (admitted domain .hard .board) square second b)
 
@@ -284,6 +299,7 @@ module _ (call : SoftCall) (before after : SoftRoom) (answer : Answer) (done : S
     refused-exactly = soft-refused-exactly;
     answer-in-range = soft-answer-in-range;
     no-influence = soft-no-influence;
+    margin-of-the-two = soft-margin-of-the-two;
     by-the-rules = soft-by-the-rules;
     found = soft-found;
     finds = soft-finds-by-rows;

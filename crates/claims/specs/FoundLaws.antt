@@ -34,34 +34,48 @@ use Rattle.soft.specs.Select.{softSelection}
 use Rattle.answer.specs.declared.Decoded.{Decoded}
 use Rattle.answer.specs.declared.Answer.{Answer}
 use Rattle.answer.specs.declared.Answer.the-variants.{Found, Refused}
+use Rattle.answer.specs.declared.SoftDecoded.{SoftDecoded}
+use Rattle.answer.specs.declared.SoftAnswer.{SoftAnswer}
+use Rattle.answer.specs.declared.SoftAnswer.the-variants as found-soft
 use Rattle.answer.specs.declared.MatchStats.{MatchStats}
 use Rattle.answer.specs.declared.StatsAnswer.the-variants as stats
 use Rattle.stats.specs.Stats.{statsAnswer, statsOf, orCounted}
 use Rattle.verdict.specs.Verdict.{pick, whenAccepted, agreed, judged}
 use Rattle.decode_hard.specs.Hard.{afterPhysical, afterLogical, hardCore, hardAnswer}
 use Rattle.soft_verdict.specs.declared.SoftBest.{SoftBest}
-use Rattle.soft_verdict.specs.SoftVerdict.{softDecodedOf, softVerdict, bestOf}
+use Rattle.soft_verdict.specs.SoftVerdict.{softWhenAccepted, softDecodedOf, softVerdict, bestOf}
 use Rattle.soft_core.specs.Soft.{fitOf, softJudged, afterHard, afterSoft, softCore}
 use Rattle.decode_soft.specs.SoftAnswer.{softAnswer}
 use Rattle.flat.specs.declared.flat.FlatAnswer.{FlatAnswer}
+use Rattle.flat.specs.declared.flat_soft.FlatSoft.{FlatSoft}
 use Rattle.flat.specs.Flat.{notRefused, flat, flatStats}
+use Rattle.flat.specs.FlatSoft.{flatSoft}
 use Rattle.claims.specs.Claims.{hard-early, soft-early, stats-early}
 use Rattle.export_hard.specs.Exports.{HardFlat}
 use Rattle.export_soft.specs.Exports.{SoftFlat}
 
--- an answer whose number is 0 is found
+-- an answer whose number is 0 is found: hard, and soft
 abbrev ZeroFound : Answer → Type 0
 ZeroFound a = flat a .refusal ≡ notRefused → (d : Decoded) × (a ≡ Found d)
+
+abbrev SoftZeroFound : SoftAnswer → Type 0
+SoftZeroFound a = flatSoft a .refusal ≡ notRefused → (d : SoftDecoded) × (a ≡ found-soft.Found d)
 
 zero-found : (d : Decoded) → ZeroFound (Found d)
 zero-found d e = (d, refl)
 
+soft-zero : (d : SoftDecoded) → SoftZeroFound (found-soft.Found d)
+soft-zero d e = (d, refl)
+
 zero-refused : (r : Refusal) → (r .number ≡ notRefused → ⊥) → ZeroFound (Refused r)
 zero-refused r h e = absurd (h e)
 
-zero-pick : (b : Bool) (x y : Answer) → ZeroFound x → ZeroFound y → ZeroFound (pick b x y)
-zero-pick true x y p q = p
-zero-pick false x y p q = q
+soft-zero-refused : (r : Refusal) → (r .number ≡ notRefused → ⊥) → SoftZeroFound (found-soft.Refused r)
+soft-zero-refused r h e = absurd (h e)
+
+zero-pick : {A : Type 0} (Z : A → Type 0) (b : Bool) (x y : A) → Z x → Z y → Z (pick b x y)
+zero-pick Z true x y p q = p
+zero-pick Z false x y p q = q
 
 -- where it is refused, the number is not 0
 abbrev Numbered : Admission → Type 0
@@ -95,11 +109,15 @@ zero-or : (a : Admission) (x : Answer) → Numbered a → ZeroFound x → ZeroFo
 zero-or admission.Accepted x h p = p
 zero-or (admission.Refused r) x h p = zero-refused r (h r refl)
 
+soft-zero-or : (a : Admission) (x : SoftAnswer) → Numbered a → SoftZeroFound x → SoftZeroFound (softWhenAccepted a x)
+soft-zero-or admission.Accepted x h p = p
+soft-zero-or (admission.Refused r) x h p = soft-zero-refused r (h r refl)
+
 -- ---- hard decode
 zero-judged : (t : ℕ) (w : Candidate) (runner : RunnerUp) (s : ℕ) (p : Candidate) (edges : ℕ) → ZeroFound (judged t w runner s p edges)
 unfolding judged
 zero-judged t w runner s p edges =
-    zero-pick (agreed t w s p) _ _ (zero-pick (passed edges (w .hits) (runner .hits)) _ _ (zero-found _) (zero-refused _ (λ z. omega arith))) (zero-refused _ (λ z. omega arith))
+    zero-pick ZeroFound (agreed t w s p) _ _ (zero-pick ZeroFound (passed edges (w .hits) (runner .hits)) _ _ (zero-found _) (zero-refused _ (λ z. omega arith))) (zero-refused _ (λ z. omega arith))
 
 -- the selection on the physical list, after that on the logical one
 zero-physical : (L : EdgeList) (ts : List ℕ) (w : Candidate) (runner : RunnerUp) (b : Bool) (c : Choice) → ZeroFound (afterPhysical L ts w runner (orRefused b c))
@@ -134,32 +152,32 @@ verdict-numbered t first s w runner edges r h z = go (eqb t s && (eqb (first .pl
     go true false e = not-accepted r (later true why.notFarAhead _ r (λ q. omega arith) z e)
     go false b e = not-accepted r (later true why.softHardDisagree _ r (λ q. omega arith) z e)
 
-zero-hard-too : (call : HardCall) (best : SoftBest) (b : Bool) (c : Choice) → ZeroFound (afterHard call best (orRefused b c))
+zero-hard-too : (call : HardCall) (best : SoftBest) (b : Bool) (c : Choice) → SoftZeroFound (afterHard call best (orRefused b c))
 unfolding softJudged
-zero-hard-too call best true c = zero-refused _ (λ z. omega arith)
-zero-hard-too call best false choice.Nothing = zero-refused _ (λ z. omega arith)
+zero-hard-too call best true c = soft-zero-refused _ (λ z. omega arith)
+zero-hard-too call best false choice.Nothing = soft-zero-refused _ (λ z. omega arith)
 zero-hard-too call best false (choice.Chosen w runner) =
     let t = getD (call .transforms) (best .first .placing .listed) 0 in
-    zero-or (softVerdict t (best .first) (getD (call .transforms) (w .placing .listed) 0) w runner (size (call .logical))) (Found (softDecodedOf t best (fitOf (call .board) (call .physical) t (best .first .placing .row) (best .first .placing .col)) (size (call .physical)) runner)) (verdict-numbered t (best .first) (getD (call .transforms) (w .placing .listed) 0) w runner (size (call .logical))) (zero-found _)
+    soft-zero-or (softVerdict t (best .first) (getD (call .transforms) (w .placing .listed) 0) w runner (size (call .logical))) (found-soft.Found (softDecodedOf t (getD (call .transforms) (best .second .placing .listed) 0) best (fitOf (call .board) (call .physical) t (best .first .placing .row) (best .first .placing .col)) (size (call .physical)) runner)) (verdict-numbered t (best .first) (getD (call .transforms) (w .placing .listed) 0) w runner (size (call .logical))) (soft-zero _)
 
-zero-after-soft : (call : HardCall) (least : Float) (c : SoftChoice) → ZeroFound (afterSoft call least c)
+zero-after-soft : (call : HardCall) (least : Float) (c : SoftChoice) → SoftZeroFound (afterSoft call least c)
 unfolding selection
-zero-after-soft call least soft.Nothing = zero-refused _ (λ z. omega arith)
+zero-after-soft call least soft.Nothing = soft-zero-refused _ (λ z. omega arith)
 zero-after-soft call least (soft.Chosen first second) =
-    zero-pick (belowMargin (softMargin first second (size (call .physical))) least) _ _ (zero-refused _ (λ z. omega arith))
+    zero-pick SoftZeroFound (belowMargin (softMargin first second (size (call .physical))) least) _ _ (soft-zero-refused _ (λ z. omega arith))
     (zero-hard-too call (bestOf first second (size (call .physical))) (noConfidence (call .logical)) (chosen (scanOf (call .board) (call .logical) (call .transforms) (call .error-limit) (length (call .transforms)))))
 
-zero-soft : (call : SoftCall) (m n k : ℕ) → ZeroFound (softAnswer call m n k)
+zero-soft : (call : SoftCall) (m n k : ℕ) → SoftZeroFound (softAnswer call m n k)
 unfolding softAnswer softCore
 zero-soft call m n k =
-    zero-or (softAdmission call m n k) _ (soft-numbered call m n k)
-    (zero-pick (noConfidence (call .hard .physical)) _ _ (zero-refused _ (λ z. omega arith)) (zero-after-soft (call .hard) (call .soft-margin) (softSelection (call .hard .board) (call .hard .physical) (call .likelihoods) (call .hard .transforms))))
+    soft-zero-or (softAdmission call m n k) _ (soft-numbered call m n k)
+    (zero-pick SoftZeroFound (noConfidence (call .hard .physical)) _ _ (soft-zero-refused _ (λ z. omega arith)) (zero-after-soft (call .hard) (call .soft-margin) (softSelection (call .hard .board) (call .hard .physical) (call .likelihoods) (call .hard .transforms))))
 
 -- SOFT: the same
-pub soft-zero-found : (call : SoftCall) (c c' : List ℕ) (w w' : List Float) (a a' : List ℤ) (r : FlatAnswer)
-    → (h : SoftFlat call c c' w w' a a' r) → r .refusal ≡ notRefused → (d : Decoded) × (h .told ≡ Found d)
+pub soft-zero-found : (call : SoftCall) (c c' : List ℕ) (w w' : List Float) (a a' : List ℤ) (r : FlatSoft)
+    → (h : SoftFlat call c c' w w' a a' r) → r .refusal ≡ notRefused → (d : SoftDecoded) × (h .told ≡ found-soft.Found d)
 soft-zero-found call c c' w w' a a' r h e =
-    subst ZeroFound (sym (h .done .answer)) (zero-soft call (length c) (length w) (length a)) (ap (λ (x : FlatAnswer). x .refusal) (sym (h .shown)) ∙ e)
+    subst SoftZeroFound (sym (h .done .answer)) (zero-soft call (length c) (length w) (length a)) (ap (λ (x : FlatSoft). x .refusal) (sym (h .shown)) ∙ e)
 
 -- ---- MATCH STATISTICS: the same
 pub stats-zero-counted : (E : EdgeList) (t row col : ℕ) (B : Board) → flatStats (statsAnswer E t row col B) .refusal ≡ notRefused → (s : MatchStats) × (statsAnswer E t row col B ≡ stats.Counted s)

@@ -19,7 +19,7 @@ use mathlib.Core.List.{List}
 use Prim.Native.Nat.{ℕ, _≤_, _<_}
 use lib.ListN.{getD, length}
 use lib.IntN.{ℤ, pos}
-use lib.Ieee.{Float, nan}
+use lib.Ieee.{Float, nan, binary32, sub, div, ofInt}
 use Rattle.laws.specs.Words.{zeroF}
 use Rattle.board.specs.declared.edge.Placing.{Placing}
 use Rattle.board.specs.Hits.{EdgeList, Board, size, hits, hitsAt}
@@ -44,11 +44,14 @@ use Rattle.margin.specs.Margin.{belowMargin}
 use Rattle.answer.specs.declared.Decoded.{Decoded}
 use Rattle.answer.specs.declared.Answer.{Answer}
 use Rattle.answer.specs.declared.Answer.the-variants.{Found, Refused}
+use Rattle.answer.specs.declared.SoftDecoded.{SoftDecoded}
+use Rattle.answer.specs.declared.SoftAnswer.{SoftAnswer}
+use Rattle.answer.specs.declared.SoftAnswer.the-variants as soft
 use Rattle.answer.specs.declared.MatchStats.{MatchStats}
 use Rattle.answer.specs.declared.StatsAnswer.{StatsAnswer}
 use Rattle.answer.specs.declared.StatsAnswer.the-variants as stats
 use Rattle.demand.specs.Demand.{OnBoard, Same, Leads, RunnerUpExists, Names, AgreesPhysical}
-use Rattle.demand.specs.FoundRange.{AnswerInRange}
+use Rattle.demand.specs.FoundRange.{AnswerInRange, SoftAnswerInRange}
 use Rattle.decode_hard.specs.Hard.{hardAnswer, HardDone}
 use Rattle.decode_hard.specs.HardDemand.{HardAnswered}
 use Rattle.decode_hard.specs.HardLate.{HardLate}
@@ -151,7 +154,7 @@ abbrev pub InSoftDomain : SoftCall → SoftRoom → Type 0
 InSoftDomain call room = SoftDomain call (length (room .counts)) (length (room .weights)) (length (room .sums))
 
 -- the contract of `decode_soft`
-abbrev pub SoftGave : SoftCall → SoftRoom → SoftRoom → Answer → Type 0
+abbrev pub SoftGave : SoftCall → SoftRoom → SoftRoom → SoftAnswer → Type 0
 SoftGave call before after answer = SoftDone call (before .counts) (after .counts) (before .weights) (after .weights) (before .sums) (after .sums) answer
 
 -- "its own best placing": the first by likelihood on the physical list, and the second after it
@@ -164,27 +167,33 @@ SoftBestPlacing call square second =
 abbrev pub SoftClears : SoftCall → Placing → Placing → Type 0
 SoftClears call square second = belowMargin (marginOf (call .hard .board) (call .hard .physical) (call .likelihoods) (call .hard .transforms) square second) (call .soft-margin) ≡ false
 
-pub record SoftPromise (call : SoftCall) (before after : SoftRoom) (answer : Answer) : Type 0 where
+-- "(first - second) / edges", of an answer's own fields
+abbrev pub MarginOfTheTwo : SoftDecoded → Type 0
+MarginOfTheTwo found = found .margin ≡ div binary32 (sub binary32 (found .«best_score») (found .«second_score»)) (ofInt binary32 (pos (found .edges)))
+
+pub record SoftPromise (call : SoftCall) (before after : SoftRoom) (answer : SoftAnswer) : Type 0 where
   -- DEMAND 1, as of hard decode
   pub early : Early (softChecked call before) (InSoftDomain call before) (hardCount (call .hard)) (softBad call) (softNumbers01 call (length (before .counts)) (length (before .weights)) (length (before .sums)))
-      (λ refusal. (answer ≡ Refused refusal) × (after .counts ≡ before .counts) × (after .weights ≡ before .weights) × (after .sums ≡ before .sums))
+      (λ refusal. (answer ≡ soft.Refused refusal) × (after .counts ≡ before .counts) × (after .weights ≡ before .weights) × (after .sums ≡ before .sums))
   pub room-zero : InSoftDomain call before
       → Emptied 0 0 3006 (before .counts) (after .counts) × Emptied nan zeroF 3006 (before .weights) (after .weights) × Emptied (pos 0) (pos 0) 5010 (before .sums) (after .sums)
   -- then it is refused by 10, 11, 13, 14 or 15, if at all, and about no edge
-  pub refused-late : InSoftDomain call before → (refusal : Refusal) → answer ≡ Refused refusal
+  pub refused-late : InSoftDomain call before → (refusal : Refusal) → answer ≡ soft.Refused refusal
       → ((10 ≤ refusal .number) × (refusal .number ≤ 15) × (refusal .number ≡ 12 → ⊥)) × (refusal .place ≡ Nowhere)
   pub refused-exactly : InSoftDomain call before → SoftLate call answer
-  pub answer-in-range : (found : Decoded) → answer ≡ Found found → AnswerInRange found
-  pub no-influence : (before' after' : SoftRoom) (answer' : Answer) → SoftGave call before' after' answer'
+  pub answer-in-range : (found : SoftDecoded) → answer ≡ soft.Found found → SoftAnswerInRange found
+  pub no-influence : (before' after' : SoftRoom) (answer' : SoftAnswer) → SoftGave call before' after' answer'
       → length (before' .counts) ≡ length (before .counts) → length (before' .weights) ≡ length (before .weights) → length (before' .sums) ≡ length (before .sums) → answer' ≡ answer
+  -- C-12: the margin is (best - second) / edges of exactly the two totals that the answer holds
+  pub margin-of-the-two : (found : SoftDecoded) → answer ≡ soft.Found found → MarginOfTheTwo found
   -- DEMAND 2: the answer is document 01's
   pub by-the-rules : answer ≡ softAnswer call (length (before .counts)) (length (before .weights)) (length (before .sums))
   -- DEMAND 3, found means true: the call is in the domain, its own best placing clears the margin and leads on the logical list, and the answer tells it
-  pub found : (found : Decoded) → answer ≡ Found found → InSoftDomain call before × SoftAnswered call found
+  pub found : (found : SoftDecoded) → answer ≡ soft.Found found → InSoftDomain call before × SoftAnswered call found
   -- a true square is found, and it is the one that the answer names
   pub finds : InSoftDomain call before → noConfidence (call .hard .physical) ≡ false → noConfidence (call .hard .logical) ≡ false → (square second : Placing)
       → SoftBestPlacing call square second → SoftClears call square second → Leads (call .hard .board) (call .hard .logical) (call .hard .transforms) (call .hard .error-limit) square
-      → (found : Decoded) × (answer ≡ Found found) × Names (call .hard .transforms) square (found .square)
+      → (found : SoftDecoded) × (answer ≡ soft.Found found) × Names (call .hard .transforms) square (found .square)
 
 -- ---- MATCH STATISTICS, of a list at one square
 pub record StatsPromise (list : EdgeList) (transform row col : ℕ) (board : Board) (answer : StatsAnswer) : Type 0 where

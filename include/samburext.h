@@ -28,11 +28,20 @@
 extern "C" {
 #endif
 
-/* The form of the functions and structs below is the second. Its number is part of the functions' names in the library, so that a program which was compiled for another form
-   does not link: its structs have other lengths. A program calls them by the names without a number. */
-#define samburext_decode_hard samburext_decode_hard_2
-#define samburext_decode_soft samburext_decode_soft_2
+/* The number of a function's form is part of its name in the library, so that a program which was compiled for another form does not link: the
+   structs of another form have other fields. A program calls the functions by the names without a number. Hard and soft decode are in their
+   third form; match statistics are in their second, since their struct stayed what it was. */
+#define samburext_decode_hard samburext_decode_hard_3
+#define samburext_decode_soft samburext_decode_soft_3
 #define samburext_match_stats samburext_match_stats_2
+
+/* What changed with the third form of hard and soft decode. They had one struct, in which the runner-up's hits stood as a float beside a margin
+   that was in hits after hard decode and in log likelihood after soft decode. Now each has a struct of its own: what counts edges is a whole
+   number named .._hits, and in a soft answer the scores and the margin are log likelihoods. In a found answer the old fields are
+       runner_up_score   (float)runner_up_hits, in both
+       margin            (float)margin_hits in a hard answer; margin, as it was, in a soft one
+   and every other field has its old name and value (in a refusal both were NaN). The second_.. fields are new. The old answer is defined from
+   the new ones as `tenFields` (crates/ten_fields/specs/TenFields.antt), and the Rattle library has a function that is proved to compute it. */
 
 /* The least lengths of the room slices; what they hold before has no influence. */
 #define SAMBUREXT_ROOM_COUNTS 3006  /* u32 */
@@ -75,7 +84,7 @@ enum samburext_list {
     SAMBUREXT_ONLY_LIST = 3      /* the list of match statistics */
 };
 
-/* The answer of hard and soft decode. */
+/* The answer of hard decode. Whatever counts edges is a whole number. */
 typedef struct samburext_answer {
     uint32_t refusal;             /* 0 when found, else a number of samburext_refusal */
     uint32_t list;                /* the list of the edge that the refusal is about: a number of samburext_list, or SAMBUREXT_NOTHING */
@@ -83,18 +92,45 @@ typedef struct samburext_answer {
     uint32_t transform;           /* the transform's number, 0 to 7 */
     uint32_t row;                 /* the origin's row on the board, 0 to 500 */
     uint32_t col;                 /* the origin's column, 0 to 500 */
-    uint32_t hits;                /* edges whose bit is the one that the board predicts there */
-    uint32_t edges;               /* edges of the list (hard: logical, soft: physical) */
-    float weighted_score;         /* hard: confidence of the hits over all confidence; soft: total over edges */
+    uint32_t hits;                /* edges of the logical list whose bit is the one that the board predicts there */
+    uint32_t edges;               /* edges of the logical list */
+    float weighted_score;         /* confidence of the hits over all confidence, 0 to 1 */
     float error_rate;             /* misses over edges */
     float mean_confidence;        /* of the hits; 0 for no hits */
-    float best_score;             /* hard: the weighted score; soft: the total log likelihood */
-    float runner_up_score;        /* the runner-up's hits on the logical list */
-    float margin;                 /* hard: hits ahead of the runner-up; soft: (first - second total) over edges */
-    uint32_t runner_up_transform; /* the best competitor on the logical list: its transform, */
-    uint32_t runner_up_row;       /* its row */
-    uint32_t runner_up_col;       /* and its column */
+    float best_score;             /* the weighted score again */
+    uint32_t runner_up_transform; /* the best competitor by hits on the logical list: its transform, */
+    uint32_t runner_up_row;       /* its row, */
+    uint32_t runner_up_col;       /* its column */
+    uint32_t runner_up_hits;      /* and its hits */
+    uint32_t margin_hits;         /* hits ahead of the runner-up: hits - runner_up_hits */
 } samburext_answer;
+
+/* The answer of soft decode. Each score and the margin is a log likelihood, each .._hits a count of edges: to subtract one from the other gives
+   nothing. The second is second by likelihood on the physical list, the runner-up is second by hits on the logical one; they may be two
+   squares. Both are filled in every found answer. */
+typedef struct samburext_soft_answer {
+    uint32_t refusal;             /* 0 when found, else a number of samburext_refusal */
+    uint32_t list;                /* the list of the edge that the refusal is about: a number of samburext_list, or SAMBUREXT_NOTHING */
+    uint32_t position;            /* the place of that edge in its list, counting from 0, or SAMBUREXT_NOTHING */
+    uint32_t transform;           /* the transform's number, 0 to 7 */
+    uint32_t row;                 /* the origin's row on the board, 0 to 500 */
+    uint32_t col;                 /* the origin's column, 0 to 500 */
+    uint32_t hits;                /* edges of the physical list whose bit is the one that the board predicts there */
+    uint32_t edges;               /* edges of the physical list */
+    float weighted_score;         /* log likelihood per edge: best_score / edges */
+    float error_rate;             /* misses over edges */
+    float mean_confidence;        /* of the hits; 0 for no hits */
+    float best_score;             /* log likelihood: the total of the physical edges at this square */
+    uint32_t second_transform;    /* the best other by log likelihood on the physical list: its transform, */
+    uint32_t second_row;          /* its row, */
+    uint32_t second_col;          /* its column */
+    float second_score;           /* log likelihood: the total of the physical edges at the second */
+    float margin;                 /* log likelihood per edge: (best_score - second_score) / edges */
+    uint32_t runner_up_transform; /* the best competitor by hits on the logical list: its transform, */
+    uint32_t runner_up_row;       /* its row, */
+    uint32_t runner_up_col;       /* its column */
+    uint32_t runner_up_hits;      /* and its hits, which are the logical list's, as `hits` above are the physical one's */
+} samburext_soft_answer;
 
 /* The answer of match statistics. */
 typedef struct samburext_stats {
@@ -129,7 +165,7 @@ samburext_answer samburext_decode_hard(
 /* Soft decode: the square by the likelihoods of the physical list; the hits of the logical list must confirm it.
    The logical list comes first, as in hard decode. In earlier versions the physical list and its likelihoods came first: a program
    written for that order must be changed, and some C compilers only warn about it. */
-samburext_answer samburext_decode_soft(
+samburext_soft_answer samburext_decode_soft(
     const int32_t *logical_rows, size_t logical_rows_length,                 /* the logical list: rows */
     const int32_t *logical_columns, size_t logical_columns_length,           /* its columns */
     const uint8_t *logical_orientations, size_t logical_orientations_length, /* its orientations */
@@ -146,7 +182,7 @@ samburext_answer samburext_decode_soft(
     const uint8_t *horizontal, size_t horizontal_length, /* the horizontal pattern table: 167 bytes, each 0 to 7 */
     const uint8_t *vertical, size_t vertical_length,     /* the vertical pattern table: 167 bytes, each 0 to 7 */
     float error_limit,                                   /* the largest error rate of the logical list, 0 to 1 */
-    float soft_margin,                                   /* the least margin that is taken, 0 to 65,536 */
+    float soft_margin,                                   /* the least margin that is taken, in log likelihood per edge, 0 to 65,536 */
     uint32_t *counts, size_t counts_length,              /* room, at least SAMBUREXT_ROOM_COUNTS */
     float *weights, size_t weights_length,               /* room, at least SAMBUREXT_ROOM_WEIGHTS */
     int64_t *sums, size_t sums_length);                  /* room, at least SAMBUREXT_ROOM_SUMS */

@@ -106,19 +106,49 @@ pub struct Square {
     pub col: u32,
 }
 
-/// What a found answer holds.
+/// What a found hard answer holds, all of it of the logical list. Whatever counts edges is a whole number.
 #[derive(Clone, Copy, Debug, PartialEq)]
 pub struct Decoded {
     pub square: Square,
     pub hits: u32,
     pub edges: u32,
+    /// The confidence of the hits over all confidence.
     pub weighted_score: f32,
     pub error_rate: f32,
     pub mean_confidence: f32,
+    /// The weighted score again.
     pub best_score: f32,
-    pub runner_up_score: f32,
-    pub margin: f32,
+    /// The best competitor by hits.
     pub runner_up: Square,
+    pub runner_up_hits: u32,
+    /// Hits ahead of the runner-up.
+    pub margin_hits: u32,
+}
+
+/// What a found soft answer holds. Each score and the margin is a log likelihood, each `_hits` a count of edges; to subtract one from the
+/// other gives nothing. The second by likelihood and the runner-up by hits may be two squares.
+#[derive(Clone, Copy, Debug, PartialEq)]
+pub struct SoftDecoded {
+    pub square: Square,
+    /// Of the physical list, as `edges`, `error_rate` and `mean_confidence`.
+    pub hits: u32,
+    pub edges: u32,
+    /// Log likelihood per edge: `best_score / edges`.
+    pub weighted_score: f32,
+    pub error_rate: f32,
+    pub mean_confidence: f32,
+    /// Log likelihood: the total of the physical edges at the square.
+    pub best_score: f32,
+    /// The best other placing by log likelihood on the physical list.
+    pub second: Square,
+    /// Log likelihood: the total of the physical edges at the second.
+    pub second_score: f32,
+    /// Log likelihood per edge: `(best_score - second_score) / edges`.
+    pub margin: f32,
+    /// The best competitor by hits on the logical list.
+    pub runner_up: Square,
+    /// The runner-up's hits on the logical list.
+    pub runner_up_hits: u32,
 }
 
 /// How a list fits one known square.
@@ -130,6 +160,7 @@ pub struct MatchStats {
     pub mean_confidence: f32,
 }
 
+// What the struct of hard decode says.
 fn decoded(answer: raw::Answer) -> Result<Decoded, Refused> {
     match Refused::from_numbers(answer.refusal, answer.list, answer.position) {
         Some(refused) => Err(refused),
@@ -141,13 +172,35 @@ fn decoded(answer: raw::Answer) -> Result<Decoded, Refused> {
             error_rate: answer.error_rate,
             mean_confidence: answer.mean_confidence,
             best_score: answer.best_score,
-            runner_up_score: answer.runner_up_score,
-            margin: answer.margin,
             runner_up: Square { transform: answer.runner_up_transform, row: answer.runner_up_row, col: answer.runner_up_col },
+            runner_up_hits: answer.runner_up_hits,
+            margin_hits: answer.margin_hits,
         }),
     }
 }
 
+// What the struct of soft decode says.
+fn soft_decoded(answer: raw::SoftAnswer) -> Result<SoftDecoded, Refused> {
+    match Refused::from_numbers(answer.refusal, answer.list, answer.position) {
+        Some(refused) => Err(refused),
+        None => Ok(SoftDecoded {
+            square: Square { transform: answer.transform, row: answer.row, col: answer.col },
+            hits: answer.hits,
+            edges: answer.edges,
+            weighted_score: answer.weighted_score,
+            error_rate: answer.error_rate,
+            mean_confidence: answer.mean_confidence,
+            best_score: answer.best_score,
+            second: Square { transform: answer.second_transform, row: answer.second_row, col: answer.second_col },
+            second_score: answer.second_score,
+            margin: answer.margin,
+            runner_up: Square { transform: answer.runner_up_transform, row: answer.runner_up_row, col: answer.runner_up_col },
+            runner_up_hits: answer.runner_up_hits,
+        }),
+    }
+}
+
+// What the struct of match statistics says.
 fn counted(stats: raw::Stats) -> Result<MatchStats, Refused> {
     match Refused::from_numbers(stats.refusal, stats.list, stats.position) {
         Some(refused) => Err(refused),
@@ -183,7 +236,7 @@ fn decode_hard_raw(
 ) -> raw::Answer {
     // Every pointer is a slice's with its length, and the room is lent to this call alone.
     unsafe {
-        raw::samburext_decode_hard_2(
+        raw::samburext_decode_hard_3(
             logical.rows.as_ptr(),
             logical.rows.len(),
             logical.cols.as_ptr(),
@@ -230,8 +283,8 @@ pub fn decode_soft(
     error_limit: f32,
     soft_margin: f32,
     room: &mut Room,
-) -> Result<Decoded, Refused> {
-    decoded(decode_soft_raw(logical, physical, likelihoods, transforms, patterns, error_limit, soft_margin, room))
+) -> Result<SoftDecoded, Refused> {
+    soft_decoded(decode_soft_raw(logical, physical, likelihoods, transforms, patterns, error_limit, soft_margin, room))
 }
 
 // The same, with the answer as the library gives it.
@@ -245,10 +298,10 @@ fn decode_soft_raw(
     error_limit: f32,
     soft_margin: f32,
     room: &mut Room,
-) -> raw::Answer {
+) -> raw::SoftAnswer {
     // As above.
     unsafe {
-        raw::samburext_decode_soft_2(
+        raw::samburext_decode_soft_3(
             logical.rows.as_ptr(),
             logical.rows.len(),
             logical.cols.as_ptr(),

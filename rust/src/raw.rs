@@ -3,7 +3,7 @@
 //! A caller of these sees to it that each pointer is not null, is aligned and reaches as far as its length says, and that what
 //! is written overlaps nothing else. The functions of this crate do so.
 
-/// The answer of hard and soft decode. On a refusal every field but `refusal`, `list` and `position` is 0xFFFFFFFF or NaN; these two are
+/// The answer of hard decode. On a refusal every field but `refusal`, `list` and `position` is 0xFFFFFFFF or NaN; these two are
 /// 0xFFFFFFFF where the refusal is about no edge, and in a found answer.
 #[repr(C)]
 #[derive(Clone, Copy, Debug)]
@@ -20,11 +20,38 @@ pub struct Answer {
     pub error_rate: f32,
     pub mean_confidence: f32,
     pub best_score: f32,
-    pub runner_up_score: f32,
+    pub runner_up_transform: u32,
+    pub runner_up_row: u32,
+    pub runner_up_col: u32,
+    pub runner_up_hits: u32,
+    pub margin_hits: u32,
+}
+
+/// The answer of soft decode, with the same in its fields on a refusal.
+#[repr(C)]
+#[derive(Clone, Copy, Debug)]
+pub struct SoftAnswer {
+    pub refusal: u32,
+    pub list: u32,
+    pub position: u32,
+    pub transform: u32,
+    pub row: u32,
+    pub col: u32,
+    pub hits: u32,
+    pub edges: u32,
+    pub weighted_score: f32,
+    pub error_rate: f32,
+    pub mean_confidence: f32,
+    pub best_score: f32,
+    pub second_transform: u32,
+    pub second_row: u32,
+    pub second_col: u32,
+    pub second_score: f32,
     pub margin: f32,
     pub runner_up_transform: u32,
     pub runner_up_row: u32,
     pub runner_up_col: u32,
+    pub runner_up_hits: u32,
 }
 
 /// The answer of match statistics, with the same in its fields on a refusal.
@@ -42,7 +69,7 @@ pub struct Stats {
 
 extern "C" {
     /// Hard decode: the logical list's five columns, the physical list's, transforms, tables, error limit, and two rooms.
-    pub fn samburext_decode_hard_2(
+    pub fn samburext_decode_hard_3(
         logical_rows: *const i32,
         logical_rows_length: usize,
         logical_columns: *const i32,
@@ -78,7 +105,7 @@ extern "C" {
 
     /// Soft decode: the logical list's five columns, the physical list's five with its likelihoods, transforms, tables, error
     /// limit, soft margin, and three rooms.
-    pub fn samburext_decode_soft_2(
+    pub fn samburext_decode_soft_3(
         logical_rows: *const i32,
         logical_rows_length: usize,
         logical_columns: *const i32,
@@ -117,7 +144,7 @@ extern "C" {
         weights_length: usize,
         sums: *mut i64,
         sums_length: usize,
-    ) -> Answer;
+    ) -> SoftAnswer;
 
     /// Match statistics: the list's five columns, a transform, an origin, and the tables.
     pub fn samburext_match_stats_2(

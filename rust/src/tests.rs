@@ -3,11 +3,13 @@
 mod board;
 
 use crate::{
-    counted, decode_hard, decode_hard_raw, decode_soft, decode_soft_raw, decoded, match_stats, match_stats_raw, raw, Decoded,
-    Edge, EdgeList, EdgePlace, Likelihoods, List, MatchStats, Patterns, Refusal, Refused, Room, Square, ROOM_COUNTS, ROOM_SUMS,
-    ROOM_WEIGHTS,
+    counted, decode_hard, decode_hard_raw, decode_soft, decode_soft_raw, decoded, match_stats, match_stats_raw, raw,
+    soft_decoded, Decoded, Edge, EdgeList, EdgePlace, Likelihoods, List, MatchStats, Patterns, Refusal, Refused, Room,
+    SoftDecoded, Square, ROOM_COUNTS, ROOM_SUMS, ROOM_WEIGHTS,
 };
 use board::{Board, ALL_TRANSFORMS};
+use std::fmt::Debug;
+use std::mem::{offset_of, size_of};
 
 const AT: Square = Square { transform: 5, row: 123, col: 456 };
 const ELSEWHERE: Square = Square { transform: 5, row: 77, col: 300 };
@@ -66,7 +68,7 @@ impl Call {
         decode_hard(&self.logical, &self.physical, &self.transforms, self.patterns(), self.limit, room)
     }
 
-    fn soft(&self, room: &mut Room) -> Result<Decoded, Refused> {
+    fn soft(&self, room: &mut Room) -> Result<SoftDecoded, Refused> {
         decode_soft(
             &self.logical,
             &self.physical,
@@ -83,7 +85,7 @@ impl Call {
         decode_hard_raw(&self.logical, &self.physical, &self.transforms, self.patterns(), self.limit, room)
     }
 
-    fn soft_raw(&self, room: &mut Room) -> raw::Answer {
+    fn soft_raw(&self, room: &mut Room) -> raw::SoftAnswer {
         decode_soft_raw(
             &self.logical,
             &self.physical,
@@ -123,11 +125,18 @@ fn place_words(place: Option<EdgePlace>) -> [u32; 2] {
     }
 }
 
+/// A struct of the library, of which these are all fields after the third, holds 0xFFFFFFFF in every whole number and NaN in every float.
+fn nothing_in<A>(wholes: &[u32], floats: &[f32]) {
+    assert_eq!(4 * (3 + wholes.len() + floats.len()), size_of::<A>());
+    assert!(wholes.iter().all(|x| *x == NOTHING), "{wholes:?}");
+    assert!(floats.iter().all(|x| x.is_nan()), "{floats:?}");
+}
+
 /// Nothing but the number and the place: 0xFFFFFFFF or NaN in every other field.
 fn only_the_refusal(answer: raw::Answer, refused: Refused) {
     assert_eq!(answer.refusal, refused.number());
     assert_eq!([answer.list, answer.position], place_words(refused.place));
-    let whole = [
+    let wholes = [
         answer.transform,
         answer.row,
         answer.col,
@@ -136,24 +145,39 @@ fn only_the_refusal(answer: raw::Answer, refused: Refused) {
         answer.runner_up_transform,
         answer.runner_up_row,
         answer.runner_up_col,
+        answer.runner_up_hits,
+        answer.margin_hits,
     ];
-    assert_eq!(whole, [NOTHING; 8]);
-    let floats = [
-        answer.weighted_score,
-        answer.error_rate,
-        answer.mean_confidence,
-        answer.best_score,
-        answer.runner_up_score,
-        answer.margin,
+    let floats = [answer.weighted_score, answer.error_rate, answer.mean_confidence, answer.best_score];
+    nothing_in::<raw::Answer>(&wholes, &floats);
+}
+
+fn only_the_refusal_of_soft(answer: raw::SoftAnswer, refused: Refused) {
+    assert_eq!(answer.refusal, refused.number());
+    assert_eq!([answer.list, answer.position], place_words(refused.place));
+    let wholes = [
+        answer.transform,
+        answer.row,
+        answer.col,
+        answer.hits,
+        answer.edges,
+        answer.second_transform,
+        answer.second_row,
+        answer.second_col,
+        answer.runner_up_transform,
+        answer.runner_up_row,
+        answer.runner_up_col,
+        answer.runner_up_hits,
     ];
-    assert!(floats.iter().all(|x| x.is_nan()), "{:?}", floats);
+    let floats =
+        [answer.weighted_score, answer.error_rate, answer.mean_confidence, answer.best_score, answer.second_score, answer.margin];
+    nothing_in::<raw::SoftAnswer>(&wholes, &floats);
 }
 
 fn only_the_refusal_of_stats(stats: raw::Stats, refused: Refused) {
     assert_eq!(stats.refusal, refused.number());
     assert_eq!([stats.list, stats.position], place_words(refused.place));
-    assert_eq!([stats.edges, stats.hits], [NOTHING; 2]);
-    assert!(stats.error_rate.is_nan() && stats.mean_confidence.is_nan());
+    nothing_in::<raw::Stats>(&[stats.edges, stats.hits], &[stats.error_rate, stats.mean_confidence]);
 }
 
 /// The used part of a slice is zero and its surplus as it was.
@@ -192,7 +216,7 @@ fn soft_refused(call: &Call, refused: Refused) {
     } else {
         room_after(&room, &call.room, true);
     }
-    only_the_refusal(call.soft_raw(&mut room), refused);
+    only_the_refusal_of_soft(call.soft_raw(&mut room), refused);
 }
 
 /// One spoilt call after the other, each by itself, through both decoders; the refusal is about no edge.
@@ -229,10 +253,10 @@ fn hard_finds_every_transform() {
         assert_eq!((found.hits, found.edges, found.error_rate), (264, 264, 0.0));
         assert_eq!(found.weighted_score, 1.0);
         assert_eq!(found.best_score, 1.0);
-        assert_eq!(found.margin, 264.0 - found.runner_up_score);
+        assert_eq!(found.margin_hits, 264 - found.runner_up_hits);
         assert_ne!(found.runner_up, square);
         let next = match_stats(&list, found.runner_up, board.patterns()).unwrap();
-        assert_eq!(next.hits as f32, found.runner_up_score);
+        assert_eq!(next.hits, found.runner_up_hits);
         room_after(&room, &used_room(), false);
     }
 }
@@ -247,6 +271,7 @@ fn hard_finds_with_errors() {
     assert_eq!(found.square, AT);
     assert_eq!((found.hits, found.edges), (259, 264));
     assert_eq!(found.error_rate, 5.0 / 264.0);
+    assert_eq!(found.margin_hits, 259 - found.runner_up_hits);
 }
 
 #[test]
@@ -262,6 +287,61 @@ fn soft_finds() {
     room_after(&room, &used_room(), true);
 }
 
+/// The log likelihood of the physical list at a square, edge by edge. Those of these tests are eighths, so their f32 sum is exact.
+fn total(call: &Call, square: Square) -> f32 {
+    let board = Board::new();
+    let list = &call.physical;
+    (0..list.len())
+        .map(|i| match board.predicted(square, list.rows[i], list.cols[i], list.orientations[i]) == list.bits[i] {
+            true => call.likelihoods.matches[i],
+            false => call.likelihoods.mismatches[i],
+        })
+        .sum()
+}
+
+/// Each figure of a soft answer is that of its own placing: scores are log likelihoods of the physical list, and the runner-up's hits are the
+/// logical list's. The two lists have misses of their own, and a vertical edge says less than a horizontal one.
+#[test]
+fn soft_tells_the_second_by_likelihood_and_the_runner_up_by_hits() {
+    let board = Board::new();
+    let mut two_squares = 0;
+    for transform in 0..8 {
+        let square = Square { transform, ..AT };
+        let mut call = call();
+        call.logical = board.window(square, 12);
+        call.physical = board.window(square, 12);
+        for i in [3, 50, 99, 200, 263] {
+            call.logical.bits[i] ^= 1;
+            call.physical.bits[263 - i] ^= 1;
+        }
+        call.physical.bits[150] ^= 1;
+        for i in 132..264 {
+            call.likelihoods.mismatches[i] = -0.75;
+        }
+        call.margin = 0.0;
+        let hits = |list: &EdgeList, square: Square| match_stats(list, square, board.patterns()).unwrap().hits;
+        let found = call.soft(&mut used_room()).unwrap();
+        assert_eq!((found.square, found.hits, found.edges), (square, 258, 264));
+        assert_eq!(found.best_score, total(&call, square));
+        assert_eq!(found.weighted_score, found.best_score / 264.0);
+        assert_ne!(found.second, square);
+        assert_eq!(found.second_score, total(&call, found.second));
+        assert!(found.second_score < found.best_score);
+        assert_eq!(found.margin.to_bits(), ((found.best_score - found.second_score) / found.edges as f32).to_bits());
+        assert_ne!(found.runner_up, square);
+        assert_eq!(found.runner_up_hits, hits(&call.logical, found.runner_up));
+        assert!(found.runner_up_hits < hits(&call.logical, square));
+        // each is the best other by its own measure, so neither is better by the other's
+        assert!(found.second_score >= total(&call, found.runner_up));
+        assert!(found.runner_up_hits >= hits(&call.logical, found.second));
+        two_squares += u32::from(found.second != found.runner_up);
+        // hard decode on the same lists has the same runner-up
+        let hard = call.hard(&mut used_room()).unwrap();
+        assert_eq!((hard.square, hard.runner_up, hard.runner_up_hits), (square, found.runner_up, found.runner_up_hits));
+    }
+    assert!(two_squares > 0, "no view tells the second from the runner-up");
+}
+
 #[test]
 fn a_list_of_8192_edges_is_taken() {
     let mut call = call();
@@ -273,10 +353,10 @@ fn a_list_of_8192_edges_is_taken() {
     call.logical = list.clone();
     call.physical = list;
     call.likelihoods = likelihoods_of(8192);
-    for found in [call.hard(&mut used_room()), call.soft(&mut used_room())] {
-        let found = found.unwrap();
-        assert_eq!((found.square, found.hits, found.edges), (AT, 8192, 8192));
-    }
+    let hard = call.hard(&mut used_room()).unwrap();
+    assert_eq!((hard.square, hard.hits, hard.edges), (AT, 8192, 8192));
+    let soft = call.soft(&mut used_room()).unwrap();
+    assert_eq!((soft.square, soft.hits, soft.edges), (AT, 8192, 8192));
 }
 
 #[test]
@@ -302,8 +382,7 @@ fn bits(floats: &[f32]) -> Vec<u32> {
 
 /// Room whose floats are all NaN, surplus too: after every call the surplus is what it was, bit for bit, and so is the whole room after
 /// refusals 1 to 9, 16 and 17; what was used is 0 elsewhere, and no NaN in the room reaches an answer.
-#[test]
-fn nan_in_the_room_comes_back_bit_for_bit() {
+fn nan_in_the_room<A: PartialEq + Debug>(decode: fn(&Call, &mut Room) -> Result<A, Refused>) {
     let call = call();
     let stale = Room { weights: nans(ROOM_WEIGHTS + SURPLUS), ..used_room() };
     assert!(stale.weights.iter().all(|x| x.is_nan()));
@@ -312,35 +391,38 @@ fn nan_in_the_room_comes_back_bit_for_bit() {
     for (place, spoil) in spoils.iter().enumerate() {
         let mut call = call.clone();
         spoil(&mut call);
-        for decode in [Call::hard, Call::soft] {
-            let mut room = stale.clone();
-            let answer = decode(&call, &mut room);
-            assert_eq!(answer, decode(&call, &mut Room::new()));
-            assert_eq!(answer.is_ok(), place == 0);
-            let untouched = if answer == Err(nowhere(Refusal::BadSetting)) { 0 } else { ROOM_WEIGHTS };
-            assert!(bits(&room.weights[..untouched]).iter().all(|x| *x == 0));
-            assert_eq!(bits(&room.weights[untouched..]), bits(&stale.weights[untouched..]));
-        }
+        let mut room = stale.clone();
+        let answer = decode(&call, &mut room);
+        assert_eq!(answer, decode(&call, &mut Room::new()));
+        assert_eq!(answer.is_ok(), place == 0);
+        let untouched = if answer == Err(nowhere(Refusal::BadSetting)) { 0 } else { ROOM_WEIGHTS };
+        assert!(bits(&room.weights[..untouched]).iter().all(|x| *x == 0));
+        assert_eq!(bits(&room.weights[untouched..]), bits(&stale.weights[untouched..]));
     }
     // too short by one: nothing is written
-    for decode in [Call::hard, Call::soft] {
-        let mut room = Room { weights: nans(ROOM_WEIGHTS - 1), ..used_room() };
-        assert_eq!(decode(&call, &mut room), Err(nowhere(Refusal::RoomTooShort)));
-        assert_eq!(bits(&room.weights), bits(&nans(ROOM_WEIGHTS - 1)));
-    }
+    let mut room = Room { weights: nans(ROOM_WEIGHTS - 1), ..used_room() };
+    assert_eq!(decode(&call, &mut room), Err(nowhere(Refusal::RoomTooShort)));
+    assert_eq!(bits(&room.weights), bits(&nans(ROOM_WEIGHTS - 1)));
+}
+
+#[test]
+fn nan_in_the_room_comes_back_bit_for_bit() {
+    nan_in_the_room(Call::hard);
+    nan_in_the_room(Call::soft);
 }
 
 #[test]
 fn a_refusal_after_a_found_answer_holds_nothing_of_it() {
     let mut call = call();
     let mut room = used_room();
-    assert!(call.hard(&mut room).is_ok());
+    assert!(call.hard(&mut room).is_ok() && call.soft(&mut room).is_ok());
     call.limit = f32::NAN;
     only_the_refusal(call.hard_raw(&mut room), nowhere(Refusal::BadSetting));
     call.logical.bits[7] = 2;
     only_the_refusal(call.hard_raw(&mut room), at(Refusal::BadBit, List::Logical, 7));
+    only_the_refusal_of_soft(call.soft_raw(&mut room), at(Refusal::BadBit, List::Logical, 7));
     call.logical.bits[7] = 0;
-    only_the_refusal(call.soft_raw(&mut room), nowhere(Refusal::BadSetting));
+    only_the_refusal_of_soft(call.soft_raw(&mut room), nowhere(Refusal::BadSetting));
 }
 
 // ---- refusals 1 to 9, 16 and 17, through both decoders
@@ -863,10 +945,12 @@ fn refusals_have_numbers_and_words() {
 fn an_unknown_number_is_refused() {
     let call = call();
     let found = call.hard_raw(&mut used_room());
+    let soft = call.soft_raw(&mut used_room());
     let fit = match_stats_raw(&call.physical, AT, call.patterns());
-    assert!(decoded(found).is_ok() && counted(fit).is_ok());
+    assert!(decoded(found).is_ok() && soft_decoded(soft).is_ok() && counted(fit).is_ok());
     for number in [18, 19, 255, 256, 1315, 0x8000_0000, u32::MAX] {
         assert_eq!(decoded(raw::Answer { refusal: number, ..found }), Err(nowhere(Refusal::Unknown(number))));
+        assert_eq!(soft_decoded(raw::SoftAnswer { refusal: number, ..soft }), Err(nowhere(Refusal::Unknown(number))));
         assert_eq!(counted(raw::Stats { refusal: number, ..fit }), Err(nowhere(Refusal::Unknown(number))));
         assert_eq!(Refusal::Unknown(number).number(), number);
         assert_eq!(Refusal::Unknown(number).to_string(), format!("refused ({number}): a number that this wrapper does not know"));
@@ -877,10 +961,12 @@ fn an_unknown_number_is_refused() {
 #[test]
 fn an_unknown_list_is_handed_on() {
     let found = call().hard_raw(&mut used_room());
+    let soft = call().soft_raw(&mut used_room());
     let refusal = 4;
     for number in [0, 4, 255, 0x8000_0000, u32::MAX - 1] {
         let refused = decoded(raw::Answer { refusal, list: number, position: 6, ..found }).unwrap_err();
         assert_eq!(refused, at(Refusal::BadCoordinate, List::Unknown(number), 6));
+        assert_eq!(soft_decoded(raw::SoftAnswer { refusal, list: number, position: 6, ..soft }), Err(refused));
         assert!(refused
             .to_string()
             .ends_with(&format!("list {number}, which this wrapper does not know, edge 7 (counting from 1)")));
@@ -892,6 +978,7 @@ fn an_unknown_list_is_handed_on() {
     assert_eq!(half, at(Refusal::BadCoordinate, List::Unknown(NOTHING), 0));
     // a found answer is found, whatever stands there
     assert_eq!(decoded(raw::Answer { list: 1, position: 2, ..found }), decoded(found));
+    assert_eq!(soft_decoded(raw::SoftAnswer { list: 1, position: 2, ..soft }), soft_decoded(soft));
 }
 
 /// A found answer is about no edge.
@@ -932,7 +1019,6 @@ fn refusals_say_list_and_edge() {
 
 #[test]
 fn the_answers_have_the_header_s_fields_in_its_order() {
-    use std::mem::{offset_of, size_of};
     assert_eq!(size_of::<raw::Answer>(), 68);
     let answer = [
         offset_of!(raw::Answer, refusal),
@@ -947,13 +1033,38 @@ fn the_answers_have_the_header_s_fields_in_its_order() {
         offset_of!(raw::Answer, error_rate),
         offset_of!(raw::Answer, mean_confidence),
         offset_of!(raw::Answer, best_score),
-        offset_of!(raw::Answer, runner_up_score),
-        offset_of!(raw::Answer, margin),
         offset_of!(raw::Answer, runner_up_transform),
         offset_of!(raw::Answer, runner_up_row),
         offset_of!(raw::Answer, runner_up_col),
+        offset_of!(raw::Answer, runner_up_hits),
+        offset_of!(raw::Answer, margin_hits),
     ];
     assert!(answer.iter().enumerate().all(|(i, at)| *at == 4 * i), "{answer:?}");
+    assert_eq!(size_of::<raw::SoftAnswer>(), 84);
+    let soft = [
+        offset_of!(raw::SoftAnswer, refusal),
+        offset_of!(raw::SoftAnswer, list),
+        offset_of!(raw::SoftAnswer, position),
+        offset_of!(raw::SoftAnswer, transform),
+        offset_of!(raw::SoftAnswer, row),
+        offset_of!(raw::SoftAnswer, col),
+        offset_of!(raw::SoftAnswer, hits),
+        offset_of!(raw::SoftAnswer, edges),
+        offset_of!(raw::SoftAnswer, weighted_score),
+        offset_of!(raw::SoftAnswer, error_rate),
+        offset_of!(raw::SoftAnswer, mean_confidence),
+        offset_of!(raw::SoftAnswer, best_score),
+        offset_of!(raw::SoftAnswer, second_transform),
+        offset_of!(raw::SoftAnswer, second_row),
+        offset_of!(raw::SoftAnswer, second_col),
+        offset_of!(raw::SoftAnswer, second_score),
+        offset_of!(raw::SoftAnswer, margin),
+        offset_of!(raw::SoftAnswer, runner_up_transform),
+        offset_of!(raw::SoftAnswer, runner_up_row),
+        offset_of!(raw::SoftAnswer, runner_up_col),
+        offset_of!(raw::SoftAnswer, runner_up_hits),
+    ];
+    assert!(soft.iter().enumerate().all(|(i, at)| *at == 4 * i), "{soft:?}");
     assert_eq!(size_of::<raw::Stats>(), 28);
     let stats = [
         offset_of!(raw::Stats, refusal),

@@ -1,7 +1,8 @@
 //! The three functions as another crate calls them, with the types that it sees.
 
 use samburext::{
-    decode_hard, decode_soft, match_stats, Edge, EdgeList, EdgePlace, Likelihoods, List, Patterns, Refusal, Refused, Room, Square,
+    decode_hard, decode_soft, match_stats, Decoded, Edge, EdgeList, EdgePlace, Likelihoods, List, Patterns, Refusal, Refused,
+    Room, SoftDecoded, Square,
 };
 
 /// Two tables in which no two windows are alike, from a small generator.
@@ -39,11 +40,19 @@ fn found_and_refused() {
     let mut room = Room::new();
     let square = Square { transform: 0, row: 311, col: 58 };
 
-    let hard = decode_hard(&list, &list, &[0, 1, 2, 3], patterns, 0.25, &mut room).expect("hard decode finds it");
+    let hard: Decoded = decode_hard(&list, &list, &[0, 1, 2, 3], patterns, 0.25, &mut room).expect("hard decode finds it");
     assert_eq!((hard.square, hard.hits, hard.edges), (square, 200, 200));
-    let soft =
+    let next = match_stats(&list, hard.runner_up, patterns).expect("the runner-up is on the board");
+    assert_eq!((hard.runner_up_hits, hard.margin_hits), (next.hits, 200 - next.hits));
+    let soft: SoftDecoded =
         decode_soft(&list, &list, &likelihoods, &[0, 1, 2, 3], patterns, 0.25, 0.02, &mut room).expect("soft decode finds it");
     assert_eq!((soft.square, soft.best_score), (square, -50.0));
+    assert_eq!((soft.runner_up, soft.runner_up_hits), (hard.runner_up, hard.runner_up_hits));
+    // each hit counts -0.25 and each miss -1.5, so the second by likelihood has as many hits as the runner-up
+    assert_ne!(soft.second, square);
+    assert_eq!(match_stats(&list, soft.second, patterns).expect("the second is on the board").hits, next.hits);
+    assert_eq!(soft.second_score, -50.0 - 1.25 * (200 - next.hits) as f32);
+    assert_eq!(soft.margin, (soft.best_score - soft.second_score) / 200.0);
     let fit = match_stats(&list, square, patterns).expect("the square is on the board");
     assert_eq!((fit.edges, fit.hits), (200, 200));
 

@@ -48,7 +48,7 @@ static void fill_window(void)
                 bits[n] = seen(row, column, orientation);
                 confidences[n] = 0.75f;
                 matches[n] = -0.125f; /* the logarithm of how likely this reading is if the board has this bit here, */
-                mismatches[n] = -2.0f - (float)(n % 2); /* and if it has the other; each edge may have its own */
+                mismatches[n] = orientation == 0 ? -3.0f : -2.0f; /* and if it has the other; each edge may have its own */
             }
 }
 
@@ -66,9 +66,10 @@ static void print_float(const char *name, float x)
     printf("  %s %s\n", name, float_or_nan(x, text));
 }
 
-static void print_answer(const char *how, const samburext_answer *a)
+/* Hits are counts, so the lead over the runner-up is a count too. */
+static void print_hard(const samburext_answer *a)
 {
-    printf("%s: %s\n", how, a->refusal == SAMBUREXT_FOUND ? "found" : "refused");
+    printf("hard: %s\n", a->refusal == SAMBUREXT_FOUND ? "found" : "refused");
     print_whole("refusal", a->refusal);
     print_whole("list", a->list);
     print_whole("position", a->position);
@@ -81,19 +82,46 @@ static void print_answer(const char *how, const samburext_answer *a)
     print_float("error_rate", a->error_rate);
     print_float("mean_confidence", a->mean_confidence);
     print_float("best_score", a->best_score);
-    print_float("runner_up_score", a->runner_up_score);
+    print_whole("runner_up_transform", a->runner_up_transform);
+    print_whole("runner_up_row", a->runner_up_row);
+    print_whole("runner_up_col", a->runner_up_col);
+    print_whole("runner_up_hits", a->runner_up_hits);
+    print_whole("margin_hits", a->margin_hits);
+}
+
+/* Scores and the margin are log likelihoods here; the second by these is another square than the runner-up by hits. */
+static void print_soft(const samburext_soft_answer *a)
+{
+    printf("soft: %s\n", a->refusal == SAMBUREXT_FOUND ? "found" : "refused");
+    print_whole("refusal", a->refusal);
+    print_whole("list", a->list);
+    print_whole("position", a->position);
+    print_whole("transform", a->transform);
+    print_whole("row", a->row);
+    print_whole("col", a->col);
+    print_whole("hits", a->hits);
+    print_whole("edges", a->edges);
+    print_float("weighted_score", a->weighted_score);
+    print_float("error_rate", a->error_rate);
+    print_float("mean_confidence", a->mean_confidence);
+    print_float("best_score", a->best_score);
+    print_whole("second_transform", a->second_transform);
+    print_whole("second_row", a->second_row);
+    print_whole("second_col", a->second_col);
+    print_float("second_score", a->second_score);
     print_float("margin", a->margin);
     print_whole("runner_up_transform", a->runner_up_transform);
     print_whole("runner_up_row", a->runner_up_row);
     print_whole("runner_up_col", a->runner_up_col);
+    print_whole("runner_up_hits", a->runner_up_hits);
 }
 
 /* What a person is told of a refusal that is about an edge: people count from 1. */
-static void print_edge(const samburext_answer *a)
+static void print_edge(uint32_t refusal, uint32_t list, uint32_t position)
 {
-    if (a->refusal != SAMBUREXT_FOUND && a->list != SAMBUREXT_NOTHING)
-        printf("  look at edge %u of the %s list, counting from 1\n", (unsigned)a->position + 1,
-               a->list == SAMBUREXT_LOGICAL_LIST ? "logical" : "physical");
+    if (refusal != SAMBUREXT_FOUND && list != SAMBUREXT_NOTHING)
+        printf("  look at edge %u of the %s list, counting from 1\n", (unsigned)position + 1,
+               list == SAMBUREXT_LOGICAL_LIST ? "logical" : "physical");
 }
 
 static void hard_and_print(float error_limit)
@@ -103,20 +131,20 @@ static void hard_and_print(float error_limit)
         rows, EDGES, columns, EDGES, orientations, EDGES, bits, EDGES, confidences, EDGES, /* the physical list: the same */
         transforms, sizeof transforms, horizontal, sizeof horizontal, vertical, sizeof vertical, error_limit,
         counts, SAMBUREXT_ROOM_COUNTS, weights, SAMBUREXT_ROOM_WEIGHTS);
-    print_answer("hard", &answer);
-    print_edge(&answer);
+    print_hard(&answer);
+    print_edge(answer.refusal, answer.list, answer.position);
 }
 
 static void soft_and_print(float soft_margin)
 {
-    samburext_answer answer = samburext_decode_soft(
+    samburext_soft_answer answer = samburext_decode_soft(
         rows, EDGES, columns, EDGES, orientations, EDGES, bits, EDGES, confidences, EDGES, /* the logical list */
         rows, EDGES, columns, EDGES, orientations, EDGES, bits, EDGES, confidences, EDGES, /* the physical list: the same, */
         matches, EDGES, mismatches, EDGES,                                                 /* with its likelihoods */
         transforms, sizeof transforms, horizontal, sizeof horizontal, vertical, sizeof vertical, 0.1f, soft_margin,
         counts, SAMBUREXT_ROOM_COUNTS, weights, SAMBUREXT_ROOM_WEIGHTS, sums, SAMBUREXT_ROOM_SUMS);
-    print_answer("soft", &answer);
-    print_edge(&answer);
+    print_soft(&answer);
+    print_edge(answer.refusal, answer.list, answer.position);
 }
 
 int main(void)

@@ -23,11 +23,34 @@ AT(samburext_answer, weighted_score, 8);
 AT(samburext_answer, error_rate, 9);
 AT(samburext_answer, mean_confidence, 10);
 AT(samburext_answer, best_score, 11);
-AT(samburext_answer, runner_up_score, 12);
-AT(samburext_answer, margin, 13);
-AT(samburext_answer, runner_up_transform, 14);
-AT(samburext_answer, runner_up_row, 15);
-AT(samburext_answer, runner_up_col, 16);
+AT(samburext_answer, runner_up_transform, 12);
+AT(samburext_answer, runner_up_row, 13);
+AT(samburext_answer, runner_up_col, 14);
+AT(samburext_answer, runner_up_hits, 15);
+AT(samburext_answer, margin_hits, 16);
+
+_Static_assert(sizeof(samburext_soft_answer) == 84, "samburext_soft_answer");
+AT(samburext_soft_answer, refusal, 0);
+AT(samburext_soft_answer, list, 1);
+AT(samburext_soft_answer, position, 2);
+AT(samburext_soft_answer, transform, 3);
+AT(samburext_soft_answer, row, 4);
+AT(samburext_soft_answer, col, 5);
+AT(samburext_soft_answer, hits, 6);
+AT(samburext_soft_answer, edges, 7);
+AT(samburext_soft_answer, weighted_score, 8);
+AT(samburext_soft_answer, error_rate, 9);
+AT(samburext_soft_answer, mean_confidence, 10);
+AT(samburext_soft_answer, best_score, 11);
+AT(samburext_soft_answer, second_transform, 12);
+AT(samburext_soft_answer, second_row, 13);
+AT(samburext_soft_answer, second_col, 14);
+AT(samburext_soft_answer, second_score, 15);
+AT(samburext_soft_answer, margin, 16);
+AT(samburext_soft_answer, runner_up_transform, 17);
+AT(samburext_soft_answer, runner_up_row, 18);
+AT(samburext_soft_answer, runner_up_col, 19);
+AT(samburext_soft_answer, runner_up_hits, 20);
 
 _Static_assert(sizeof(samburext_stats) == 28, "samburext_stats");
 AT(samburext_stats, refusal, 0);
@@ -67,10 +90,11 @@ samburext_answer (*const hard)(const int32_t *, size_t, const int32_t *, size_t,
                                const int32_t *, size_t, const int32_t *, size_t, const uint8_t *, size_t, const uint8_t *, size_t, const float *, size_t,
                                const uint8_t *, size_t, const uint8_t *, size_t, const uint8_t *, size_t, float, uint32_t *, size_t, float *,
                                size_t) = samburext_decode_hard;
-samburext_answer (*const soft)(const int32_t *, size_t, const int32_t *, size_t, const uint8_t *, size_t, const uint8_t *, size_t, const float *, size_t,
-                               const int32_t *, size_t, const int32_t *, size_t, const uint8_t *, size_t, const uint8_t *, size_t, const float *, size_t,
-                               const float *, size_t, const float *, size_t, const uint8_t *, size_t, const uint8_t *, size_t, const uint8_t *, size_t,
-                               float, float, uint32_t *, size_t, float *, size_t, int64_t *, size_t) = samburext_decode_soft;
+samburext_soft_answer (*const soft)(const int32_t *, size_t, const int32_t *, size_t, const uint8_t *, size_t, const uint8_t *, size_t, const float *,
+                                    size_t, const int32_t *, size_t, const int32_t *, size_t, const uint8_t *, size_t, const uint8_t *, size_t,
+                                    const float *, size_t, const float *, size_t, const float *, size_t, const uint8_t *, size_t, const uint8_t *, size_t,
+                                    const uint8_t *, size_t, float, float, uint32_t *, size_t, float *, size_t, int64_t *,
+                                    size_t) = samburext_decode_soft;
 samburext_stats (*const stats)(const int32_t *, size_t, const int32_t *, size_t, const uint8_t *, size_t, const uint8_t *, size_t, const float *, size_t,
                                uint32_t, uint32_t, uint32_t, const uint8_t *, size_t, const uint8_t *, size_t) = samburext_match_stats;
 
@@ -133,7 +157,8 @@ static void fill_list(list *to, int32_t at_row)
     to->edges = n;
 }
 
-/* A call that all three functions take: a clean logical list but for two wrong bits, and a physical list that is four edges shorter. */
+/* A call that all three functions take: a clean logical list but for two wrong bits, and a physical list that is four edges shorter. A vertical
+ * edge says less by its likelihoods than a horizontal one, so that the second by likelihood is another square than the runner-up by hits. */
 static void fill_call(void)
 {
     uint32_t state = 12345u;
@@ -149,7 +174,7 @@ static void fill_call(void)
         call.logical.bits[7 + i] ^= 1;
     for (int i = 0; i <= SAMBUREXT_MAX_EDGES; i++) {
         call.matches[i] = -0.125f;
-        call.mismatches[i] = -2.5f;
+        call.mismatches[i] = i < EDGES / 2 ? -2.5f : -1.5f;
     }
     call.likelihoods = FEWER;
     for (uint8_t i = 0; i <= SAMBUREXT_MAX_TRANSFORMS; i++)
@@ -174,7 +199,7 @@ static samburext_answer run_hard(void)
                 call.counts_length, weights, call.weights_length);
 }
 
-static samburext_answer run_soft(void)
+static samburext_soft_answer run_soft(void)
 {
     return soft(LIST(call.logical), LIST(call.physical), call.matches, call.likelihoods, call.mismatches, call.likelihoods, call.transforms,
                 call.transforms_length, TABLES, call.error_limit, call.soft_margin, counts, call.counts_length, weights, call.weights_length,
@@ -193,30 +218,63 @@ static float number(uint32_t word)
     return x;
 }
 
-/* A found answer, word by word. What a field must hold is worked out here, and of the runner-up by match statistics. */
-static void found(const samburext_answer *a, const list *of, float score, float best, float margin, const char *what)
+/* The first twelve words of a found answer, which hard and soft decode have alike. What a field must hold is worked out here. */
+static void found(const uint32_t *w, const list *of, float score, float best, const char *what)
 {
-    uint32_t w[sizeof *a / 4];
-    memcpy(w, a, sizeof *a);
     uint32_t misses = of == &call.logical ? MISSES : 0, edges = (uint32_t)of->edges;
     hold(w[0] == SAMBUREXT_FOUND && w[1] == SAMBUREXT_NOTHING && w[2] == SAMBUREXT_NOTHING, what);
     hold(w[3] == 0 && w[4] == ROW && w[5] == COLUMN && w[6] == edges - misses && w[7] == edges, what);
     hold(number(w[8]) == score && number(w[9]) == (float)misses / (float)edges && number(w[10]) == 0.75f && number(w[11]) == best, what);
-    samburext_stats next = run_stats(&call.logical, w[14], w[15], w[16]);
-    hold(next.refusal == SAMBUREXT_FOUND && (float)next.hits == number(w[12]) && next.hits < EDGES - MISSES, what);
-    hold(margin == 0 ? number(w[13]) >= 0.125f && number(w[13]) < 2.5f : number(w[13]) == margin - number(w[12]), what);
+}
+
+/* Four words of a found answer are a runner-up: a transform, a row and a column other than those found, and the hits of the logical list there, by
+ * match statistics. */
+static void runner_up(const uint32_t *w, const char *what)
+{
+    samburext_stats there = run_stats(&call.logical, w[0], w[1], w[2]);
+    hold(w[0] != 0 || w[1] != ROW || w[2] != COLUMN, what);
+    hold(there.refusal == SAMBUREXT_FOUND && there.hits == w[3] && w[3] < EDGES - MISSES, what);
+}
+
+/* The log likelihood of the physical list at a square, by match statistics of its horizontal and of its vertical edges: a miss costs more of the one
+ * than of the other. All terms are eighths, so that the sum is exact. */
+static float total(uint32_t transform, uint32_t row, uint32_t column)
+{
+    list part = call.physical;
+    part.edges = EDGES / 2;
+    samburext_stats all = run_stats(&call.physical, transform, row, column), across = run_stats(&part, transform, row, column);
+    float hits = (float)all.hits, misses = (float)(part.edges - across.hits);
+    return -0.125f * hits - 2.5f * misses - 1.5f * ((float)all.edges - hits - misses);
+}
+
+/* The words of a found soft answer that are its own: the second by likelihood with its total, their margin, and the runner-up, which is another square
+ * here. Neither is better than the other by the other's measure. */
+static void found_soft(const uint32_t *w, const char *what)
+{
+    hold(w[12] != 0 || w[13] != ROW || w[14] != COLUMN, what);
+    hold(number(w[15]) == total(w[12], w[13], w[14]) && number(w[15]) < number(w[11]), what);
+    hold(number(w[16]) == (number(w[11]) - number(w[15])) / (float)w[7], what);
+    runner_up(w + 17, what);
+    hold(w[12] != w[17] || w[13] != w[18] || w[14] != w[19], what);
+    hold(total(w[17], w[18], w[19]) < number(w[15]) && run_stats(&call.logical, w[12], w[13], w[14]).hits < w[20], what);
+}
+
+/* Whether word i of a struct of this size is a float. */
+static int is_float(size_t size, size_t i)
+{
+    if (size == sizeof(samburext_stats))
+        return i > 4;
+    return (i > 7 && i < 12) || (size == sizeof(samburext_soft_answer) && (i == 15 || i == 16));
 }
 
 /* A refused answer of so many words: the number, the list and the position, and nothing else in any of them. */
 static int only(const void *answer, size_t size, uint32_t refusal, uint32_t list, uint32_t position)
 {
-    uint32_t w[sizeof(samburext_answer) / 4];
+    uint32_t w[sizeof(samburext_soft_answer) / 4];
     memcpy(w, answer, size);
     int good = w[0] == refusal && w[1] == list && w[2] == position;
-    for (size_t i = 3; i < size / 4; i++) {
-        int whole = size == sizeof(samburext_stats) ? i < 5 : i < 8 || i > 13;
-        good = good && (whole ? w[i] == SAMBUREXT_NOTHING : number(w[i]) != number(w[i]));
-    }
+    for (size_t i = 3; i < size / 4; i++)
+        good = good && (is_float(size, i) ? number(w[i]) != number(w[i]) : w[i] == SAMBUREXT_NOTHING);
     return good;
 }
 
@@ -231,7 +289,8 @@ enum { OTHER = 99 };
 
 static void expect(uint32_t by_hard, uint32_t by_soft, uint32_t by_stats, const char *what)
 {
-    samburext_answer h = run_hard(), s = run_soft();
+    samburext_answer h = run_hard();
+    samburext_soft_answer s = run_soft();
     samburext_stats m = run_stats(&call.physical, call.transform, call.row, call.column);
     uint32_t one = at_list == SAMBUREXT_NOTHING ? SAMBUREXT_NOTHING : (uint32_t)SAMBUREXT_ONLY_LIST;
     hold(by_hard == OTHER || (by_hard == SAMBUREXT_FOUND ? h.refusal == 0 : only(&h, sizeof h, by_hard, at_list, at_position)), what);
@@ -288,13 +347,18 @@ static void orders(void)
 
 int main(void)
 {
+    uint32_t w[sizeof(samburext_soft_answer) / 4];
     fill_call();
     samburext_answer h = run_hard();
-    found(&h, &call.logical, 0.75f * (EDGES - MISSES) / (0.75f * EDGES), 0.75f * (EDGES - MISSES) / (0.75f * EDGES), EDGES - MISSES, "hard, found");
-    samburext_answer s = run_soft();
-    found(&s, &call.physical, -0.125f, -0.125f * FEWER, 0, "soft, found");
+    memcpy(w, &h, sizeof h);
+    found(w, &call.logical, 0.75f * (EDGES - MISSES) / (0.75f * EDGES), 0.75f * (EDGES - MISSES) / (0.75f * EDGES), "hard, found");
+    runner_up(w + 12, "hard, runner-up");
+    hold(w[16] == w[6] - w[15], "hard, margin in hits");
+    samburext_soft_answer s = run_soft();
+    memcpy(w, &s, sizeof s);
+    found(w, &call.physical, -0.125f, -0.125f * FEWER, "soft, found");
+    found_soft(w, "soft, second and runner-up");
     samburext_stats m = run_stats(&call.logical, 0, ROW, COLUMN);
-    uint32_t w[sizeof m / 4];
     memcpy(w, &m, sizeof m);
     hold(w[0] == 0 && w[1] == SAMBUREXT_NOTHING && w[2] == SAMBUREXT_NOTHING && w[3] == EDGES && w[4] == EDGES - MISSES, "statistics");
     hold(number(w[5]) == (float)MISSES / EDGES && number(w[6]) == 0.75f, "statistics");

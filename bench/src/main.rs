@@ -10,7 +10,7 @@
 compile_error!("the comparison is of release builds: cargo run --release");
 
 use oracle::{Case, Edge, Found, Likelihood, Random, Ready, Soft, Square};
-use samburext::{decode_hard, decode_soft, EdgeList, Likelihoods, Patterns, Refused, Room};
+use samburext::{decode_hard, decode_soft, Decoded, EdgeList, Likelihoods, Patterns, Refused, Room, SoftDecoded};
 use std::hint::black_box;
 
 const RUNS: usize = 25;
@@ -55,6 +55,42 @@ fn columns(edges: &[Edge]) -> EdgeList {
     list
 }
 
+fn square(s: samburext::Square) -> Square {
+    Square { transform: s.transform, row: s.row as i32, col: s.col as i32 }
+}
+
+/// The ten fields that the Rust has, of a hard answer: crates/ten_fields/specs/TenFields.antt, `tenOfHard`.
+fn ten_of_hard(d: Decoded) -> Found {
+    Found {
+        square: square(d.square),
+        hits: d.hits,
+        edges: d.edges,
+        weighted: d.weighted_score,
+        rate: d.error_rate,
+        mean: d.mean_confidence,
+        best: d.best_score,
+        next: d.runner_up_hits as f32,
+        margin: d.margin_hits as f32,
+        runner: square(d.runner_up),
+    }
+}
+
+/// The same of a soft answer: `tenOfSoft`. The Rust has no place for the second.
+fn ten_of_soft(d: SoftDecoded) -> Found {
+    Found {
+        square: square(d.square),
+        hits: d.hits,
+        edges: d.edges,
+        weighted: d.weighted_score,
+        rate: d.error_rate,
+        mean: d.mean_confidence,
+        best: d.best_score,
+        next: d.runner_up_hits as f32,
+        margin: d.margin,
+        runner: square(d.runner_up),
+    }
+}
+
 impl Bench {
     fn new(what: &str, logical: Vec<Edge>, physical: Vec<Edge>, transforms: u8, soft: bool, limit: f32) -> Bench {
         let knobs = Soft { likelihood: Likelihood::Sigmoid, kappa: 12.0, floor: -6.0, margin: 0.02 };
@@ -78,25 +114,13 @@ impl Bench {
     fn ours(&mut self) -> Result<Found, Refused> {
         let patterns = Patterns { horizontal: &self.horizontal, vertical: &self.vertical };
         let (limit, transforms) = (self.case.limit, &self.case.transforms);
-        let answer = if self.soft {
+        if self.soft {
             let margin = self.case.soft.margin;
             decode_soft(&self.logical, &self.physical, &self.likelihoods, transforms, patterns, limit, margin, &mut self.room)
+                .map(ten_of_soft)
         } else {
-            decode_hard(&self.logical, &self.physical, transforms, patterns, limit, &mut self.room)
-        };
-        let square = |s: samburext::Square| Square { transform: s.transform, row: s.row as i32, col: s.col as i32 };
-        answer.map(|d| Found {
-            square: square(d.square),
-            hits: d.hits,
-            edges: d.edges,
-            weighted: d.weighted_score,
-            rate: d.error_rate,
-            mean: d.mean_confidence,
-            best: d.best_score,
-            next: d.runner_up_score,
-            margin: d.margin,
-            runner: square(d.runner_up),
-        })
+            decode_hard(&self.logical, &self.physical, transforms, patterns, limit, &mut self.room).map(ten_of_hard)
+        }
     }
 
     fn rust(&self) -> Option<Found> {

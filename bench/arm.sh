@@ -47,10 +47,10 @@ for module in "$room"/modules/*.bc; do
     "$clang" -x ir -Xclang -disable-llvm-passes -S -emit-llvm "$module" -o "$name.ll" 2>/dev/null
     sed -e '/^target datalayout/d' -e '/^target triple/d' -e 's/ "target-cpu"="x86-64"//' \
         -e '/^define noundef ptr @samburext_/,/^}/s/^  ret ptr %a0$/  ret void/' \
-        -e 's/^define noundef ptr \(@samburext_[a-z_]*(ptr\) noundef %a0/define void \1 sret([64 x i8]) %a0/' "$name.ll" >"$name.arm.ll"
+        -e 's/^define noundef ptr \(@samburext_[a-z_0-9]*(ptr\) noundef %a0/define void \1 sret([64 x i8]) %a0/' "$name.ll" >"$name.arm.ll"
     "$clang" --target=aarch64-unknown-linux-gnu -Wno-override-module -ffunction-sections -fPIC -O3 -c -x ir "$name.arm.ll" -o "$name.o"
 done
-marked=$(cat "$room"/modules/*.arm.ll | grep -c '^define void @samburext_[a-z_]*(ptr sret') || true
+marked=$(cat "$room"/modules/*.arm.ll | grep -c '^define void @samburext_[a-z_0-9]*(ptr sret') || true
 [ "$marked" -eq 3 ] || { echo "bench/arm.sh: $marked functions of three hand back a struct by a pointer" >&2; exit 1; }
 rm -f "$room/libsamburext.a"
 ar rcs "$room/libsamburext.a" "$room"/modules/*.o

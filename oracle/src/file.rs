@@ -22,8 +22,9 @@ pub const PHYSICAL: u32 = 2;
 pub const ONLY: u32 = 3;
 
 /// The answer's words: 0 or the refusal's number, transform, row, column, hits, edges, weighted score, rate, mean, best score,
-/// runner-up's score (before the gate: its hits), margin, the runner-up's transform, row and column, and the list and the position (from 0) of the edge
-/// that a refusal is about.
+/// runner-up's score (its hits as f32; before the gate as a whole number), margin (in hits, as f32, for hard decode), the runner-up's transform, row and
+/// column, and the list and the position (from 0) of the edge that a refusal is about. A found answer's are document 01's ten fields; the program `replay`
+/// derives them from our hard and soft answers, which say hits by whole numbers.
 pub type Words = [u32; 17];
 
 fn square(words: &mut Words, at: usize, s: &Square) {

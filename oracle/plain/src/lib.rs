@@ -51,7 +51,8 @@ pub struct Square {
     pub col: i32,
 }
 
-/// What a found answer holds.
+/// What a found answer of the Rust holds: document 01's ten fields. `next` is the runner-up's score, which is its hits; the margin is in hits after hard
+/// decode, and a log likelihood per edge after soft decode.
 #[derive(Clone, Copy, Debug, PartialEq)]
 pub struct Found {
     pub square: Square,

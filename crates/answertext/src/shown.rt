@@ -1,4 +1,6 @@
 // What hard and soft answers have in common: the square and how well a list fits there, and the runner-up by hits.
+ghost use mathlib.Core.Path.{_≡_};
+ghost use Rattle.answertext.specs.Shown.{shownOfHard, shownOfSoft};
 use answer::Decoded;
 use answer::SoftDecoded;
 use answer::Square;
@@ -15,7 +17,9 @@ pub struct Shown {
 }
 
 // Of a hard answer.
-pub fn of_hard(d: Decoded) -> Shown {
+pub fn of_hard(d: Decoded) -> Shown
+    ensures { λ r. ⌜ r ≡ shownOfHard d ⌝ }
+{
     let square = d.square;
     let runner_up = d.runner_up;
     Shown {
@@ -30,7 +34,9 @@ pub fn of_hard(d: Decoded) -> Shown {
 }
 
 // Of a soft answer.
-pub fn of_soft(d: SoftDecoded) -> Shown {
+pub fn of_soft(d: SoftDecoded) -> Shown
+    ensures { λ r. ⌜ r ≡ shownOfSoft d ⌝ }
+{
     let square = d.square;
     let runner_up = d.runner_up;
     Shown {

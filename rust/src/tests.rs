@@ -292,9 +292,13 @@ fn total(call: &Call, square: Square) -> f32 {
     let board = Board::new();
     let list = &call.physical;
     (0..list.len())
-        .map(|i| match board.predicted(square, list.rows[i], list.cols[i], list.orientations[i]) == list.bits[i] {
-            true => call.likelihoods.matches[i],
-            false => call.likelihoods.mismatches[i],
+        .map(|i| {
+            let hit = board.predicted(square, list.rows[i], list.cols[i], list.orientations[i]) == list.bits[i];
+            if hit {
+                call.likelihoods.matches[i]
+            } else {
+                call.likelihoods.mismatches[i]
+            }
         })
         .sum()
 }

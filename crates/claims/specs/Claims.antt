@@ -46,13 +46,14 @@ use Rattle.demand.specs.DemandLaws.{leader-named}
 use Rattle.demand.specs.Winners as winners
 use Rattle.demand.specs.AgreesLaws as physical
 use Rattle.demand.specs.FoundRange.{AnswerInRange, SoftAnswerInRange}
-use Rattle.decode_hard.specs.Hard.{hardCore, hardAnswer}
-use Rattle.decode_hard.specs.HardRange.{hard-in-range}
-use Rattle.decode_hard.specs.HardNumbers.{hard-late}
-use Rattle.decode_hard.specs.HardDemand.{HardAnswered}
-use Rattle.decode_hard.specs.HardLate.{HardLate}
-use Rattle.decode_hard.specs.HardLateLaws.{hard-late-numbers}
-use Rattle.decode_hard.specs.HardTheorems.{hard-sound, hard-complete}
+use Rattle.hard_core.specs.Hard.{hardCore}
+use Rattle.decode_hard.specs.HardAnswer.{hardAnswer}
+use Rattle.hard_core.specs.HardRange.{hard-in-range}
+use Rattle.hard_core.specs.HardNumbers.{hard-late}
+use Rattle.hard_core.specs.HardDemand.{HardAnswered}
+use Rattle.hard_core.specs.HardLate.{HardLate}
+use Rattle.hard_core.specs.HardLateLaws.{hard-late-numbers}
+use Rattle.hard_core.specs.HardTheorems.{hard-sound, hard-complete}
 use Rattle.soft_core.specs.Soft.{softCore}
 use Rattle.decode_soft.specs.SoftAnswer.{softAnswer}
 use Rattle.soft_core.specs.SoftRange.{soft-in-range}

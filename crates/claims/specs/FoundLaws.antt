@@ -41,7 +41,8 @@ use Rattle.answer.specs.declared.MatchStats.{MatchStats}
 use Rattle.answer.specs.declared.StatsAnswer.the-variants as stats
 use Rattle.stats.specs.Stats.{statsAnswer, statsOf, orCounted}
 use Rattle.verdict.specs.Verdict.{pick, whenAccepted, agreed, judged}
-use Rattle.decode_hard.specs.Hard.{afterPhysical, afterLogical, hardCore, hardAnswer}
+use Rattle.hard_core.specs.Hard.{afterPhysical, afterLogical, hardCore}
+use Rattle.decode_hard.specs.HardAnswer.{hardAnswer}
 use Rattle.soft_verdict.specs.declared.SoftBest.{SoftBest}
 use Rattle.soft_verdict.specs.SoftVerdict.{softWhenAccepted, softDecodedOf, softVerdict, bestOf}
 use Rattle.soft_core.specs.Soft.{fitOf, softJudged, afterHard, afterSoft, softCore}

@@ -8,9 +8,9 @@
 --   leads       within the error limit, and beats the hits of every other placing by more than its own misses (Demand.antt)
 --   agrees      has the transform and the origin of the physical list's winner (Demand.antt): `agrees-most` and `most-agrees` below say what that is in hits
 --   first       of all placings by likelihood, edge by edge; second: of all others (soft_core/specs/SoftDemand.antt)
---   answered    what a found answer says (decode_hard/specs/HardDemand.antt, SoftDemand.antt); a square is a transform's number, a row and a column
+--   answered    what a found answer says (hard_core/specs/HardDemand.antt, SoftDemand.antt); a square is a transform's number, a row and a column
 --   domain      the calls that are accepted, as plain facts (admission/specs/Domain.antt); checked: by which early number a call is refused, and where (Refusals.antt)
---   late        refusals 10 to 15, each exactly when (decode_hard/specs/HardLate.antt, soft_core/specs/SoftLate.antt)
+--   late        refusals 10 to 15, each exactly when (hard_core/specs/HardLate.antt, soft_core/specs/SoftLate.antt)
 --   room        what the caller lends; its first places are used, and the rest is surplus
 use mathlib.Core.Path.{_≡_}
 use mathlib.Core.Bool.{Bool, false}
@@ -52,9 +52,9 @@ use Rattle.answer.specs.declared.StatsAnswer.{StatsAnswer}
 use Rattle.answer.specs.declared.StatsAnswer.the-variants as stats
 use Rattle.demand.specs.Demand.{OnBoard, Same, Leads, RunnerUpExists, Names, AgreesPhysical}
 use Rattle.demand.specs.FoundRange.{AnswerInRange, SoftAnswerInRange}
-use Rattle.decode_hard.specs.Hard.{hardAnswer, HardDone}
-use Rattle.decode_hard.specs.HardDemand.{HardAnswered}
-use Rattle.decode_hard.specs.HardLate.{HardLate}
+use Rattle.decode_hard.specs.HardAnswer.{hardAnswer, HardDone}
+use Rattle.hard_core.specs.HardDemand.{HardAnswered}
+use Rattle.hard_core.specs.HardLate.{HardLate}
 use Rattle.decode_soft.specs.SoftAnswer.{softAnswer, SoftDone}
 use Rattle.soft_core.specs.SoftDemand.{marginOf, FirstByLikelihood, SecondByLikelihood, SoftAnswered}
 use Rattle.soft_core.specs.SoftLate.{SoftLate}

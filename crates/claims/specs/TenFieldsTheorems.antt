@@ -31,7 +31,7 @@ use Rattle.verdict.specs.Verdict.{decodedOf}
 use Rattle.verdict.specs.VerdictTheorems.{never-both, judged-is}
 use Rattle.soft_verdict.specs.declared.SoftBest.{SoftBest}
 use Rattle.soft_verdict.specs.SoftVerdict.{softDecodedOf, bestOf}
-use Rattle.decode_hard.specs.Hard.{afterPhysical, afterLogical, hardCore}
+use Rattle.hard_core.specs.Hard.{afterPhysical, afterLogical, hardCore}
 use Rattle.soft_core.specs.Soft.{fitOf, softCore}
 use Rattle.soft_core.specs.SoftDemand.{withTotal}
 use Rattle.soft_core.specs.SoftTheorems.{FoundBy, found-by}

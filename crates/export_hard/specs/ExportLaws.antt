@@ -4,7 +4,7 @@ use mathlib.Core.List.{List}
 use Prim.Native.Nat.{ℕ}
 use lib.Ieee.{Float}
 use Rattle.admission.specs.Calls.{HardCall}
-use Rattle.decode_hard.specs.HardLaws.{hard-unique}
+use Rattle.decode_hard.specs.HardAnswerLaws.{hard-unique}
 use Rattle.flat.specs.declared.flat.FlatAnswer.{FlatAnswer}
 use Rattle.flat.specs.Flat.{flat}
 use Rattle.export_hard.specs.Exports.{HardFlat}

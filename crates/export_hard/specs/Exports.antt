@@ -5,7 +5,7 @@ use Prim.Native.Nat.{ℕ}
 use lib.Ieee.{Float}
 use Rattle.admission.specs.Calls.{HardCall}
 use Rattle.answer.specs.declared.Answer.{Answer}
-use Rattle.decode_hard.specs.Hard.{HardDone}
+use Rattle.decode_hard.specs.HardAnswer.{HardDone}
 use Rattle.flat.specs.declared.flat.FlatAnswer.{FlatAnswer}
 use Rattle.flat.specs.Flat.{flat}
 

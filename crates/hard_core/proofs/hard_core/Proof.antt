@@ -10,10 +10,10 @@ use Rattle.admission.specs.Calls.{HardCall, hardCall}
 use Rattle.admission.specs.Accepted.{HardAccepted}
 use Rattle.hard.specs.SelectLaws.{select-beyond}
 use Rattle.demand.specs.Ready.{ready-logical, ready-physical, logical-winner, physical-winner}
-use Rattle.decode_hard.specs.HardLaws.{core-refused, core-physical-refused, core-judged}
+use Rattle.hard_core.specs.HardLaws.{core-refused, core-physical-refused, core-judged}
 use borrow.Author.Needs.{needs}
-use Rattle.decode_hard.proofs.hard_core.Statement.{statement}
-use Rattle.decode_hard.proofs.hard_core.Tie as tie
+use Rattle.hard_core.proofs.hard_core.Statement.{statement}
+use Rattle.hard_core.proofs.hard_core.Tie as tie
 
 -- what the function was given
 module _ (s : tie.Start) where

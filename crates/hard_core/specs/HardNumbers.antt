@@ -32,7 +32,7 @@ use Rattle.demand.specs.Demand.{OnBoard, Same}
 use Rattle.demand.specs.DemandLaws.{same-or-not}
 use Rattle.demand.specs.OneSelection.{NoneWithinLimit, SomeWithinLimit, NoneLeads, Winner, Ended, ended, refused-none, none-refused, refused-within, within-refused, some-winner, winner-some, winner-most}
 use Rattle.demand.specs.Winners.{winner-leads}
-use Rattle.decode_hard.specs.Hard.{afterPhysical, afterLogical, hardCore}
+use Rattle.hard_core.specs.Hard.{afterPhysical, afterLogical, hardCore}
 
 module _ (call : HardCall) (m n : ℕ) (A : HardAccepted call m n) where
   -- the two lists, and the winner of each, in short

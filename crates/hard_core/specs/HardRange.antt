@@ -23,8 +23,8 @@ use Rattle.hard.specs.WeighedLaws.{winner-within}
 use Rattle.verdict.specs.Verdict.{decodedOf}
 use Rattle.verdict.specs.VerdictTheorems.{never-both, judged-is}
 use Rattle.demand.specs.FoundRange.{FloatsFinite, AnswerInRange, on-flat-board}
-use Rattle.decode_hard.specs.Hard.{afterPhysical, afterLogical, hardCore}
-use Rattle.decode_hard.specs.HardTheorems.{hard-sound}
+use Rattle.hard_core.specs.Hard.{afterPhysical, afterLogical, hardCore}
+use Rattle.hard_core.specs.HardTheorems.{hard-sound}
 
 -- the floats of a found answer are finite, and its margin is at most its hits
 abbrev Found-floats : Decoded → Type 0

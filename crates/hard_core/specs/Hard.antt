@@ -6,24 +6,22 @@ use Prim.Native.Nat.{ℕ, _-_}
 use lib.ListN.{getD, length}
 use lib.IntN.{pos}
 use lib.Ieee.{Float, nan, binary32, ofInt}
-use Rattle.laws.specs.Words.{zeroF, oneF}
+use Rattle.laws.specs.Words.{oneF}
 use Rattle.laws.specs.Cleared.{SameBeyond}
 use Rattle.board.specs.Hits.{EdgeList, Board, size}
 use Rattle.room.specs.Room.{tablesRoom}
 use Rattle.admission.specs.Calls.{HardCall}
-use Rattle.admission.specs.Refusals.{hardAdmission}
 use Rattle.scan.specs.declared.scan.Candidate.{Candidate}
 use Rattle.scan.specs.declared.scan.RunnerUp.{RunnerUp}
 use Rattle.hard.specs.declared.select.Selection.{Selection}
 use Rattle.hard.specs.declared.select.Selection.the-variants as sel
 use Rattle.figures.specs.Figures.{rateOf, meanOf}
 use Rattle.figures.specs.Gate.{passed}
-use Rattle.hard.specs.Select.{selection}
+use Rattle.hard.specs.Select.{selection, Rooms, builtTo}
 use Rattle.answer.specs.declared.Decoded.{Decoded}
 use Rattle.answer.specs.declared.Answer.{Answer}
 use Rattle.answer.specs.declared.Answer.the-variants.{Found, Refused}
-use Rattle.verdict.specs.Verdict.{whenAccepted, judged}
-use Rattle.demand.specs.Left.{left}
+use Rattle.verdict.specs.Verdict.{judged}
 
 -- "select on the logical list with the limit, then on the physical list with limit 1; origin and matrix must agree; then the gate on the logical list"
 abbrev pub afterPhysical : EdgeList → List ℕ → Candidate → RunnerUp → Selection → Answer
@@ -39,19 +37,22 @@ unfoldable pub hardCore : HardCall → Answer
 unfolding judged
 hardCore call = afterLogical call (selection (call .board) (call .logical) (call .transforms) (call .error-limit))
 
--- the answer for all inputs: the early refusals come first
-unfoldable pub hardAnswer : HardCall → ℕ → ℕ → Answer
-unfolding hardCore
-hardAnswer call m n = whenAccepted (hardAdmission call m n) (hardCore call)
+-- ---- what the core leaves to be cleared
+-- after the logical list's selection: where that was refused the room as it left it, else the physical list's tables of the last transform
+unfoldable pub PhysicalRooms : Selection → HardCall → List ℕ → List ℕ → List Float → List Float → Type 0
+PhysicalRooms (sel.Refused r) call c c' w w' = (c' ≡ c) × (w' ≡ w)
+PhysicalRooms (sel.Selected x runner) call c c' w w' = Rooms (call .board) (call .physical) (call .transforms) (builtTo (call .physical) (call .transforms)) c c' w w'
 
--- what hard decode promises for all inputs: the answer, and both room slices at exit
-pub record HardDone (call : HardCall) (c c' : List ℕ) (w w' : List Float) (r : Answer) : Type 0 where
-  pub answer : r ≡ hardAnswer call (length c) (length w)
-  pub counts : c' ≡ left 0 (tablesRoom (call .board)) (hardAdmission call (length c) (length w)) c
-  pub weights : w' ≡ left zeroF (tablesRoom (call .board)) (hardAdmission call (length c) (length w)) w
+-- the logical list's tables of the last transform, and over them the physical list's
+pub record CoreRooms (call : HardCall) (c c' : List ℕ) (w w' : List Float) : Type 0 where
+  pub counts : List ℕ
+  pub weights : List Float
+  pub logical : Rooms (call .board) (call .logical) (call .transforms) (builtTo (call .logical) (call .transforms)) c counts w weights
+  pub physical : PhysicalRooms (selection (call .board) (call .logical) (call .transforms) (call .error-limit)) call counts c' weights w'
 
--- what the core leaves to be cleared
+-- the answer, and both room slices: used, with their surplus as it was
 pub record CoreDone (call : HardCall) (c c' : List ℕ) (w w' : List Float) (r : Answer) : Type 0 where
   pub answer : r ≡ hardCore call
+  pub rooms : CoreRooms call c c' w w'
   pub counts : SameBeyond 0 (tablesRoom (call .board)) c c'
   pub weights : SameBeyond nan (tablesRoom (call .board)) w w'

@@ -18,9 +18,9 @@ use Rattle.verdict.specs.Verdict.{agreed}
 use Rattle.demand.specs.Demand.{AgreesPhysical}
 use Rattle.demand.specs.Late.{LogicalKept}
 use Rattle.demand.specs.OneSelection.{Winner, some-winner, winner-some, winner-most}
-use Rattle.decode_hard.specs.Hard.{hardCore}
-use Rattle.decode_hard.specs.HardLate.{WinnersDiffer, NoneAhead, HardLate}
-use Rattle.decode_hard.specs.HardNumbers.{ListsDisagree, HardNotAhead, hard-10, hard-11, hard-12, hard-13}
+use Rattle.hard_core.specs.Hard.{hardCore}
+use Rattle.hard_core.specs.HardLate.{WinnersDiffer, NoneAhead, HardLate}
+use Rattle.hard_core.specs.HardNumbers.{ListsDisagree, HardNotAhead, hard-10, hard-11, hard-12, hard-13}
 
 module _ (call : HardCall) (m n : ℕ) (A : HardAccepted call m n) where
   abbrev LogicalWin : Type 0

@@ -26,8 +26,8 @@ use Rattle.refusals.specs.Numbers as why
 use Rattle.answer.specs.declared.Decoded.{Decoded}
 use Rattle.answer.specs.declared.Answer.the-variants.{Found}
 use Rattle.verdict.specs.Verdict.{refusedBy, agreed, decodedOf, pick, judged}
-use Rattle.decode_hard.specs.HardDemand.{HardAnswered}
-use Rattle.decode_hard.specs.Hard.{afterPhysical, afterLogical, hardCore}
+use Rattle.hard_core.specs.HardDemand.{HardAnswered}
+use Rattle.hard_core.specs.Hard.{afterPhysical, afterLogical, hardCore}
 use Rattle.verdict.specs.VerdictTheorems.{never-both}
 use Rattle.demand.specs.Demand.{Leads, AgreesPhysical, Tells}
 use Rattle.demand.specs.DemandLaws.{keyOf, key-same, leads-sole}

@@ -67,9 +67,9 @@ soft-in-range call m n k A d e =
     let P = a .square in
     let h = call .hard in
     record {
-      square = on-flat-board (h .board) (h .transforms) P (d .square) (A .hard .transforms) (A .hard .periods) (a .leads .on-board) (a .names);
-      hits = omega (arith, a .hits, a .edges, hits-le (h .board) (h .physical) (getD (h .transforms) (P .listed) 0) (P .row) (P .col));
-      edges = omega (arith, a .edges, A .hard .physical .few);
-      runner-up = on-flat-board (h .board) (h .transforms) (a .runner-up) (d .«runner_up») (A .hard .transforms) (A .hard .periods) (a .runs-up .on-board) (a .runner-up-named);
+      square = on-flat-board (h .board) (h .transforms) P (d .square) (A .hard .transforms) (A .hard .periods) (a .leads .on-board) (a .tells .square);
+      hits = omega (arith, a .tells .hits, a .tells .edges, hits-le (h .board) (h .physical) (getD (h .transforms) (P .listed) 0) (P .row) (P .col));
+      edges = omega (arith, a .tells .edges, A .hard .physical .few);
+      runner-up = on-flat-board (h .board) (h .transforms) (a .runner-up) (d .«runner_up») (A .hard .transforms) (A .hard .periods) (a .runs-up .on-board) (a .tells .runner-up);
       floats = soft-floats call m n k A d e;
     }

@@ -1,6 +1,7 @@
--- What a call is given, but for the lent room, as one record.
+-- What a call is given, and the room that it is lent, as one record each.
 use mathlib.Core.List.{List}
 use Prim.Native.Nat.{ℕ}
+use lib.IntN.{ℤ}
 use lib.Ieee.{Float}
 use Rattle.board.specs.Hits.{EdgeList, Board}
 use Rattle.likelihood.specs.Likelihood.{Likelihoods}
@@ -18,6 +19,17 @@ pub record SoftCall : Type 0 where
   pub hard : HardCall
   pub likelihoods : Likelihoods
   pub soft-margin : Float
+
+-- the room that a hard call is lent
+pub record HardRoom : Type 0 where
+  pub counts : List ℕ
+  pub weights : List Float
+
+-- a soft call
+pub record SoftRoom : Type 0 where
+  pub counts : List ℕ
+  pub weights : List Float
+  pub sums : List ℤ
 
 -- a call from its parts, in the order of the entry points
 abbrev pub hardCall : EdgeList → EdgeList → List ℕ → Board → Float → HardCall

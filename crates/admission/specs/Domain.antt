@@ -1,70 +1,57 @@
--- Document 01, 'Numbers that bound the domain', as plain facts: which calls are accepted. `Weight x n` (laws) is a finite float from 0 to n, -0 included; `Within`
--- (likelihood) is a finite float from -65,536 to 65,536. DomainLaws.antt proves that a call is accepted exactly when it is in its domain.
+-- THE DOMAIN: the conditions on a call before any work is done, as plain facts, each with its number of document 01's 'Refusal numbers' and C-11's 16 and 17, in their order. The bounds are
+-- those of 'Numbers that bound the domain'. DomainLaws.antt proves that a call is accepted exactly when all are met, and else refused by the number of the first that is not.
 use mathlib.Core.Path.{_≡_}
-use mathlib.Core.List.{List}
+use mathlib.Core.Bool.{true, false}
+use mathlib.Core.List.{List, [], _∷_}
 use Prim.Native.Nat.{ℕ, _≤_, _<_}
 use lib.ListN.{getD, length}
 use lib.IntN.{pos, natAbs}
-use lib.Ieee.{nan}
-use Rattle.laws.specs.Words.{Weight}
+use lib.Ieee.{Float, nan, fin, le}
+use Rattle.laws.specs.Words.{zeroF, oneF}
 use Rattle.board.specs.Hits.{EdgeList, Board, size}
-use Rattle.likelihood.specs.LikelihoodLaws.{Within}
-use Rattle.admission.specs.Calls.{HardCall, SoftCall}
+use Rattle.admission.specs.Calls.{HardCall, SoftCall, HardRoom, SoftRoom}
+use Rattle.admission.specs.Conditions.{Condition}
 
--- "A list has 1 to 8,192 edges (match statistics also take 0). Row and column are from -1,000,000 to 1,000,000. Orientation code is 0 horizontal, 1 vertical.
--- Bit is 0 or 1." "Confidence is an f32 from 0 to 1. Negative zero counts as 0."
-pub record ListDomain (least : ℕ) (E : EdgeList) : Type 0 where
-  pub some : least ≤ size E
-  pub few : size E ≤ 8192
-  pub cols : length (E .cols) ≡ size E
-  pub orientations : length (E .orientations) ≡ size E
-  pub bits : length (E .bits) ≡ size E
-  pub confidences : length (E .confidences) ≡ size E
-  pub row : (i : ℕ) → i < size E → natAbs (getD (E .rows) i (pos 0)) ≤ 1000000
-  pub col : (i : ℕ) → i < size E → natAbs (getD (E .cols) i (pos 0)) ≤ 1000000
-  pub orientation : (i : ℕ) → i < size E → getD (E .orientations) i 0 ≤ 1
-  pub bit : (i : ℕ) → i < size E → getD (E .bits) i 0 ≤ 1
-  pub confidence : (i : ℕ) → i < size E → Weight (getD (E .confidences) i nan) 1
+-- no number of a column is above `most`
+abbrev pub AtMost : ℕ → List ℕ → Type 0
+AtMost most xs = (i : ℕ) → i < length xs → getD xs i 0 ≤ most
 
--- "1 to 8 transform numbers, each 0 to 7; repeats are allowed."
-pub record TransformsDomain (ts : List ℕ) : Type 0 where
-  pub some : 1 ≤ length ts
-  pub few : length ts ≤ 8
-  pub number : (i : ℕ) → i < length ts → getD ts i 0 ≤ 7
+-- a float from `least` to `most`: no NaN is one, and -0 counts as 0
+abbrev pub Between : Float → Float → Float → Type 0
+Between least most x = (le least x ≡ true) × (le x most ≡ true)
 
--- "Two pattern tables, horizontal and vertical, 167 bytes each, each byte 0 to 7."
-pub record TableDomain (ps : List ℕ) : Type 0 where
-  pub bytes : length ps ≡ 167
-  pub byte : (i : ℕ) → i < length ps → getD ps i 0 ≤ 7
+-- the conditions on every call. `each P` says that P holds of each list of the call, which has `least` edges or more. `columns` is asked of the lengths of the likelihoods, and
+-- `settings` of limit, margin or origin; a call without room or likelihoods is asked nothing of them
+unfoldable pub early : ((EdgeList → Type 0) → Type 0) → ℕ → List ℕ → Board → (room columns likelihoods settings : Type 0) → List Condition
+early each least transforms board room columns likelihoods settings =
+    (1, room)
+    ∷ (2, each (λ E. (length (E .cols) ≡ size E) × (length (E .orientations) ≡ size E) × (length (E .bits) ≡ size E) × (length (E .confidences) ≡ size E)) × columns)
+    ∷ (3, each (λ E. (least ≤ size E) × (size E ≤ 8192)))
+    ∷ (4, each (λ E. (i : ℕ) → i < size E → (natAbs (getD (E .rows) i (pos 0)) ≤ 1000000) × (natAbs (getD (E .cols) i (pos 0)) ≤ 1000000)))
+    ∷ (16, each (λ E. AtMost 1 (E .orientations)))
+    ∷ (17, each (λ E. AtMost 1 (E .bits)))
+    ∷ (5, each (λ E. (i : ℕ) → i < length (E .confidences) → Between zeroF oneF (getD (E .confidences) i nan)))
+    ∷ (6, likelihoods)
+    ∷ (7, (1 ≤ length transforms) × (length transforms ≤ 8) × AtMost 7 transforms)
+    ∷ (8, (length (board .h) ≡ 167) × AtMost 7 (board .h) × (length (board .v) ≡ 167) × AtMost 7 (board .v))
+    ∷ (9, settings) ∷ []
 
-pub record BoardDomain (B : Board) : Type 0 where
-  pub h : TableDomain (B .h)
-  pub v : TableDomain (B .v)
+-- a hard call with its room: "Room: 3,006 u32 and 3,006 f32", "Error limit: f32 from 0 to 1"
+unfoldable pub hardEarly : HardCall → HardRoom → List Condition
+hardEarly call room =
+    early (λ P. P (call .logical) × P (call .physical)) 1 (call .transforms) (call .board)
+    ((3006 ≤ length (room .counts)) × (3006 ≤ length (room .weights))) (Unit {0}) (Unit {0}) (Between zeroF oneF (call .error-limit))
 
--- a hard call, with the lengths of its room: "Error limit: f32 from 0 to 1." "Room: 3,006 u32 and 3,006 f32"
-pub record HardDomain (call : HardCall) (counts weights : ℕ) : Type 0 where
-  pub counts-room : 3006 ≤ counts
-  pub weights-room : 3006 ≤ weights
-  pub logical : ListDomain 1 (call .logical)
-  pub physical : ListDomain 1 (call .physical)
-  pub transforms : TransformsDomain (call .transforms)
-  pub board : BoardDomain (call .board)
-  pub error-limit : Weight (call .error-limit) 1
+-- a soft call: "soft also 5,010 i64", "Each log likelihood is a finite f32 from -65,536 to 65,536", "Soft margin: f32 from 0 to 65,536" (65,536 is `fin false 1 (pos 16)`)
+unfoldable pub softEarly : SoftCall → SoftRoom → List Condition
+softEarly call room =
+    let likely : Float → Type 0 = Between (fin true 1 (pos 16)) (fin false 1 (pos 16)) in
+    early (λ P. P (call .hard .logical) × P (call .hard .physical)) 1 (call .hard .transforms) (call .hard .board)
+    ((3006 ≤ length (room .counts)) × (3006 ≤ length (room .weights)) × (5010 ≤ length (room .sums)))
+    ((length (call .likelihoods .matches) ≡ size (call .hard .physical)) × (length (call .likelihoods .mismatches) ≡ size (call .hard .physical)))
+    ((i : ℕ) → i < size (call .hard .physical) → likely (getD (call .likelihoods .matches) i nan) × likely (getD (call .likelihoods .mismatches) i nan))
+    (Between zeroF oneF (call .hard .error-limit) × Between zeroF (fin false 1 (pos 16)) (call .soft-margin))
 
--- a soft call: "Each log likelihood is a finite f32 from -65,536 to 65,536." "Soft margin: f32 from 0 to 65,536." "soft also 5,010 i64"
-pub record SoftDomain (call : SoftCall) (counts weights sums : ℕ) : Type 0 where
-  pub hard : HardDomain (call .hard) counts weights
-  pub sums-room : 5010 ≤ sums
-  pub matches : length (call .likelihoods .matches) ≡ size (call .hard .physical)
-  pub mismatches : length (call .likelihoods .mismatches) ≡ size (call .hard .physical)
-  pub match : (i : ℕ) → i < size (call .hard .physical) → Within (getD (call .likelihoods .matches) i nan)
-  pub mismatch : (i : ℕ) → i < size (call .hard .physical) → Within (getD (call .likelihoods .mismatches) i nan)
-  pub soft-margin : Weight (call .soft-margin) 65536
-
--- match statistics: "An origin given to match statistics: 0 to 500 each way."
-pub record StatsDomain (E : EdgeList) (t row col : ℕ) (B : Board) : Type 0 where
-  pub list : ListDomain 0 E
-  pub transform : t ≤ 7
-  pub board : BoardDomain B
-  pub origin-row : row ≤ 500
-  pub origin-col : col ≤ 500
+-- match statistics, which have no room and also take no edges: "An origin given to match statistics: 0 to 500 each way"
+unfoldable pub statsEarly : EdgeList → ℕ → ℕ → ℕ → Board → List Condition
+statsEarly list transform row col board = early (λ P. P list) 0 (transform ∷ []) board (Unit {0}) (Unit {0}) (Unit {0}) ((row ≤ 500) × (col ≤ 500))

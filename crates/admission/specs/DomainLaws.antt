@@ -1,313 +1,308 @@
--- WHAT ACCEPTED MEANS, FROM BOTH SIDES: no early refusal exactly when the call is in its domain.
-use mathlib.Core.Path.{_≡_, refl, sym, ap, ap₂, _∙_}
-use mathlib.Core.Bool.{Bool, true, false, not, cond, _&&_, _||_, true≢false}
+-- WHAT IS ASKED IS WHAT IS CHECKED: no early refusal exactly when the call meets all conditions of Domain.antt, and else the number of the first that it does not meet.
+use mathlib.Core.Path.{_≡_, refl, sym, ap, _∙_}
+use mathlib.Core.Bool.{Bool, true, false, not, _&&_, _||_, true≢false}
 use mathlib.Core.Logic.{⊎-elim}
-use mathlib.Core.List.{List}
+use mathlib.Core.List.{List, [], _∷_}
 use Prim.Native.Nat.{ℕ, zero, suc, _+_, _*_, _^_, _≤_, _<_}
 use native.Mathlib.Nat.{le-refl, zero-lt-suc, zero-mul, one-mul, mul-one, mul-pos}
 use native.Mathlib.Omega.{arith}
-use lib.Dec.{T, ltb, eqb}
+use lib.Dec.{ltb, eqb}
 use lib.ListN.{getD, length}
 use lib.IntN.{ℤ, pos, negsuc, natAbs}
 use lib.Pow.{pow-pos}
 use lib.Ieee.Fits.{up-pos, down-pos}
 use lib.Ieee.{Float, nan, inf, fin, up, down, le, lt, eq}
-use borrow.Author.Tests.{eqb-true, ltb-true, ltb-false, lt-ltb, le-ltb, eq-eqb, ne-eqb, not-false}
+use borrow.Author.Tests.{eqb-true, eqb-false, ltb-true, ltb-false, lt-ltb, le-ltb, eq-eqb, ne-eqb, not-false}
 use Rattle.laws.specs.Tests.{or-true, or-false, and-true, compared}
 use Rattle.laws.specs.Words.{first, zeroF, oneF, Weight}
-use Rattle.laws.specs.First.{first-least}
-use Rattle.laws.specs.WeightLaws.{confidence}
+use Rattle.laws.specs.First.{first-least, first-none}
 use Rattle.board.specs.Hits.{EdgeList, Board, size}
 use Rattle.likelihood.specs.Likelihood.{acceptable}
-use Rattle.likelihood.specs.LikelihoodLaws.{Within, acceptable-within, within-acceptable}
-use Rattle.refusals.specs.declared.Admission.the-variants.{Accepted}
+use Rattle.refusals.specs.declared.Refusal.{Refusal}
+use Rattle.refusals.specs.declared.Admission.{Admission}
+use Rattle.refusals.specs.declared.Admission.the-variants.{Accepted, Refused}
+use Rattle.refusals.specs.declared.ListName.{ListName}
 use Rattle.refusals.specs.declared.ListName.the-variants as list
-use Rattle.room.specs.Room.{flatTables, flatSums}
-use Rattle.checks.specs.Checks.{far, farAt, badCoordinate, badLikelihood, firstBadCoordinate, firstBadLikelihood, lengthsDiffer, sizeBad, likelihoodsDiffer, originBad}
+use Rattle.room.specs.Room.{flatTables}
+use Rattle.checks.specs.Checks.{far, badCoordinate, badLikelihood, firstBadCoordinate, firstBadLikelihood, lengthsDiffer, sizeBad, likelihoodsDiffer, originBad}
 use Rattle.ranges.specs.Ranges.{badByte, inRange, marginTop, badConfidence, firstBadByte, firstBadConfidence, transformsBad, tableBad}
-use Rattle.findings.specs.Findings.{joined, roomFindings, listFindings, likelihoodFindings, settingsFindings}
-use Rattle.findings.specs.FindingsLaws.{Clean, of-clean, clean-joined}
-use Rattle.admission.specs.Calls.{HardCall, SoftCall}
-use Rattle.admission.specs.Refusals.{tablesBad, roomShort, softRoomShort, bothLists, softLikelihoods, softSettingsBad, hardAdmission, softAdmission, statsAdmission}
-use Rattle.admission.specs.Accepted.{ListTests, list-clean, both-clean, bytes-ok, list-ok, size-ok, transforms-ok, patterns-ok, period-167, HardTests, hard-tests-of, SoftTests, soft-tests-of, soft-accepted, StatsTests, stats-tests-of, stats-accepted}
-use Rattle.admission.specs.Domain.{ListDomain, TransformsDomain, TableDomain, BoardDomain, HardDomain, SoftDomain, StatsDomain}
+use Rattle.findings.specs.Findings.{refusedIf, refusedAt, orElse, firstOf, firstFound, roomFindings, listFindings, likelihoodFindings, settingsFindings}
+use Rattle.admission.specs.Calls.{HardCall, SoftCall, HardRoom, SoftRoom}
+use Rattle.admission.specs.Refusals.{tablesBad, roomShort, softRoomShort, hardAdmission, softAdmission, statsAdmission, hardChecked, softChecked}
+use Rattle.admission.specs.Conditions.{AllMet, FirstFails}
+use Rattle.admission.specs.ConditionLaws.{Tests, Judged, judged-if, judged-at, judged-none, judged-both, judged-alone, judged-same, Judges, judges-none, judges-row}
+use Rattle.admission.specs.Domain.{AtMost, Between, early, hardEarly, softEarly, statsEarly}
 
 -- ---- tests and facts
-or-none : (p q : Bool) → p ≡ false → q ≡ false → (p || q) ≡ false
-or-none p q a b = rw (a, b)
+-- two tests, of which neither is to hold
+or-tested : {p q : Bool} {P Q : Type 0} → Tests p P → Tests q Q → Tests (p || q) (P × Q)
+or-tested {p} {q} s t = ((λ e. let o = or-false p q e in (s .0 (o .0), t .0 (o .1))), λ h. none p q (s .1 (h .0)) (t .1 (h .1)))
+  where
+    none : (p q : Bool) → p ≡ false → q ≡ false → (p || q) ≡ false
+    none p q a b = rw (a, b)
 
-or-left : (p q : Bool) → p ≡ true → (p || q) ≡ true
-or-left p q a = rw a
+-- two tests that are both to hold
+and-tested : (p q : Bool) {P Q : Type 0} → Tests (not p) P → Tests (not q) Q → Tests (not (p && q)) (P × Q)
+and-tested p q s t = ((λ e. let o = and-true p q (not-false _ e) in (s .0 (ap not (o .0)), t .0 (ap not (o .1)))), λ h. both p q (s .1 (h .0)) (t .1 (h .1)))
+  where
+    both : (p q : Bool) → not p ≡ false → not q ≡ false → not (p && q) ≡ false
+    both p q a b = rw (not-false p a, not-false q b)
 
-and-both : (p q : Bool) → p ≡ true → q ≡ true → (p && q) ≡ true
-and-both p q a b = rw (a, b)
+at-most-tested : (most n : ℕ) → Tests (ltb most n) (n ≤ most)
+at-most-tested most n = ((λ e. ltb-false most n e), λ h. le-ltb most n h)
 
-not-not : (p : Bool) → p ≡ true → not p ≡ false
-not-not p a = rw a
+at-least-tested : (least n : ℕ) → Tests (ltb n least) (least ≤ n)
+at-least-tested least n = ((λ e. ltb-false n least e), λ h. le-ltb n least h)
 
--- no place is bad
-none-first : (p : ℕ → Bool) (n : ℕ) → ((i : ℕ) → i < n → p i ≡ false) → ltb (first p n) n ≡ false
-none-first p n h = let e : first p n ≡ n = first-least p n n (le-refl n) h (λ l. absurd (omega arith)) in le-ltb (first p n) n (omega arith)
+same-tested : (a b : ℕ) → Tests (not (eqb a b)) (b ≡ a)
+same-tested a b = ((λ e. sym (eqb-true a b (not-false _ e))), λ h. ap not (eq-eqb a b (sym h)))
 
-bytes-small : (top : ℕ) (xs : List ℕ) → ((i : ℕ) → i < length xs → getD xs i 0 ≤ top) → ltb (firstBadByte top xs) (length xs) ≡ false
-unfolding firstBadByte
-bytes-small top xs h = none-first (badByte top xs) (length xs) (λ i l. le-ltb top (getD xs i 0) (h i l))
+-- a test that is to hold
+so-tested : (p : Bool) → Tests (not p) (p ≡ true)
+so-tested p = ((λ e. not-false p e), λ h. ap not h)
 
-not-far : (z : ℤ) → natAbs z ≤ 1000000 → far z ≡ false
-unfolding far
-not-far (pos n) h = le-ltb 1000000 n h
-not-far (negsuc n) h = or-none (ltb 999999 n) _ (le-ltb 999999 n (omega arith)) refl
-
--- ---- floats from 0 to 2 ^ k
-le-of : (a b : ℕ) (t : Bool) → (ltb a b || (eqb a b && t)) ≡ true → a ≤ b
-le-of a b t h = ⊎-elim (λ e. let l = ltb-true a b e in omega arith) (λ e. let q = eqb-true a b (and-true (eqb a b) t e .0) in omega arith) (or-true (ltb a b) _ h)
-
-of-le : (a b : ℕ) → a ≤ b → (ltb a b || (eqb a b && true)) ≡ true
-of-le a b h = ⊎-elim (λ l. rw (lt-ltb a b l)) (λ l. let e : a ≡ b = omega arith in rw (le-ltb a b l, eq-eqb a b e)) (compared a b)
-
--- the largest of a range
-abbrev top : ℕ → Float
-top k = fin false 1 (pos k)
-
-none-left : (m u : ℕ) → 0 < u → m * u ≡ 0 → m ≡ 0
-none-left zero u h k = refl
-none-left (suc m) u h k = let p = mul-pos (zero-lt-suc m) h in absurd (omega arith)
-
--- a number from 0 to 2 ^ k, -0 included
-pub range-taken : (k : ℕ) (x : Float) → inRange (top k) x ≡ true → Weight x (2 ^ k)
-unfolding inRange le lt eq
-range-taken k nan h = absurd (true≢false (sym h))
-range-taken k (inf true) h = absurd (true≢false (sym h))
-range-taken k (inf false) h = absurd (true≢false (sym h))
-range-taken k (fin true m e) h =
-    let a = and-true (le zeroF (fin true m e)) _ h .0 in
-    let q = and-true (eqb (0 * down e) (m * up e * 1)) _ a .0 in
-    let z : 0 ≡ m * up e = sym (zero-mul (down e)) ∙ eqb-true _ _ q ∙ mul-one (m * up e) in
-    none-left m (up e) (up-pos e) (sym z)
-range-taken k (fin false m e) h =
-    let a = and-true (le zeroF (fin false m e)) (le (fin false m e) (top k)) h .1 in
-    rw (mul-one, one-mul) at (le-of (m * up e * 1) (1 * 2 ^ k * down e) true a)
-
-pub range-in : (k : ℕ) (x : Float) → Weight x (2 ^ k) → inRange (top k) x ≡ true
-unfolding inRange le lt eq
-range-in k (fin true m e) h =
-    let z : 0 * down e ≡ m * up e * 1 = rw (h, zero-mul, zero-mul, zero-mul) in
-    let p : 0 < m * up e * 1 + 1 * 2 ^ k * down e = let q = mul-pos (mul-pos (zero-lt-suc 0) (pow-pos k)) (down-pos e) in omega arith in
-    and-both (eqb (0 * down e) (m * up e * 1) && (eqb (0 * down e) 0)) _ (and-both _ _ (eq-eqb _ _ z) (eq-eqb _ _ (zero-mul (down e)))) (or-left (ltb 0 (m * up e * 1 + 1 * 2 ^ k * down e)) _ (lt-ltb _ _ p))
-range-in k (fin false m e) h =
-    and-both _ _ (of-le (0 * down e) (m * up e * 1) (rw zero-mul (omega arith))) (of-le (m * up e * 1) (1 * 2 ^ k * down e) (rw (mul-one, one-mul) h))
+-- no place of n is bad
+first-tested : (bad : ℕ → Bool) (n : ℕ) (Good : ℕ → Type 0) → ((i : ℕ) → Tests (bad i) (Good i)) → Tests (ltb (first bad n) n) ((i : ℕ) → i < n → Good i)
+first-tested bad n Good t = ((λ e i l. t i .0 (first-none bad n (ltb-false (first bad n) n e) i l)), λ h. none (λ i l. t i .1 (h i l)))
+  where
+    none : ((i : ℕ) → i < n → bad i ≡ false) → ltb (first bad n) n ≡ false
+    none h = let e : first bad n ≡ n = first-least bad n n (le-refl n) h (λ l. absurd (omega arith)) in le-ltb (first bad n) n (omega arith)
 
 -- ---- one list
-module _ (least : ℕ) (E : EdgeList) where
-  pub list-domain : ListTests least E → ListDomain least E
-  list-domain t =
-      let k = list-ok least E t in
-      record {
-        some = size-ok least (size E) (t .sizes);
-        few = k .few;
-        cols = k .cols;
-        orientations = k .orientations;
-        bits = k .bits;
-        confidences = k .confidences;
-        row = k .near-row;
-        col = k .near-col;
-        orientation = λ i l. bytes-ok 1 (E .orientations) (t .orientations) i (omega (arith, k .orientations, l));
-        bit = λ i l. let b = k .bit i l in omega arith;
-        confidence = k .confidence;
-      }
+far-tested : (z : ℤ) → Tests (far z) (natAbs z ≤ 1000000)
+unfolding far
+far-tested (pos n) = at-most-tested 1000000 n
+far-tested (negsuc n) = (
+  (λ e. let a : n ≤ 999999 = ltb-false _ _ (or-false (ltb 999999 n) _ e .0) in omega arith),
+  λ h. none (ltb 999999 n) (le-ltb 999999 n (omega arith)),
+)
+  where
+    none : (p : Bool) → p ≡ false → (p || false) ≡ false
+    none p a = rw a
 
-  pub list-tested : ListDomain least E → ListTests least E
-  unfolding lengthsDiffer sizeBad firstBadCoordinate firstBadConfidence
-  list-tested D = record {
-    lengths = not-not _ (and-both _ _ (eq-eqb _ _ (sym (D .cols))) (and-both _ _ (eq-eqb _ _ (sym (D .orientations))) (and-both _ _ (eq-eqb _ _ (sym (D .bits))) (eq-eqb _ _ (sym (D .confidences))))));
-    sizes = or-none _ _ (le-ltb (size E) least (D .some)) (le-ltb 8192 (size E) (D .few));
-    coordinates = none-first (badCoordinate (E .rows) (E .cols)) (size E) (λ i l. or-none _ _ (not-far (getD (E .rows) i (pos 0)) (D .row i l)) (not-far (getD (E .cols) i (pos 0)) (D .col i l)));
-    orientations = bytes-small 1 (E .orientations) (λ i l. D .orientation i (omega (arith, D .orientations, l)));
-    bits = bytes-small 1 (E .bits) (λ i l. D .bit i (omega (arith, D .bits, l)));
-    confidences = none-first (badConfidence (E .confidences)) (length (E .confidences)) (λ i l. not-not _ (range-in 0 (getD (E .confidences) i nan) (D .confidence i (omega (arith, D .confidences, l)))));
-  }
+bytes-tested : (most : ℕ) (xs : List ℕ) → Tests (ltb (firstBadByte most xs) (length xs)) (AtMost most xs)
+unfolding firstBadByte
+bytes-tested most xs = first-tested (badByte most xs) (length xs) (λ i. getD xs i 0 ≤ most) (λ i. at-most-tested most (getD xs i 0))
 
--- ---- transforms and tables
-pub transforms-domain : (ts : List ℕ) → transformsBad ts ≡ false → TransformsDomain ts
-transforms-domain ts h = let k = transforms-ok ts h in record { some = k .some; few = k .few; number = λ i l. let b = k .small i l in omega arith }
+between-tested : (top x : Float) → Tests (not (inRange top x)) (Between zeroF top x)
+unfolding inRange
+between-tested top x = and-tested (le zeroF x) (le x top) (so-tested (le zeroF x)) (so-tested (le x top))
 
-pub transforms-good : (ts : List ℕ) → TransformsDomain ts → transformsBad ts ≡ false
+module _ (E : EdgeList) where
+  lengths-tested : Tests (lengthsDiffer E) ((length (E .cols) ≡ size E) × (length (E .orientations) ≡ size E) × (length (E .bits) ≡ size E) × (length (E .confidences) ≡ size E))
+  unfolding lengthsDiffer
+  lengths-tested =
+      let n = size E in
+      let t = and-tested (eqb n (length (E .cols))) _ (same-tested n (length (E .cols))) (and-tested (eqb n (length (E .orientations))) _ (same-tested n (length (E .orientations)))
+      (and-tested (eqb n (length (E .bits))) (eqb n (length (E .confidences))) (same-tested n (length (E .bits))) (same-tested n (length (E .confidences))))) in (
+        (λ e. let h = t .0 e in (h .0, h .1 .0, h .1 .1 .0, h .1 .1 .1)),
+        λ h. t .1 (h .0, (h .1, (h .2, h .3))),
+      )
+
+  sizes-tested : (least : ℕ) → Tests (sizeBad least (size E)) ((least ≤ size E) × (size E ≤ 8192))
+  unfolding sizeBad
+  sizes-tested least = or-tested (at-least-tested least (size E)) (at-most-tested 8192 (size E))
+
+  coordinates-tested : Tests (ltb (firstBadCoordinate (E .rows) (E .cols)) (size E)) ((i : ℕ) → i < size E → (natAbs (getD (E .rows) i (pos 0)) ≤ 1000000) × (natAbs (getD (E .cols) i (pos 0)) ≤ 1000000))
+  unfolding firstBadCoordinate
+  coordinates-tested = first-tested (badCoordinate (E .rows) (E .cols)) (size E) _ (λ i. or-tested (far-tested (getD (E .rows) i (pos 0))) (far-tested (getD (E .cols) i (pos 0))))
+
+  confidences-tested : Tests (ltb (firstBadConfidence (E .confidences)) (length (E .confidences))) ((i : ℕ) → i < length (E .confidences) → Between zeroF oneF (getD (E .confidences) i nan))
+  unfolding firstBadConfidence
+  confidences-tested = first-tested (badConfidence (E .confidences)) (length (E .confidences)) _ (λ i. between-tested oneF (getD (E .confidences) i nan))
+
+-- ---- transforms, tables
+transforms-tested : (ts : List ℕ) → Tests (transformsBad ts) ((1 ≤ length ts) × (length ts ≤ 8) × AtMost 7 ts)
 unfolding transformsBad
-transforms-good ts D = or-none _ _ (ne-eqb (length ts) 0 (λ e. omega (arith, D .some, e))) (or-none _ _ (le-ltb 8 (length ts) (D .few)) (bytes-small 7 ts (D .number)))
+transforms-tested ts =
+    let some : Tests (eqb (length ts) 0) (1 ≤ length ts) = ((λ e. let z : length ts ≡ 0 → ⊥ = eqb-false _ _ e in omega arith), λ h. ne-eqb (length ts) 0 (λ e. omega (arith, h, e))) in
+    let t = or-tested some (or-tested (at-most-tested 8 (length ts)) (bytes-tested 7 ts)) in
+    ((λ e. let h = t .0 e in (h .0, h .1 .0, h .1 .1)), λ h. t .1 (h .0, (h .1, h .2)))
 
-table-domain : (ps : List ℕ) → tableBad ps ≡ false → TableDomain ps
-table-domain ps h = let k = patterns-ok ps h in record { bytes = period-167 ps h; byte = λ i l. let b = k .small i l in omega arith }
-
-table-good : (ps : List ℕ) → TableDomain ps → tableBad ps ≡ false
+table-tested : (ps : List ℕ) → Tests (tableBad ps) ((length ps ≡ 167) × AtMost 7 ps)
 unfolding tableBad
-table-good ps D = or-none _ _ (not-not _ (eq-eqb _ _ (D .bytes))) (bytes-small 7 ps (D .byte))
+table-tested ps = let same : Tests (not (eqb (length ps) 167)) (length ps ≡ 167) = ((λ e. eqb-true _ _ (not-false _ e)), λ h. ap not (eq-eqb _ _ h)) in or-tested same (bytes-tested 7 ps)
 
-pub board-domain : (B : Board) → tablesBad B ≡ false → BoardDomain B
-board-domain B h = let a = or-false (tableBad (B .h)) (tableBad (B .v)) h in record { h = table-domain (B .h) (a .0); v = table-domain (B .v) (a .1) }
+tables-tested : (B : Board) → Tests (tablesBad B) ((length (B .h) ≡ 167) × AtMost 7 (B .h) × (length (B .v) ≡ 167) × AtMost 7 (B .v))
+tables-tested B =
+    let t = or-tested (table-tested (B .h)) (table-tested (B .v)) in
+    ((λ e. let h = t .0 e in (h .0 .0, h .0 .1, h .1 .0, h .1 .1)), λ h. t .1 ((h .0, h .1), (h .2, h .3)))
 
-pub board-good : (B : Board) → BoardDomain B → tablesBad B ≡ false
-board-good B D = or-none _ _ (table-good (B .h) (D .h)) (table-good (B .v) (D .v))
+-- ---- what is found of each kind judges its condition: in one list
+lengths-judged : (l : ListName) (E : EdgeList) → Judged (refusedIf (lengthsDiffer E) 2) 2 ((length (E .cols) ≡ size E) × (length (E .orientations) ≡ size E) × (length (E .bits) ≡ size E) × (length (E .confidences) ≡ size E))
+lengths-judged l E = judged-if (lengthsDiffer E) 2 (lengths-tested E)
 
--- ---- parts in which nothing is found
-room-clean : (short : Bool) → short ≡ false → Clean (roomFindings short)
-unfolding roomFindings
-room-clean short h = record {
-  room = rw h;
-  lengths = refl;
-  size = refl;
-  coordinate = refl;
-  orientation = refl;
-  bit = refl;
-  confidence = refl;
-  likelihood = refl;
-  transform = refl;
-  table = refl;
-  setting = refl;
-}
+sizes-judged : (least : ℕ) (l : ListName) (E : EdgeList) → Judged (refusedIf (sizeBad least (size E)) 3) 3 ((least ≤ size E) × (size E ≤ 8192))
+sizes-judged least l E = judged-if (sizeBad least (size E)) 3 (sizes-tested E least)
 
-settings-clean : (a b c : Bool) → a ≡ false → b ≡ false → c ≡ false → Clean (settingsFindings a b c)
-unfolding settingsFindings
-settings-clean a b c p q r = record {
-  room = refl;
-  lengths = refl;
-  size = refl;
-  coordinate = refl;
-  orientation = refl;
-  bit = refl;
-  confidence = refl;
-  likelihood = refl;
-  transform = rw p;
-  table = rw q;
-  setting = rw r;
-}
+coordinates-judged : (l : ListName) (E : EdgeList)
+    → Judged (refusedAt 4 l (firstBadCoordinate (E .rows) (E .cols)) (size E)) 4 ((i : ℕ) → i < size E → (natAbs (getD (E .rows) i (pos 0)) ≤ 1000000) × (natAbs (getD (E .cols) i (pos 0)) ≤ 1000000))
+coordinates-judged l E = judged-at 4 l (firstBadCoordinate (E .rows) (E .cols)) (size E) (coordinates-tested E)
 
-likelihoods-clean : (n : ℕ) (ms us : List Float) → likelihoodsDiffer n ms us ≡ false → sizeBad 0 (length ms) ≡ false → ltb (firstBadLikelihood ms us) (length ms) ≡ false → Clean (likelihoodFindings n ms us)
-unfolding likelihoodFindings
-likelihoods-clean n ms us p q r = record {
-  room = refl;
-  lengths = rw p;
-  size = rw q;
-  coordinate = refl;
-  orientation = refl;
-  bit = refl;
-  confidence = refl;
-  likelihood = rw r;
-  transform = refl;
-  table = refl;
-  setting = refl;
-}
+orientations-judged : (l : ListName) (E : EdgeList) → Judged (refusedAt 16 l (firstBadByte 1 (E .orientations)) (length (E .orientations))) 16 (AtMost 1 (E .orientations))
+orientations-judged l E = judged-at 16 l (firstBadByte 1 (E .orientations)) (length (E .orientations)) (bytes-tested 1 (E .orientations))
+
+bits-judged : (l : ListName) (E : EdgeList) → Judged (refusedAt 17 l (firstBadByte 1 (E .bits)) (length (E .bits))) 17 (AtMost 1 (E .bits))
+bits-judged l E = judged-at 17 l (firstBadByte 1 (E .bits)) (length (E .bits)) (bytes-tested 1 (E .bits))
+
+confidences-judged : (l : ListName) (E : EdgeList)
+    → Judged (refusedAt 5 l (firstBadConfidence (E .confidences)) (length (E .confidences))) 5 ((i : ℕ) → i < length (E .confidences) → Between zeroF oneF (getD (E .confidences) i nan))
+confidences-judged l E = judged-at 5 l (firstBadConfidence (E .confidences)) (length (E .confidences)) (confidences-tested E)
+
+-- in both lists of a call
+both-judged : (call : HardCall) {found : ListName → EdgeList → Admission} {n : ℕ} {Fact : EdgeList → Type 0} → ((l : ListName) (E : EdgeList) → Judged (found l E) n (Fact E))
+    → Judged (orElse (found list.Logical (call .logical)) (found list.Physical (call .physical))) n (Fact (call .logical) × Fact (call .physical))
+both-judged call j = judged-both _ _ (j list.Logical (call .logical)) (j list.Physical (call .physical))
+
+-- and in what comes last
+settings-judged : (ts : List ℕ) (B : Board) (bad : Bool) {fact : Type 0} → Tests bad fact
+    → Judges ((7, (1 ≤ length ts) × (length ts ≤ 8) × AtMost 7 ts) ∷ (8, (length (B .h) ≡ 167) × AtMost 7 (B .h) × (length (B .v) ≡ 167) × AtMost 7 (B .v)) ∷ (9, fact) ∷ [])
+    (orElse (refusedIf (transformsBad ts) 7) (orElse (refusedIf (tablesBad B) 8) (orElse (refusedIf bad 9) Accepted)))
+settings-judged ts B bad t =
+    judges-row _ _ (judged-if (transformsBad ts) 7 (transforms-tested ts)) (λ h.
+    judges-row _ _ (judged-if (tablesBad B) 8 (tables-tested B)) (λ h.
+    judges-row _ _ (judged-if bad 9 t) (λ h. judges-none)))
 
 -- ---- hard decode
-module _ (call : HardCall) (m n : ℕ) where
-  hard-in : HardTests call m n → HardDomain call m n
-  unfolding roomShort
-  hard-in k =
-      let r = or-false (ltb m flatTables) (ltb n flatTables) (k .room) in
-      record {
-        counts-room = ltb-false m flatTables (r .0);
-        weights-room = ltb-false n flatTables (r .1);
-        logical = list-domain 1 (call .logical) (k .logical);
-        physical = list-domain 1 (call .physical) (k .physical);
-        transforms = transforms-domain (call .transforms) (k .transforms);
-        board = board-domain (call .board) (k .tables);
-        error-limit = range-taken 0 (call .error-limit) (not-false _ (k .limit));
-      }
+module _ (call : HardCall) (room : HardRoom) where
+  hard-judged : Judges (hardEarly call room) (hardChecked call room)
+  unfolding early hardEarly hardAdmission firstFound firstOf orElse roomFindings listFindings settingsFindings roomShort
+  hard-judged =
+      judges-row _ _ (judged-alone _ (judged-if _ 1 (or-tested (at-least-tested flatTables (length (room .counts))) (at-least-tested flatTables (length (room .weights)))))) (λ h.
+      judges-row _ _ (judged-both _ Accepted (both-judged call lengths-judged) (judged-none 2)) (λ h.
+      judges-row _ _ (judged-alone _ (both-judged call (sizes-judged 1))) (λ h.
+      judges-row _ _ (judged-alone _ (both-judged call coordinates-judged)) (λ h.
+      judges-row _ _ (judged-alone _ (both-judged call orientations-judged)) (λ h.
+      judges-row _ _ (judged-alone _ (both-judged call bits-judged)) (λ h.
+      judges-row _ _ (judged-alone _ (both-judged call confidences-judged)) (λ h.
+      judges-row Accepted _ (judged-none 6) (λ h. settings-judged (call .transforms) (call .board) _ (between-tested oneF (call .error-limit))))))))))
 
-  hard-tested : HardDomain call m n → HardTests call m n
-  unfolding roomShort
-  hard-tested D = record {
-    room = or-none _ _ (le-ltb m flatTables (D .counts-room)) (le-ltb n flatTables (D .weights-room));
-    logical = list-tested 1 (call .logical) (D .logical);
-    physical = list-tested 1 (call .physical) (D .physical);
-    transforms = transforms-good (call .transforms) (D .transforms);
-    tables = board-good (call .board) (D .board);
-    limit = not-not _ (range-in 0 (call .error-limit) (D .error-limit));
-  }
+  -- HARD: accepted exactly when all conditions are met
+  pub hard-domain : (hardChecked call room ≡ Accepted → AllMet (hardEarly call room)) × (AllMet (hardEarly call room) → hardChecked call room ≡ Accepted)
+  hard-domain = (hard-judged .met, hard-judged .accepted)
 
-  -- HARD: accepted exactly when the call is in its domain
-  pub hard-domain : (hardAdmission call m n ≡ Accepted → HardDomain call m n) × (HardDomain call m n → hardAdmission call m n ≡ Accepted)
-  unfolding hardAdmission
-  hard-domain = (
-    (λ h. hard-in (hard-tests-of call m n h)),
-    λ D.
-        let k = hard-tested D in
-        let s = settingsFindings (transformsBad (call .transforms)) (tablesBad (call .board)) (not (inRange oneF (call .error-limit))) in
-        of-clean _ (clean-joined (roomFindings (roomShort m n)) (joined (bothLists call) s) (room-clean (roomShort m n) (k .room)) (clean-joined (bothLists call) s (both-clean call (k .logical) (k .physical)) (settings-clean _ _ _ (k .transforms) (k .tables) (k .limit)))),
-  )
+  -- and else refused by the number of the first that is not
+  pub hard-first : (r : Refusal) → hardChecked call room ≡ Refused r → FirstFails (hardEarly call room) (r .number)
+  hard-first = hard-judged .refused
 
 -- ---- soft decode
-module _ (call : SoftCall) (m n k : ℕ) where
+likely-tested : (x : Float) → Tests (not (acceptable x)) (Between (fin true 1 (pos 16)) (fin false 1 (pos 16)) x)
+unfolding acceptable
+likely-tested x = and-tested (le (fin true 1 (pos 16)) x) (le x (fin false 1 (pos 16))) (so-tested (le (fin true 1 (pos 16)) x)) (so-tested (le x (fin false 1 (pos 16))))
+
+module _ (call : SoftCall) (room : SoftRoom) where
   abbrev ms : List Float
   ms = call .likelihoods .matches
 
   abbrev us : List Float
   us = call .likelihoods .mismatches
 
-  soft-in : softAdmission call m n k ≡ Accepted → SoftDomain call m n k
-  soft-in h =
-      let t = soft-tests-of call m n k h in
-      let a = soft-accepted call m n k h in
-      record {
-        hard = hard-in (call .hard) m n (t .hard);
-        sums-room = ltb-false k flatSums (t .sums-room);
-        matches = a .matches;
-        mismatches = a .mismatches;
-        match = λ i l. acceptable-within (getD ms i nan) (a .likely i l .0);
-        mismatch = λ i l. acceptable-within (getD us i nan) (a .likely i l .1);
-        soft-margin = range-taken 16 (call .soft-margin) (not-false _ (t .margin));
-      }
+  rooms-judged : Judged (refusedIf (softRoomShort (length (room .counts)) (length (room .weights)) (length (room .sums))) 1) 1 ((3006 ≤ length (room .counts)) × (3006 ≤ length (room .weights)) × (5010 ≤ length (room .sums)))
+  unfolding softRoomShort roomShort
+  rooms-judged =
+      judged-same (λ h. (h .0 .0, h .0 .1, h .1)) (λ h. ((h .0, h .1), h .2))
+      (judged-if _ 1 (or-tested (or-tested (at-least-tested 3006 (length (room .counts))) (at-least-tested 3006 (length (room .weights)))) (at-least-tested 5010 (length (room .sums)))))
 
-  soft-tested : SoftDomain call m n k → SoftTests call m n k
-  unfolding likelihoodsDiffer firstBadLikelihood
-  soft-tested D = record {
-    hard = hard-tested (call .hard) m n (D .hard);
-    sums-room = le-ltb k flatSums (D .sums-room);
-    lengths = not-not _ (and-both _ _ (eq-eqb _ _ (sym (D .matches))) (eq-eqb _ _ (sym (D .mismatches))));
-    likelihoods = none-first (badLikelihood ms us) (length ms) (λ i l.
-        let x : i < size (call .hard .physical) = omega (arith, D .matches, l) in
-        or-none _ _ (not-not _ (within-acceptable (getD ms i nan) (D .match i x))) (not-not _ (within-acceptable (getD us i nan) (D .mismatch i x))));
-    margin = not-not _ (range-in 16 (call .soft-margin) (D .soft-margin));
-  }
-
-  few-likelihoods : SoftDomain call m n k → sizeBad 0 (length ms) ≡ false
+  -- the likelihoods are as many as the edges, and so not over 8,192
+  sizes-with : (length ms ≡ size (call .hard .physical)) → Judged (orElse (orElse (refusedIf (sizeBad 1 (size (call .hard .logical))) 3) (refusedIf (sizeBad 1 (size (call .hard .physical))) 3)) (refusedIf (sizeBad 0 (length ms)) 3)) 3
+      (((1 ≤ size (call .hard .logical)) × (size (call .hard .logical) ≤ 8192)) × ((1 ≤ size (call .hard .physical)) × (size (call .hard .physical) ≤ 8192)))
   unfolding sizeBad
-  few-likelihoods D = or-none _ _ (le-ltb (length ms) 0 (omega arith)) (le-ltb 8192 (length ms) (omega (arith, D .matches, D .hard .physical .few)))
+  sizes-with e = judged-same (λ h. h .0) (λ h. (h, (omega arith, omega (arith, e, h .1 .1))))
+      (judged-both _ _ (both-judged (call .hard) (sizes-judged 1)) (judged-if (sizeBad 0 (length ms)) 3 (or-tested (at-least-tested 0 (length ms)) (at-most-tested 8192 (length ms)))))
+
+  likelihoods-tested : length ms ≡ size (call .hard .physical) → Tests (ltb (firstBadLikelihood ms us) (length ms))
+      ((i : ℕ) → i < size (call .hard .physical) → Between (fin true 1 (pos 16)) (fin false 1 (pos 16)) (getD ms i nan) × Between (fin true 1 (pos 16)) (fin false 1 (pos 16)) (getD us i nan))
+  unfolding firstBadLikelihood
+  likelihoods-tested e =
+      let t = first-tested (badLikelihood ms us) (length ms) _ (λ i. or-tested (likely-tested (getD ms i nan)) (likely-tested (getD us i nan))) in
+      ((λ b i l. t .0 b i (omega (arith, e, l))), λ h. t .1 (λ i l. h i (omega (arith, e, l))))
+
+  soft-judged : Judges (softEarly call room) (softChecked call room)
+  unfolding early softEarly softAdmission firstFound firstOf orElse roomFindings listFindings likelihoodFindings settingsFindings roomShort softRoomShort likelihoodsDiffer
+  soft-judged =
+      let edges = size (call .hard .physical) in
+      let columns = judged-if (likelihoodsDiffer edges ms us) 2 (and-tested (eqb edges (length ms)) (eqb edges (length us)) (same-tested edges (length ms)) (same-tested edges (length us))) in
+      judges-row _ _ (judged-alone _ rooms-judged) (λ h.
+      judges-row _ _ (judged-alone _ (judged-both _ _ (both-judged (call .hard) lengths-judged) columns)) (λ same.
+      judges-row _ _ (judged-alone _ (sizes-with (same .1 .0))) (λ h.
+      judges-row _ _ (judged-alone _ (judged-alone _ (both-judged (call .hard) coordinates-judged))) (λ h.
+      judges-row _ _ (judged-alone _ (judged-alone _ (both-judged (call .hard) orientations-judged))) (λ h.
+      judges-row _ _ (judged-alone _ (judged-alone _ (both-judged (call .hard) bits-judged))) (λ h.
+      judges-row _ _ (judged-alone _ (judged-alone _ (both-judged (call .hard) confidences-judged))) (λ h.
+      judges-row _ _ (judged-alone _ (judged-at 6 list.Physical (firstBadLikelihood ms us) (length ms) (likelihoods-tested (same .1 .0)))) (λ h.
+      settings-judged (call .hard .transforms) (call .hard .board) _ (or-tested (between-tested oneF (call .hard .error-limit)) (between-tested marginTop (call .soft-margin)))))))))))
 
   -- SOFT: the same
-  pub soft-domain : (softAdmission call m n k ≡ Accepted → SoftDomain call m n k) × (SoftDomain call m n k → softAdmission call m n k ≡ Accepted)
-  unfolding softAdmission softRoomShort
-  soft-domain = (
-    soft-in,
-    λ D.
-        let t = soft-tested D in
-        let h = t .hard in
-        let s = settingsFindings (transformsBad (call .hard .transforms)) (tablesBad (call .hard .board)) (softSettingsBad call) in
-        of-clean _ (clean-joined (roomFindings (softRoomShort m n k)) (joined (joined (bothLists (call .hard)) (softLikelihoods call)) s) (room-clean (softRoomShort m n k) (or-none _ _ (h .room) (t .sums-room)))
-        (clean-joined (joined (bothLists (call .hard)) (softLikelihoods call)) s
-        (clean-joined (bothLists (call .hard)) (softLikelihoods call) (both-clean (call .hard) (h .logical) (h .physical)) (likelihoods-clean (size (call .hard .physical)) ms us (t .lengths) (few-likelihoods D) (t .likelihoods)))
-        (settings-clean _ _ _ (h .transforms) (h .tables) (or-none _ _ (h .limit) (t .margin))))),
-  )
+  pub soft-domain : (softChecked call room ≡ Accepted → AllMet (softEarly call room)) × (AllMet (softEarly call room) → softChecked call room ≡ Accepted)
+  soft-domain = (soft-judged .met, soft-judged .accepted)
+
+  pub soft-first : (r : Refusal) → softChecked call room ≡ Refused r → FirstFails (softEarly call room) (r .number)
+  soft-first = soft-judged .refused
 
 -- ---- match statistics
 module _ (E : EdgeList) (t row col : ℕ) (B : Board) where
-  -- MATCH STATISTICS: the same
-  pub stats-domain : (statsAdmission E t row col B ≡ Accepted → StatsDomain E t row col B) × (StatsDomain E t row col B → statsAdmission E t row col B ≡ Accepted)
-  unfolding statsAdmission originBad
-  stats-domain = (
-    stats-in,
-    λ D.
-        of-clean _ (clean-joined (listFindings 0 list.Only E) (settingsFindings (ltb 7 t) (tablesBad B) (originBad row col)) (list-clean 0 list.Only E (list-tested 0 E (D .list)))
-        (settings-clean _ _ _ (le-ltb 7 t (D .transform)) (board-good B (D .board)) (or-none _ _ (le-ltb 500 row (D .origin-row)) (le-ltb 500 col (D .origin-col))))),
-  )
+  -- one transform number, as a list of one
+  one-judged : Judged (refusedIf (ltb 7 t) 7) 7 ((1 ≤ length (t ∷ [])) × (length (t ∷ []) ≤ 8) × AtMost 7 (t ∷ []))
+  one-judged = judged-same (λ h. (omega arith, omega arith, each h)) (λ h. h .2 0 (omega arith)) (judged-if (ltb 7 t) 7 (at-most-tested 7 t))
     where
-      stats-in : statsAdmission E t row col B ≡ Accepted → StatsDomain E t row col B
-      stats-in h =
-          let k = stats-tests-of E t row col B h in
-          let a = stats-accepted E t row col B h in
-          record {
-            list = list-domain 0 E (k .list);
-            transform = ltb-false 7 t (k .transform);
-            board = board-domain B (k .tables);
-            origin-row = a .origin .0;
-            origin-col = a .origin .1;
-          }
+      each : t ≤ 7 → AtMost 7 (t ∷ [])
+      each h zero l = h
+      each h (suc i) l = absurd (omega arith)
+
+  stats-judged : Judges (statsEarly E t row col B) (statsAdmission E t row col B)
+  unfolding early statsEarly statsAdmission firstFound firstOf orElse listFindings settingsFindings originBad
+  stats-judged =
+      judges-row Accepted _ (judged-none 1) (λ h.
+      judges-row _ _ (judged-both _ Accepted (lengths-judged list.Only E) (judged-none 2)) (λ h.
+      judges-row _ _ (judged-alone _ (sizes-judged 0 list.Only E)) (λ h.
+      judges-row _ _ (judged-alone _ (coordinates-judged list.Only E)) (λ h.
+      judges-row _ _ (judged-alone _ (orientations-judged list.Only E)) (λ h.
+      judges-row _ _ (judged-alone _ (bits-judged list.Only E)) (λ h.
+      judges-row _ _ (judged-alone _ (confidences-judged list.Only E)) (λ h.
+      judges-row Accepted _ (judged-none 6) (λ h.
+      judges-row _ _ one-judged (λ h.
+      judges-row _ _ (judged-if (tablesBad B) 8 (tables-tested B)) (λ h.
+      judges-row _ _ (judged-if (originBad row col) 9 (or-tested (at-most-tested 500 row) (at-most-tested 500 col))) (λ h. judges-none)))))))))))
+
+  -- MATCH STATISTICS: the same
+  pub stats-domain : (statsAdmission E t row col B ≡ Accepted → AllMet (statsEarly E t row col B)) × (AllMet (statsEarly E t row col B) → statsAdmission E t row col B ≡ Accepted)
+  stats-domain = (stats-judged .met, stats-judged .accepted)
+
+  pub stats-first : (r : Refusal) → statsAdmission E t row col B ≡ Refused r → FirstFails (statsEarly E t row col B) (r .number)
+  stats-first = stats-judged .refused
+
+-- ---- what it is to lie between 0 and 2 ^ k, by value: finite, not below 0 but for -0, and m * 2 ^ e at most 2 ^ k
+le-of : (a b : ℕ) (t : Bool) → (ltb a b || (eqb a b && t)) ≡ true → a ≤ b
+le-of a b t h = ⊎-elim (λ e. let l = ltb-true a b e in omega arith) (λ e. let q = eqb-true a b (and-true (eqb a b) t e .0) in omega arith) (or-true (ltb a b) _ h)
+
+of-le : (a b : ℕ) → a ≤ b → (ltb a b || (eqb a b && true)) ≡ true
+of-le a b h = ⊎-elim (λ l. rw (lt-ltb a b l)) (λ l. let e : a ≡ b = omega arith in rw (le-ltb a b l, eq-eqb a b e)) (compared a b)
+
+none-left : (m u : ℕ) → 0 < u → m * u ≡ 0 → m ≡ 0
+none-left zero u h k = refl
+none-left (suc m) u h k = let p = mul-pos (zero-lt-suc m) h in absurd (omega arith)
+
+pub between-value : (k : ℕ) (x : Float) → Between zeroF (fin false 1 (pos k)) x → Weight x (2 ^ k)
+unfolding le lt eq
+between-value k nan h = absurd (true≢false (sym (h .0)))
+between-value k (inf true) h = absurd (true≢false (sym (h .0)))
+between-value k (inf false) h = absurd (true≢false (sym (h .1)))
+between-value k (fin true m e) h =
+    let q = and-true (eqb (0 * down e) (m * up e * 1)) _ (h .0) .0 in
+    let z : 0 ≡ m * up e = sym (zero-mul (down e)) ∙ eqb-true _ _ q ∙ mul-one (m * up e) in
+    none-left m (up e) (up-pos e) (sym z)
+between-value k (fin false m e) h = rw (mul-one, one-mul) at (le-of (m * up e * 1) (1 * 2 ^ k * down e) true (h .1))
+
+pub value-between : (k : ℕ) (x : Float) → Weight x (2 ^ k) → Between zeroF (fin false 1 (pos k)) x
+unfolding le lt eq
+value-between k (fin true m e) h =
+    let z : 0 * down e ≡ m * up e * 1 = rw (h, zero-mul, zero-mul, zero-mul) in
+    let p : 0 < m * up e * 1 + 1 * 2 ^ k * down e = let q = mul-pos (mul-pos (zero-lt-suc 0) (pow-pos k)) (down-pos e) in omega arith in
+    (and-both _ _ (eq-eqb _ _ z) (eq-eqb _ _ (zero-mul (down e))), or-left (ltb 0 (m * up e * 1 + 1 * 2 ^ k * down e)) _ (lt-ltb _ _ p))
+  where
+    and-both : (p q : Bool) → p ≡ true → q ≡ true → (p && q) ≡ true
+    and-both p q a b = rw (a, b)
+
+    or-left : (p q : Bool) → p ≡ true → (p || q) ≡ true
+    or-left p q a = rw a
+value-between k (fin false m e) h = (of-le (0 * down e) (m * up e * 1) (rw zero-mul (omega arith)), of-le (m * up e * 1) (1 * 2 ^ k * down e) (rw (mul-one, one-mul) h))

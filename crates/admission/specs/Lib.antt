@@ -1,4 +1,6 @@
 pub mod Accepted
+pub mod Conditions
+pub mod ConditionLaws
 pub mod Calls
 pub mod Domain
 pub mod DomainLaws

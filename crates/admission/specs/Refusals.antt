@@ -2,6 +2,7 @@
 use mathlib.Core.Bool.{Bool, not, _||_}
 use Prim.Native.Nat.{ℕ}
 use lib.Dec.{ltb}
+use lib.ListN.{length}
 use Rattle.laws.specs.Words.{oneF}
 use Rattle.board.specs.Hits.{EdgeList, Board, size}
 use Rattle.refusals.specs.declared.Admission.{Admission}
@@ -10,7 +11,7 @@ use Rattle.room.specs.Room.{flatTables, flatSums}
 use Rattle.checks.specs.Checks.{originBad}
 use Rattle.ranges.specs.Ranges.{inRange, marginTop, transformsBad, tableBad}
 use Rattle.findings.specs.Findings.{Findings, firstFound, joined, roomFindings, listFindings, likelihoodFindings, settingsFindings}
-use Rattle.admission.specs.Calls.{HardCall, SoftCall}
+use Rattle.admission.specs.Calls.{HardCall, SoftCall, HardRoom, SoftRoom}
 
 -- one of the two pattern tables is bad
 abbrev pub tablesBad : Board → Bool
@@ -50,3 +51,10 @@ softAdmission call counts weights sums =
 -- "Match statistics use 2 to 5 and 7 to 9 and no room": one list, which may be empty, one transform number and one origin
 unfoldable pub statsAdmission : EdgeList → ℕ → ℕ → ℕ → Board → Admission
 statsAdmission E t row col B = firstFound (joined (listFindings 0 list.Only E) (settingsFindings (ltb 7 t) (tablesBad B) (originBad row col)))
+
+-- what the checks say of a call with its room
+abbrev pub hardChecked : HardCall → HardRoom → Admission
+hardChecked call room = hardAdmission call (length (room .counts)) (length (room .weights))
+
+abbrev pub softChecked : SoftCall → SoftRoom → Admission
+softChecked call room = softAdmission call (length (room .counts)) (length (room .weights)) (length (room .sums))

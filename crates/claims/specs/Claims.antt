@@ -1,34 +1,34 @@
 -- THE PROMISES ARE KEPT: each record of Promises.antt follows from the contract of its entry point, for all inputs. `HardGave ..`, `SoftGave ..` and
 -- `answer ≡ statsAnswer ..` are the contracts of `decode_hard`, `decode_soft` and `match_stats`, which have no `requires`.
 use mathlib.Core.Path.{_≡_, refl, sym, ap, ap₂, subst, _∙_}
-use mathlib.Core.Bool.{Bool, true, false, not, cond, _||_}
-use mathlib.Core.List.{List}
+use mathlib.Core.Bool.{false}
+use mathlib.Core.List.{List, []}
 use Prim.Native.Nat.{ℕ, _≤_, _<_}
 use native.Mathlib.Omega.{arith}
-use lib.Dec.{ltb}
 use lib.ListN.{length}
 use lib.IntN.{pos}
-use lib.Ieee.{nan, binary32, sub, div, ofInt}
-use Rattle.laws.specs.Words.{zeroF, oneF}
+use lib.Ieee.{Float, nan, binary32, sub, div, ofInt}
+use Rattle.laws.specs.Words.{zeroF}
 use Rattle.laws.specs.Cleared.{cleared-written}
 use Rattle.board.specs.declared.edge.Placing.{Placing}
 use Rattle.board.specs.Hits.{EdgeList, Board, size, hits, hitsAt}
+use Rattle.board.specs.Domain.{BoardOk, ListOk}
 use Rattle.refusals.specs.declared.Refusal.{Refusal}
 use Rattle.refusals.specs.declared.Place.the-variants.{Nowhere}
 use Rattle.refusals.specs.declared.Admission.{Admission}
 use Rattle.refusals.specs.declared.Admission.the-variants as admission
-use Rattle.refusals.specs.Numbers.{numbered}
-use Rattle.refusals.specs.Numbers as why
 use Rattle.room.specs.Room.{tablesRoom, sumsRoom, flat-room}
-use Rattle.admission.specs.Calls.{HardCall, SoftCall}
-use Rattle.admission.specs.Refusals.{hardAdmission, softAdmission, statsAdmission}
+use Rattle.admission.specs.Calls.{HardCall, SoftCall, HardRoom, SoftRoom}
+use Rattle.admission.specs.Refusals.{hardAdmission, softAdmission, statsAdmission, hardChecked, softChecked}
 use Rattle.admission.specs.RefusalLaws as refusals
 use Rattle.admission.specs.PlaceTheorems.{hard-place, soft-place, stats-place}
 use Rattle.admission.specs.Document01Laws.{hard-document-01, soft-document-01, stats-document-01}
-use Rattle.admission.specs.Domain.{StatsDomain}
-use Rattle.admission.specs.DomainLaws.{hard-domain, soft-domain, stats-domain}
+use Rattle.admission.specs.Conditions.{AllMet}
+use Rattle.admission.specs.Domain.{hardEarly, softEarly, statsEarly}
+use Rattle.admission.specs.DomainLaws.{hard-domain, hard-first, soft-domain, soft-first, stats-domain, stats-first}
 use Rattle.admission.specs.Accepted.{HardAccepted, hard-accepted, SoftAccepted, soft-accepted, stats-accepted}
 use Rattle.figures.specs.Figures.{noConfidence}
+use Rattle.margin.specs.Margin.{belowMargin}
 use Rattle.answer.specs.declared.Decoded.{Decoded}
 use Rattle.answer.specs.declared.Answer.{Answer}
 use Rattle.answer.specs.declared.Answer.the-variants.{Found, Refused}
@@ -44,7 +44,7 @@ use Rattle.demand.specs.Left.{left}
 use Rattle.demand.specs.Demand.{OnBoard, Same, Leads, Names, AgreesPhysical}
 use Rattle.demand.specs.DemandLaws.{leader-named}
 use Rattle.demand.specs.Winners as winners
-use Rattle.demand.specs.AgreesLaws as physical
+use Rattle.demand.specs.AgreesLaws as agrees
 use Rattle.demand.specs.FoundRange.{AnswerInRange, SoftAnswerInRange}
 use Rattle.hard_core.specs.Hard.{hardCore}
 use Rattle.decode_hard.specs.HardAnswer.{hardAnswer}
@@ -58,14 +58,17 @@ use Rattle.soft_core.specs.Soft.{softCore}
 use Rattle.decode_soft.specs.SoftAnswer.{softAnswer}
 use Rattle.soft_core.specs.SoftRange.{soft-in-range}
 use Rattle.soft_core.specs.SoftNumbers.{soft-late}
-use Rattle.soft_core.specs.SoftDemand.{BestByLikelihood, SoftAnswered}
+use Rattle.soft_core.specs.SoftDemand.{marginOf, BestByLikelihood, Clears, SoftAnswered, SoftKept}
 use Rattle.soft_core.specs.SoftLate.{SoftLate}
 use Rattle.soft_core.specs.SoftLateLaws.{soft-late-numbers}
 use Rattle.soft_core.specs.SoftPlaces.{best-by-rows}
-use Rattle.soft_core.specs.SoftTheorems.{soft-sound, soft-complete-by-rows}
+use Rattle.soft_core.specs.SoftTheorems.{soft-sound, soft-kept, soft-complete-by-rows}
 use Rattle.stats.specs.Stats.{statsAnswer, statsOf, orCounted}
 use Rattle.stats.specs.StatsRange.{StatsInRange, stats-in-range}
-use Rattle.claims.specs.Promises.{NumberAndPlace, EarlyNumber, RunnerUpAlways, Emptied, HardRoom, SoftRoom, hardChecked, InHardDomain, HardGave, HardPromise, softChecked, InSoftDomain, SoftGave, SoftBestPlacing, SoftClears, MarginOfTheTwo, SoftPromise, StatsPromise}
+use Rattle.claims.specs.Late.{hardLate, softLate}
+use Rattle.claims.specs.Promises.{NumberAndPlace, Emptied, WinsByHits, HardPromise, SoftPromise, StatsPromise, EarlyNumber, RunnerUpAlways, InHardDomain, HardGave, HardParticulars, InSoftDomain, SoftGave, MarginOfTheTwo, SoftParticulars, StatsParticulars}
+use Rattle.claims.specs.DemandsLaws.{answers, soft-answers, stats-answers, demands-met}
+use Rattle.claims.specs.LateLaws.{hard-right, soft-right}
 
 -- ---- EARLY REFUSALS
 pub refusal-is-number-and-place : NumberAndPlace
@@ -83,6 +86,10 @@ stats-early = refusals.stats-early
 -- ---- RUNNER-UP
 pub runner-up-exists : RunnerUpAlways
 runner-up-exists = winners.runner-up-exists
+
+-- ---- THE WINNER OF A LIST, in hits
+wins-by-hits : (B : Board) (E : EdgeList) (ts : List ℕ) (limit : Float) → BoardOk B → ListOk E → length ts ≤ 8 → WinsByHits B E ts limit
+wins-by-hits B E ts limit board list few = record { wins-most = agrees.wins-most B E ts limit board list few; most-wins = agrees.most-wins B E ts limit board list few }
 
 -- ---- FOUND
 found-only : (a : Admission) (x : Answer) (d : Decoded) → Found d ≡ whenAccepted a x → (a ≡ admission.Accepted) × (x ≡ Found d)
@@ -103,7 +110,7 @@ module _ {A : Type 0} (d zero : A) (n : ℕ) (a : Admission) (old : List A) wher
   -- "after every other call the used room is zero"
   left-emptied : a ≡ admission.Accepted → n ≤ length old → Emptied d zero n old (left zero n a old)
   unfolding left
-  left-emptied h room = rw h (let w = cleared-written d zero n old room in record { room = room; len = w .len; used = w .front; surplus = w .back })
+  left-emptied h room = rw h (let w = cleared-written d zero n old room in record { len = w .len; used = w .front; surplus = w .back })
 
 -- the same of what a call left, where n is m
 pub left-zero : {A : Type 0} (d zero : A) (n m : ℕ) (a : Admission) (old new : List A) → n ≡ m → a ≡ admission.Accepted → n ≤ length old → new ≡ left zero n a old → Emptied d zero m old new
@@ -113,7 +120,7 @@ left-zero d zero n m a old new u h room e = rw (e, ← u) (left-emptied d zero n
 module _ (call : HardCall) (before after : HardRoom) (answer : Answer) (done : HardGave call before after answer) where
   -- which calls are accepted, from both sides: those in the domain
   pub hard-accepts : (hardChecked call before ≡ admission.Accepted → InHardDomain call before) × (InHardDomain call before → hardChecked call before ≡ admission.Accepted)
-  hard-accepts = hard-domain call (length (before .counts)) (length (before .weights))
+  hard-accepts = hard-domain call before
 
   taken : InHardDomain call before → HardAccepted call (length (before .counts)) (length (before .weights))
   taken domain = hard-accepted call (length (before .counts)) (length (before .weights)) (hard-accepts .1 domain)
@@ -180,34 +187,45 @@ module _ (call : HardCall) (before after : HardRoom) (answer : Answer) (done : H
   -- the physical winner, by hits
   pub hard-agrees-most : InHardDomain call before → (square : Placing) → AgreesPhysical (call .board) (call .physical) (call .transforms) square
       → (other : Placing) → OnBoard (call .board) (call .transforms) other → hitsAt (call .board) (call .physical) (call .transforms) other ≤ hitsAt (call .board) (call .physical) (call .transforms) square
-  hard-agrees-most domain = let A = taken domain in physical.agrees-most (call .board) (call .physical) (call .transforms) (A .board) (A .physical) (A .transforms .few) (A .some-physical)
+  hard-agrees-most domain = let A = taken domain in agrees.agrees-most (call .board) (call .physical) (call .transforms) (A .board) (A .physical) (A .transforms .few) (A .some-physical)
 
   pub hard-most-agrees : InHardDomain call before → noConfidence (call .physical) ≡ false → (square : Placing) → OnBoard (call .board) (call .transforms) square
       → ((other : Placing) → OnBoard (call .board) (call .transforms) other → (Same other square → ⊥) → hitsAt (call .board) (call .physical) (call .transforms) other < hitsAt (call .board) (call .physical) (call .transforms) square)
       → AgreesPhysical (call .board) (call .physical) (call .transforms) square
-  hard-most-agrees domain = let A = taken domain in physical.most-agrees (call .board) (call .physical) (call .transforms) (A .board) (A .physical) (A .transforms .few) (A .some-physical)
+  hard-most-agrees domain = let A = taken domain in agrees.most-agrees (call .board) (call .physical) (call .transforms) (A .board) (A .physical) (A .transforms .few) (A .some-physical)
 
   -- WHAT HARD DECODE PROMISES
   pub hard-promise : HardPromise call before after answer
   hard-promise = record {
-    early = record { accepts = hard-accepts; number = hard-early call (length (before .counts)) (length (before .weights)); place = hard-place call (length (before .counts)) (length (before .weights)); old-number = hard-document-01 call (length (before .counts)) (length (before .weights)); refuses = hard-refused-early };
-    room-zero = hard-room-zero;
+    demands = demands-met Refused Found answers (hardEarly call before) (hardLate call) (after ≡ before) _ (HardAnswered call) answer (hardCore call) (hardChecked call before) hard-accepts (hard-first call before)
+        (λ x h. let e = hard-refused-early x h in (e .0, λ i. record { counts = e .1 i; weights = e .2 i })) core
+        (λ domain. hard-right call (length (before .counts)) (length (before .weights)) (taken domain)) hard-room-zero (λ d e. hard-found d e .1);
+    finds-square = hard-finds;
+    logical-winner = λ domain. let A = taken domain in wins-by-hits (call .board) (call .logical) (call .transforms) (call .error-limit) (A .board) (A .logical) (A .transforms .few);
+    physical-winner = λ domain. record { wins-most = λ P a Q w. hard-agrees-most domain P a Q (w .0); most-wins = λ k P w. hard-most-agrees domain k P (w .0) };
+  }
+
+  pub hard-particulars : HardParticulars call before after answer
+  hard-particulars = record {
+    early = record {
+      accepts = hard-accepts;
+      number = hard-early call (length (before .counts)) (length (before .weights));
+      place = hard-place call (length (before .counts)) (length (before .weights));
+      old-number = hard-document-01 call (length (before .counts)) (length (before .weights));
+      refuses = hard-refused-early;
+    };
     refused-late = hard-refused-late;
     refused-exactly = hard-refused-exactly;
     answer-in-range = hard-answer-in-range;
     no-influence = hard-no-influence;
     by-the-rules = hard-by-the-rules;
-    found = hard-found;
-    finds = hard-finds;
-    agrees-most = hard-agrees-most;
-    most-agrees = hard-most-agrees;
   }
 
 -- ---- SOFT DECODE
 module _ (call : SoftCall) (before after : SoftRoom) (answer : SoftAnswer) (done : SoftGave call before after answer) where
   -- which calls are accepted, from both sides: those in the domain
   pub soft-accepts : (softChecked call before ≡ admission.Accepted → InSoftDomain call before) × (InSoftDomain call before → softChecked call before ≡ admission.Accepted)
-  soft-accepts = soft-domain call (length (before .counts)) (length (before .weights)) (length (before .sums))
+  soft-accepts = soft-domain call before
 
   admitted : InSoftDomain call before → SoftAccepted call (length (before .counts)) (length (before .weights)) (length (before .sums))
   admitted domain = soft-accepted call (length (before .counts)) (length (before .weights)) (length (before .sums)) (soft-accepts .1 domain)
@@ -265,7 +283,7 @@ module _ (call : SoftCall) (before after : SoftRoom) (answer : SoftAnswer) (done
   soft-margin-of-the-two d e =
       let f = soft-told d e in
       let a = soft-sound call (length (before .counts)) (length (before .weights)) (length (before .sums)) (admitted (f .0)) d (f .1) in
-      a .margin ∙ (λ i. div binary32 (sub binary32 (sym (a .best-score) i) (sym (a .second-score) i)) (ofInt binary32 (pos (sym (a .edges) i))))
+      a .margin ∙ (λ i. div binary32 (sub binary32 (sym (a .best-score) i) (sym (a .second-score) i)) (ofInt binary32 (pos (sym (a .tells .edges) i))))
 
   -- DEMAND 2
   pub soft-by-the-rules : answer ≡ softAnswer call (length (before .counts)) (length (before .weights)) (length (before .sums))
@@ -277,33 +295,52 @@ module _ (call : SoftCall) (before after : SoftRoom) (answer : SoftAnswer) (done
 
   -- DEMAND 3, a true square is found. Of second place the margin takes the total alone, so any placing that has it will do
   pub soft-finds-by-rows : InSoftDomain call before → noConfidence (call .hard .physical) ≡ false → noConfidence (call .hard .logical) ≡ false → (square second : Placing)
-      → SoftBestPlacing call square second → SoftClears call square second → Leads (call .hard .board) (call .hard .logical) (call .hard .transforms) (call .hard .error-limit) square
+      → Clears call square second → Leads (call .hard .board) (call .hard .logical) (call .hard .transforms) (call .hard .error-limit) square
       → (found : SoftDecoded) × (answer ≡ soft.Found found) × Names (call .hard .transforms) square (found .square)
-  soft-finds-by-rows domain k g square second b m l =
-      let f = soft-complete-by-rows call (length (before .counts)) (length (before .weights)) (length (before .sums)) (admitted domain) k g square second (b .0) (b .1) m l in
+  soft-finds-by-rows domain k g square second c l =
+      let f = soft-complete-by-rows call (length (before .counts)) (length (before .weights)) (length (before .sums)) (admitted domain) k g square second (c .first) (c .second) (c .margin) l in
       let s = soft-sound call (length (before .counts)) (length (before .weights)) (length (before .sums)) (admitted domain) (f .0) (f .1) in
-      (f .0, soft-core domain ∙ f .1, leader-named (call .hard .board) (call .hard .logical) (call .hard .transforms) (call .hard .error-limit) square (s .square) (f .0 .square) l (s .leads) (s .names))
+      (f .0, soft-core domain ∙ f .1, leader-named (call .hard .board) (call .hard .logical) (call .hard .transforms) (call .hard .error-limit) square (s .square) (f .0 .square) l (s .leads) (s .tells .square))
 
   -- the same of the two that soft selection keeps, by keys and cells
   pub soft-finds : InSoftDomain call before → noConfidence (call .hard .physical) ≡ false → noConfidence (call .hard .logical) ≡ false → (square second : Placing)
-      → BestByLikelihood (call .hard .board) (call .hard .physical) (call .likelihoods) (call .hard .transforms) square second → SoftClears call square second
+      → BestByLikelihood (call .hard .board) (call .hard .physical) (call .likelihoods) (call .hard .transforms) square second
+      → belowMargin (marginOf (call .hard .board) (call .hard .physical) (call .likelihoods) (call .hard .transforms) square second) (call .soft-margin) ≡ false
       → Leads (call .hard .board) (call .hard .logical) (call .hard .transforms) (call .hard .error-limit) square → (found : SoftDecoded) × (answer ≡ soft.Found found) × Names (call .hard .transforms) square (found .square)
-  soft-finds domain k g square second b =
-      soft-finds-by-rows domain k g square second (best-by-rows (call .hard .board) (call .hard .physical) (call .likelihoods) (call .hard .transforms) (admitted domain .hard .board) square second b)
+  soft-finds domain k g square second b m =
+      let p = best-by-rows (call .hard .board) (call .hard .physical) (call .likelihoods) (call .hard .transforms) (admitted domain .hard .board) square second b in
+      soft-finds-by-rows domain k g square second (record { first = p .0; second = p .1; margin = m })
+
+  -- which of the second-best placings is meant, where several tie
+  pub soft-second-kept : (found : SoftDecoded) → answer ≡ soft.Found found → SoftKept call found
+  soft-second-kept d e = let f = soft-told d e in soft-kept call (length (before .counts)) (length (before .weights)) (length (before .sums)) (admitted (f .0)) d (f .1)
 
   -- WHAT SOFT DECODE PROMISES
   pub soft-promise : SoftPromise call before after answer
   soft-promise = record {
-    early = record { accepts = soft-accepts; number = soft-early call (length (before .counts)) (length (before .weights)) (length (before .sums)); place = soft-place call (length (before .counts)) (length (before .weights)) (length (before .sums)); old-number = soft-document-01 call (length (before .counts)) (length (before .weights)) (length (before .sums)); refuses = soft-refused-early };
-    room-zero = soft-room-zero;
+    demands = demands-met soft.Refused soft.Found soft-answers (softEarly call before) (softLate call) (after ≡ before) _ (SoftAnswered call) answer (softCore call) (softChecked call before) soft-accepts (soft-first call before)
+        (λ x h. let e = soft-refused-early x h in (e .0, λ i. record { counts = e .1 i; weights = e .2 i; sums = e .3 i })) soft-core
+        (λ domain. soft-right call (length (before .counts)) (length (before .weights)) (length (before .sums)) (admitted domain)) soft-room-zero (λ d e. soft-found d e .1);
+    finds-square = soft-finds-by-rows;
+    logical-winner = λ domain. let A = admitted domain .hard in wins-by-hits (call .hard .board) (call .hard .logical) (call .hard .transforms) (call .hard .error-limit) (A .board) (A .logical) (A .transforms .few);
+  }
+
+  pub soft-particulars : SoftParticulars call before after answer
+  soft-particulars = record {
+    early = record {
+      accepts = soft-accepts;
+      number = soft-early call (length (before .counts)) (length (before .weights)) (length (before .sums));
+      place = soft-place call (length (before .counts)) (length (before .weights)) (length (before .sums));
+      old-number = soft-document-01 call (length (before .counts)) (length (before .weights)) (length (before .sums));
+      refuses = soft-refused-early;
+    };
     refused-late = soft-refused-late;
     refused-exactly = soft-refused-exactly;
     answer-in-range = soft-answer-in-range;
     no-influence = soft-no-influence;
     margin-of-the-two = soft-margin-of-the-two;
     by-the-rules = soft-by-the-rules;
-    found = soft-found;
-    finds = soft-finds-by-rows;
+    kept = soft-second-kept;
   }
 
 -- ---- MATCH STATISTICS
@@ -313,7 +350,7 @@ module _ (list : EdgeList) (transform row col : ℕ) (board : Board) (answer : S
   statsChecked = statsAdmission list transform row col board
 
   -- which calls are accepted, from both sides: those in the domain
-  pub stats-accepts : (statsChecked ≡ admission.Accepted → StatsDomain list transform row col board) × (StatsDomain list transform row col board → statsChecked ≡ admission.Accepted)
+  pub stats-accepts : (statsChecked ≡ admission.Accepted → AllMet (statsEarly list transform row col board)) × (AllMet (statsEarly list transform row col board) → statsChecked ≡ admission.Accepted)
   stats-accepts = stats-domain list transform row col board
 
   -- DEMAND 1, refusals: the number of document 01
@@ -322,7 +359,7 @@ module _ (list : EdgeList) (transform row col : ℕ) (board : Board) (answer : S
   stats-refused x h = done ∙ ap (λ (y : Admission). orCounted y (statsOf list transform row col board)) h
 
   -- DEMAND 2: every other call gives the statistics of document 01
-  pub stats-by-the-rules : StatsDomain list transform row col board → answer ≡ stats.Counted (statsOf list transform row col board)
+  pub stats-by-the-rules : AllMet (statsEarly list transform row col board) → answer ≡ stats.Counted (statsOf list transform row col board)
   unfolding statsAnswer
   stats-by-the-rules domain = done ∙ ap (λ (y : Admission). orCounted y (statsOf list transform row col board)) (stats-accepts .1 domain)
 
@@ -346,9 +383,15 @@ module _ (list : EdgeList) (transform row col : ℕ) (board : Board) (answer : S
 
   -- WHAT MATCH STATISTICS PROMISE
   pub stats-promise : StatsPromise list transform row col board answer
+  unfolding AllMet
   stats-promise = record {
+    demands = demands-met stats.Refused stats.Counted stats-answers (statsEarly list transform row col board) [] (Unit {0}) (Unit {0}) _ answer (stats.Counted (statsOf list transform row col board)) statsChecked stats-accepts
+        (stats-first list transform row col board) (λ x h. (stats-refused x h, tt)) stats-by-the-rules (λ domain. ((λ d e. tt), λ r e. absurd (stats-answers .apart _ r e))) (λ domain. tt) stats-hits;
+  }
+
+  pub stats-particulars : StatsParticulars list transform row col board answer
+  stats-particulars = record {
     early = record { accepts = stats-accepts; number = stats-early list transform row col board; place = stats-place list transform row col board; old-number = stats-document-01 list transform row col board; refuses = stats-refused };
     by-the-rules = stats-by-the-rules;
-    counted = stats-hits;
     answer-in-range = stats-answer-in-range;
   }

@@ -1,4 +1,7 @@
+pub mod Late
 pub mod Promises
+pub mod DemandsLaws
+pub mod LateLaws
 pub mod Claims
 pub mod NumbersToTry
 pub mod FoundLaws

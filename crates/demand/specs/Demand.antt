@@ -1,36 +1,38 @@
--- What customers are promised of a decoded view, in terms of board's hits. Only `AgreesPhysical` speaks of more: of the physical list's selection, which goes by
+-- What customers are promised of a decoded view, in terms of board's hits. Only `Wins` speaks of more: of a list's selection, which goes by
 -- tables and weights. Quotes are of the demands (docs/CONTRACTS.md).
 use mathlib.Core.Path.{_≡_}
-use mathlib.Core.Bool.{true, false}
+use mathlib.Core.Bool.{false}
 use mathlib.Core.List.{List}
-use Prim.Native.Nat.{ℕ, _+_, _*_, _≤_, _<_}
+use Prim.Native.Nat.{ℕ, _+_, _*_, _-_, _≤_, _<_}
 use lib.ListN.{getD, length}
 use lib.Ieee.{Float}
 use Rattle.laws.specs.Words.{oneF}
 use Rattle.board.specs.declared.edge.Placing.{Placing}
-use Rattle.board.specs.Hits.{EdgeList, Board, size, misses, hitsAt}
-use Rattle.board.specs.Sides.{periodOf}
+use Rattle.board.specs.Hits.{EdgeList, Board, size, hitsAt}
 use Rattle.scan.specs.Scan.{overLimit}
 use Rattle.hard.specs.Select.{selection}
 use Rattle.scan.specs.declared.scan.Candidate.{Candidate}
 use Rattle.scan.specs.declared.scan.RunnerUp.{RunnerUp}
 use Rattle.hard.specs.declared.select.Selection.the-variants.{Selected}
 use Rattle.answer.specs.declared.Square.{Square}
-use Rattle.answer.specs.declared.Decoded.{Decoded}
 
--- "A placing is one place in the transform list with one of the 251,001 origins": 3 L rows of 3 M columns
+-- "A placing is one place in the transform list with one of the 251,001 origins": three rows to a horizontal pattern, three columns to a vertical one
 pub record OnBoard (B : Board) (ts : List ℕ) (P : Placing) : Type 0 where
   pub in-list : P .listed < length ts
-  pub row : P .row < 3 * periodOf B true
-  pub col : P .col < 3 * periodOf B false
+  pub row : P .row < 3 * length (B .h)
+  pub col : P .col < 3 * length (B .v)
 
 -- two placings are the same one
 abbrev pub Same : Placing → Placing → Type 0
 Same P Q = (P .listed ≡ Q .listed) × (P .row ≡ Q .row) × (P .col ≡ Q .col)
 
--- the misses of a placing, counted edge by edge
+-- the misses of a placing: "hits plus misses is the list's length"
 abbrev pub missesAt : Board → EdgeList → List ℕ → Placing → ℕ
-missesAt B E ts P = misses B E (getD ts (P .listed) 0) (P .row) (P .col)
+missesAt B E ts P = size E - hitsAt B E ts P
+
+-- a placing of the board is within the error limit
+abbrev pub WithinLimit : Board → EdgeList → List ℕ → Float → Placing → Type 0
+WithinLimit B E ts limit P = OnBoard B ts P × (overLimit (size E) limit (hitsAt B E ts P) ≡ false)
 
 -- "is within the error limit, beats the hits of every other by more than its own misses"
 pub record Leads (B : Board) (E : EdgeList) (ts : List ℕ) (limit : Float) (P : Placing) : Type 0 where
@@ -54,19 +56,23 @@ pub record RunnerUpExists (B : Board) (E : EdgeList) (ts : List ℕ) (P : Placin
 abbrev pub Names : List ℕ → Placing → Square → Type 0
 Names ts P s = (getD ts (P .listed) 0 ≡ s .transform) × (P .row ≡ s .row) × (P .col ≡ s .col)
 
--- "agrees with the winner of the physical list": the physical selection, with limit 1, has a winner, and it has the same transform and origin
-pub record AgreesPhysical (B : Board) (E : EdgeList) (ts : List ℕ) (P : Placing) : Type 0 where
+-- P has the transform and the origin of a list's winner: the placing that hard selection keeps, with a limit, by tables and weights
+pub record Wins (B : Board) (E : EdgeList) (ts : List ℕ) (limit : Float) (P : Placing) : Type 0 where
   pub winner : Candidate
   pub runner : RunnerUp
-  pub chosen : selection B E ts oneF ≡ Selected winner runner
+  pub chosen : selection B E ts limit ≡ Selected winner runner
   pub transform : getD ts (winner .placing .listed) 0 ≡ getD ts (P .listed) 0
   pub row : winner .placing .row ≡ P .row
   pub col : winner .placing .col ≡ P .col
 
--- what a found hard answer says of the placing P and the runner-up Q on the list E
-pub record Tells (B : Board) (E : EdgeList) (ts : List ℕ) (d : Decoded) (P Q : Placing) : Type 0 where
-  pub square : Names ts P (d .square)
-  pub hits : d .hits ≡ hitsAt B E ts P
-  pub edges : d .edges ≡ size E
-  pub runner-up : Names ts Q (d .«runner_up»)
-  pub runner-up-hits : d .«runner_up_hits» ≡ hitsAt B E ts Q
+-- "agrees with the winner of the physical list", which is selected with limit 1
+abbrev pub AgreesPhysical : Board → EdgeList → List ℕ → Placing → Type 0
+AgreesPhysical B E ts = Wins B E ts oneF
+
+-- what a found answer says of the placing P on the list E, and of the runner-up Q on the list L: square s, h hits of n edges, runner-up r with k hits
+pub record Tells (B : Board) (E L : EdgeList) (ts : List ℕ) (P Q : Placing) (s : Square) (h n : ℕ) (r : Square) (k : ℕ) : Type 0 where
+  pub square : Names ts P s
+  pub hits : h ≡ hitsAt B E ts P
+  pub edges : n ≡ size E
+  pub runner-up : Names ts Q r
+  pub runner-up-hits : k ≡ hitsAt B L ts Q

@@ -12,8 +12,7 @@ use lib.ListN.{getD, length}
 use lib.Ieee.{Float}
 use borrow.Author.Tests.{eqb-true, eqb-false}
 use Rattle.board.specs.declared.edge.Placing.{Placing}
-use Rattle.board.specs.Hits.{EdgeList, Board, size, hits, misses, hitsAt}
-use Rattle.board.specs.HitsLaws.{hits-misses}
+use Rattle.board.specs.Hits.{EdgeList, Board, size, hits, hitsAt}
 use Rattle.board.specs.Sides.{periodOf}
 use Rattle.board.specs.Domain.{BoardOk, ListOk}
 use Rattle.scan.specs.Scan.{overLimit}
@@ -21,7 +20,7 @@ use Rattle.hard.specs.Placings.{Sole, MostOther}
 use Rattle.hard.specs.OneList.{originNumber, keyAt}
 use Rattle.hard.specs.SelectTheorems.{hitsAtKey}
 use Rattle.answer.specs.declared.Square.{Square}
-use Rattle.demand.specs.Demand.{OnBoard, Same, missesAt, Leads, RunsUp, Names}
+use Rattle.demand.specs.Demand.{OnBoard, Same, Leads, RunsUp, Names}
 
 -- ---- one list has one leading placing
 -- two placings are the same one, or not
@@ -95,9 +94,6 @@ module _ (B : Board) (board : BoardOk B) where
       pub hits-key : (P : Placing) → OnBoard B ts P → hitsAtKey B E ts (P .listed) (keyOf P) ≡ hitsAt B E ts P
       hits-key P o = ap₂ (hits B E (getD ts (P .listed) 0)) (row-back P o) (col-back P o)
 
-      misses-are : (P : Placing) → missesAt B E ts P ≡ size E - hitsAt B E ts P
-      misses-are P = omega (arith, hits-misses B E (getD ts (P .listed) 0) (P .row) (P .col))
-
       abbrev SoleAt : ℕ → ℕ → Type 0
       SoleAt = Sole (length ts) (originNumber (periodOf B true) (periodOf B false)) (size E) limit (hitsAtKey B E ts)
 
@@ -113,7 +109,7 @@ module _ (B : Board) (board : BoardOk B) where
             ahead = λ q j hq hj ne.
                 let u = placing-on q j hq hj in
                 let a = l .ahead (placing q j) u (λ s. let t = same-key (placing q j) P s in ne (t .0, sym (key-back q j) ∙ t .1)) in
-                omega (arith, e, misses-are P);
+                omega (arith, e);
           }
 
       pub sole-leads : (P : Placing) → OnBoard B ts P → SoleAt (P .listed) (keyOf P) → Leads B E ts limit P
@@ -122,7 +118,7 @@ module _ (B : Board) (board : BoardOk B) where
           record {
             on-board = o;
             within = ap (overLimit (size E) limit) (sym e) ∙ s .allowed;
-            ahead = λ Q u ne. omega (arith, e, misses-are P, hits-key Q u, s .ahead (Q .listed) (keyOf Q) (u .in-list) (key-below Q u) (λ t. ne (key-same Q P u o t)));
+            ahead = λ Q u ne. omega (arith, e, hits-key Q u, s .ahead (Q .listed) (keyOf Q) (u .in-list) (key-below Q u) (λ t. ne (key-same Q P u o t)));
           }
 
       -- the most hits of any other placing are a runner-up's

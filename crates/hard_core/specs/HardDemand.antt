@@ -12,4 +12,4 @@ pub record HardAnswered (call : HardCall) (d : Decoded) : Type 0 where
   pub leads : Leads (call .board) (call .logical) (call .transforms) (call .error-limit) square
   pub agrees : AgreesPhysical (call .board) (call .physical) (call .transforms) square
   pub runs-up : RunsUp (call .board) (call .logical) (call .transforms) square runner-up
-  pub tells : Tells (call .board) (call .logical) (call .transforms) d square runner-up
+  pub tells : Tells (call .board) (call .logical) (call .logical) (call .transforms) square runner-up (d .square) (d .hits) (d .edges) (d .«runner_up») (d .«runner_up_hits»)

@@ -56,7 +56,7 @@ module _ (call : HardCall) (m n : ℕ) (A : HardAccepted call m n) where
             leads = winner-leads (call .board) (call .logical) (call .transforms) (call .error-limit) (A .board) l (A .transforms .few) x r e g;
             agrees = record { winner = y; runner = o; chosen = f; transform = sym (eqb-true t s (u .0)); row = sym (eqb-true (x .placing .row) (y .placing .row) (v .0)); col = sym (eqb-true (x .placing .col) (y .placing .col) (v .1)) };
             runs-up = runs-up (call .board) (call .logical) (call .transforms) (call .error-limit) (A .board) l (A .transforms .few) x r e g;
-            tells = subst (λ (z : Decoded). Tells (call .board) (call .logical) (call .transforms) z (x .placing) (runnerAt (named (call .board) (call .logical) (call .transforms) (call .error-limit) (A .board) l (A .transforms .few) x r e g .0) r)) q (record {
+            tells = subst (λ (z : Decoded). Tells (call .board) (call .logical) (call .logical) (call .transforms) (x .placing) (runnerAt (named (call .board) (call .logical) (call .transforms) (call .error-limit) (A .board) l (A .transforms .few) x r e g .0) r) (z .square) (z .hits) (z .edges) (z .«runner_up») (z .«runner_up_hits»)) q (record {
               square = (refl, refl, refl);
               hits = winner-hits (call .board) (call .logical) (call .transforms) (call .error-limit) (A .board) l (A .transforms .few) x r e g;
               edges = refl;

@@ -6,12 +6,12 @@ use mathlib.Core.List.{List}
 use mathlib.Core.Logic.{_⊎_}
 use Prim.Native.Nat.{ℕ, _<_}
 use lib.ListN.{getD, length}
-use lib.IntN.{ℤ}
+use lib.IntN.{ℤ, pos}
 use lib.Signed.{ltZ}
-use lib.Ieee.{Float, lt}
+use lib.Ieee.{Float, binary32, lt, sub, div, ofInt}
 use Rattle.laws.specs.Words.{origins}
 use Rattle.board.specs.declared.edge.Placing.{Placing}
-use Rattle.board.specs.Hits.{EdgeList, Board, size, hitsAt}
+use Rattle.board.specs.Hits.{EdgeList, Board, size}
 use Rattle.board.specs.Sides.{periodOf}
 use Rattle.likelihood.specs.Likelihood.{dequantised}
 use Rattle.admission.specs.Calls.{SoftCall}
@@ -19,10 +19,9 @@ use Rattle.sums.specs.Sums.{Likelihoods, score}
 use Rattle.hard.specs.OneList.{keyAt}
 use Rattle.margin.specs.declared.slots.SoftCandidate.{SoftCandidate}
 use Rattle.soft.specs.BestPlacing.{FirstPlace, SecondPlace}
-use Rattle.margin.specs.Margin.{softMargin, belowMargin}
 use Rattle.soft.specs.SelectLaws.{scoreAtKey}
 use Rattle.answer.specs.declared.SoftDecoded.{SoftDecoded}
-use Rattle.demand.specs.Demand.{OnBoard, Same, Names, Leads, RunsUp}
+use Rattle.demand.specs.Demand.{OnBoard, Same, Leads, RunsUp, Names, Tells}
 
 -- the likelihood sum of a placing over the edges, a whole number
 abbrev pub wholeSum : Board → EdgeList → Likelihoods → List ℕ → Placing → ℤ
@@ -36,11 +35,12 @@ total B E X ts P = dequantised (wholeSum B E X ts P)
 abbrev pub withTotal : Board → EdgeList → Likelihoods → List ℕ → Placing → SoftCandidate
 withTotal B E X ts P = record { placing = P; total = total B E X ts P }
 
--- "Margin = (first - second) / edges"
+-- "Margin = (first - second) / edges", two f32 operations
 abbrev pub marginOf : Board → EdgeList → Likelihoods → List ℕ → Placing → Placing → Float
-marginOf B E X ts P Q = softMargin (withTotal B E X ts P) (withTotal B E X ts Q) (size E)
+marginOf B E X ts P Q = div binary32 (sub binary32 (total B E X ts P) (total B E X ts Q)) (ofInt binary32 (pos (size E)))
 
 -- ---- the two best, by rows and columns
+
 -- row by row, Q stands before P: on an earlier row, or on the same row in an earlier column
 abbrev pub RowMajorBefore : Placing → Placing → Type 0
 RowMajorBefore Q P = (Q .row < P .row) ⊎ ((Q .row ≡ P .row) × (Q .col < P .col))
@@ -61,6 +61,26 @@ pub record SecondByLikelihood (B : Board) (E : EdgeList) (X : Likelihoods) (ts :
   pub other : Same Q P → ⊥
   pub greatest-total : (R : Placing) → OnBoard B ts R → (Same R P → ⊥) → lt (total B E X ts Q) (total B E X ts R) ≡ false
 
+-- "its own best placing clears the soft margin": on the physical list P has first place and Q second place after it, and their margin is not below the soft margin
+pub record Clears (call : SoftCall) (P Q : Placing) : Type 0 where
+  pub first : FirstByLikelihood (call .hard .board) (call .hard .physical) (call .likelihoods) (call .hard .transforms) P
+  pub second : SecondByLikelihood (call .hard .board) (call .hard .physical) (call .likelihoods) (call .hard .transforms) P Q
+  pub margin : lt (marginOf (call .hard .board) (call .hard .physical) (call .likelihoods) (call .hard .transforms) P Q) (call .soft-margin) ≡ false
+
+-- what a found soft answer says: the physical list gives the square, its figures, the second by likelihood and the margin; the logical list gives the lead and the runner-up
+pub record SoftAnswered (call : SoftCall) (d : SoftDecoded) : Type 0 where
+  pub square : Placing
+  pub second : Placing
+  pub runner-up : Placing
+  pub clears : Clears call square second
+  pub leads : Leads (call .hard .board) (call .hard .logical) (call .hard .transforms) (call .hard .error-limit) square
+  pub runs-up : RunsUp (call .hard .board) (call .hard .logical) (call .hard .transforms) square runner-up
+  pub tells : Tells (call .hard .board) (call .hard .physical) (call .hard .logical) (call .hard .transforms) square runner-up (d .square) (d .hits) (d .edges) (d .«runner_up») (d .«runner_up_hits»)
+  pub best-score : d .«best_score» ≡ total (call .hard .board) (call .hard .physical) (call .likelihoods) (call .hard .transforms) square
+  pub second-named : Names (call .hard .transforms) second (d .second)
+  pub second-score : d .«second_score» ≡ total (call .hard .board) (call .hard .physical) (call .likelihoods) (call .hard .transforms) second
+  pub margin : d .margin ≡ marginOf (call .hard .board) (call .hard .physical) (call .likelihoods) (call .hard .transforms) square second
+
 -- ---- the same by keys and cells, with the tie rule of second place
 -- "its own best placing": P has first place by likelihood, and Q has second place after it (BestPlacing.antt of soft says what these are). `best-by-rows` of
 -- SoftPlaces.antt: then P and Q are first and second as above, and whoever is first as above is P
@@ -70,24 +90,11 @@ pub record BestByLikelihood (B : Board) (E : EdgeList) (X : Likelihoods) (ts : L
   pub first : FirstPlace (origins (periodOf B true) (periodOf B false)) (length ts) (scoreAtKey B E X ts) (P .listed) (keyAt (periodOf B false) (P .row) (P .col))
   pub second : SecondPlace (origins (periodOf B true) (periodOf B false)) (length ts) (scoreAtKey B E X ts) (P .listed) (keyAt (periodOf B false) (P .row) (P .col)) (Q .listed) (keyAt (periodOf B false) (Q .row) (Q .col))
 
--- what a found soft answer says: the physical list gives the square, its figures, the second by likelihood with its total, and the margin; the logical list gives the lead and the runner-up
-pub record SoftAnswered (call : SoftCall) (d : SoftDecoded) : Type 0 where
+-- what a found soft answer says of ties: the two placings that soft selection keeps are the best by likelihood, with document 01's tie rule, and the answer has the squares of both and their margin
+pub record SoftKept (call : SoftCall) (d : SoftDecoded) : Type 0 where
   pub square : Placing
   pub second : Placing
-  pub runner-up : Placing
-  pub first : FirstByLikelihood (call .hard .board) (call .hard .physical) (call .likelihoods) (call .hard .transforms) square
-  pub second-best : SecondByLikelihood (call .hard .board) (call .hard .physical) (call .likelihoods) (call .hard .transforms) square second
-  pub clears : belowMargin (marginOf (call .hard .board) (call .hard .physical) (call .likelihoods) (call .hard .transforms) square second) (call .soft-margin) ≡ false
-  pub leads : Leads (call .hard .board) (call .hard .logical) (call .hard .transforms) (call .hard .error-limit) square
-  pub runs-up : RunsUp (call .hard .board) (call .hard .logical) (call .hard .transforms) square runner-up
-  pub names : Names (call .hard .transforms) square (d .square)
-  pub hits : d .hits ≡ hitsAt (call .hard .board) (call .hard .physical) (call .hard .transforms) square
-  pub edges : d .edges ≡ size (call .hard .physical)
-  pub best-score : d .«best_score» ≡ total (call .hard .board) (call .hard .physical) (call .likelihoods) (call .hard .transforms) square
-  pub second-named : Names (call .hard .transforms) second (d .second)
-  pub second-score : d .«second_score» ≡ total (call .hard .board) (call .hard .physical) (call .likelihoods) (call .hard .transforms) second
-  pub margin : d .margin ≡ marginOf (call .hard .board) (call .hard .physical) (call .likelihoods) (call .hard .transforms) square second
-  pub runner-up-named : Names (call .hard .transforms) runner-up (d .«runner_up»)
-  pub runner-up-hits : d .«runner_up_hits» ≡ hitsAt (call .hard .board) (call .hard .logical) (call .hard .transforms) runner-up
-  -- and which of the second-best placings is meant, where several tie
   pub best : BestByLikelihood (call .hard .board) (call .hard .physical) (call .likelihoods) (call .hard .transforms) square second
+  pub names : Names (call .hard .transforms) square (d .square)
+  pub second-named : Names (call .hard .transforms) second (d .second)
+  pub margin : d .margin ≡ marginOf (call .hard .board) (call .hard .physical) (call .likelihoods) (call .hard .transforms) square second

@@ -73,14 +73,14 @@ soft-in-range call m n k A d e =
     let f = soft-floats call m n k A d e in
     record {
       wholes = record {
-        on-board = on-flat-board (h .board) (h .transforms) P (d .square) (A .hard .transforms) (A .hard .periods) (a .leads .on-board) (a .names);
-        some-hits = omega (arith, a .hits, a .edges, hits-le (h .board) (h .physical) (getD (h .transforms) (P .listed) 0) (P .row) (P .col));
-        few = omega (arith, a .edges, A .hard .physical .few);
-        runner-up-on = on-flat-board (h .board) (h .transforms) Q (d .«runner_up») (A .hard .transforms) (A .hard .periods) (a .runs-up .on-board) (a .runner-up-named);
-        runner-up-few = omega (arith, a .runner-up-hits, A .hard .logical .few, hits-le (h .board) (h .logical) (getD (h .transforms) (Q .listed) 0) (Q .row) (Q .col));
+        on-board = on-flat-board (h .board) (h .transforms) P (d .square) (A .hard .transforms) (A .hard .periods) (a .leads .on-board) (a .tells .square);
+        some-hits = omega (arith, a .tells .hits, a .tells .edges, hits-le (h .board) (h .physical) (getD (h .transforms) (P .listed) 0) (P .row) (P .col));
+        few = omega (arith, a .tells .edges, A .hard .physical .few);
+        runner-up-on = on-flat-board (h .board) (h .transforms) Q (d .«runner_up») (A .hard .transforms) (A .hard .periods) (a .runs-up .on-board) (a .tells .runner-up);
+        runner-up-few = omega (arith, a .tells .runner-up-hits, A .hard .logical .few, hits-le (h .board) (h .logical) (getD (h .transforms) (Q .listed) 0) (Q .row) (Q .col));
       };
       floats = f .0;
-      second = on-flat-board (h .board) (h .transforms) (a .second) (d .second) (A .hard .transforms) (A .hard .periods) (a .second-best .on-board) (a .second-named);
+      second = on-flat-board (h .board) (h .transforms) (a .second) (d .second) (A .hard .transforms) (A .hard .periods) (a .clears .second .on-board) (a .second-named);
       second-score = f .1;
       margin = f .2;
     }

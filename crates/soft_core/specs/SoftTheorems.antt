@@ -54,7 +54,7 @@ use Rattle.soft_core.specs.SoftLaws.{likelihoods-ok}
 use Rattle.demand.specs.Demand.{OnBoard, Same, Leads, RunsUp, Names}
 use Rattle.demand.specs.DemandLaws.{keyOf, placing, placing-on, key-same, key-back, row-back, col-back, leads-sole}
 use Rattle.soft_verdict.specs.SoftVerdictTheorems.{never-both-soft}
-use Rattle.soft_core.specs.SoftDemand.{total, withTotal, marginOf, FirstByLikelihood, SecondByLikelihood, BestByLikelihood, SoftAnswered}
+use Rattle.soft_core.specs.SoftDemand.{total, withTotal, marginOf, FirstByLikelihood, SecondByLikelihood, BestByLikelihood, SoftKept, SoftAnswered}
 use Rattle.soft_core.specs.SoftPlaces.{first-once, best-by-rows, second-total}
 use Rattle.demand.specs.Winners.{runnerAt, winner-on, winner-leads, winner-hits, named, runner-hits, runs-up}
 
@@ -171,21 +171,20 @@ module _ (call : SoftCall) (m n o : ℕ) (A : SoftAccepted call m n o) where
             square = Q;
             second = R;
             runner-up = runnerAt (l .0) r;
-            first = best-by-rows (call .hard .board) (call .hard .physical) (call .likelihoods) (call .hard .transforms) (A .hard .board) Q R b .0;
-            second-best = best-by-rows (call .hard .board) (call .hard .physical) (call .likelihoods) (call .hard .transforms) (A .hard .board) Q R b .1;
-            clears = clear;
+            clears = let p = best-by-rows (call .hard .board) (call .hard .physical) (call .likelihoods) (call .hard .transforms) (A .hard .board) Q R b in record { first = p .0; second = p .1; margin = clear };
             leads = subst (λ (z : Placing). Leads (call .hard .board) (call .hard .logical) (call .hard .transforms) (call .hard .error-limit) z) same-one lead;
             runs-up = subst (λ (z : Placing). RunsUp (call .hard .board) (call .hard .logical) (call .hard .transforms) z (runnerAt (l .0) r)) same-one (runs-up (call .hard .board) (call .hard .logical) (call .hard .transforms) (call .hard .error-limit) (A .hard .board) (A .hard .logical) (A .hard .transforms .few) x r e (p .3));
-            names = (refl, refl, refl);
-            hits = fit-hits (call .hard .board) (call .hard .physical) t (Q .row) (Q .col) (A .hard .board);
-            edges = refl;
+            tells = record {
+              square = (refl, refl, refl);
+              hits = fit-hits (call .hard .board) (call .hard .physical) t (Q .row) (Q .col) (A .hard .board);
+              edges = refl;
+              runner-up = (l .2, refl, refl);
+              runner-up-hits = sym (runner-hits (call .hard .board) (call .hard .logical) (call .hard .transforms) (call .hard .error-limit) (A .hard .board) (A .hard .logical) (A .hard .transforms .few) x r e (p .3));
+            };
             best-score = refl;
             second-named = (refl, refl, refl);
             second-score = refl;
             margin = refl;
-            runner-up-named = (l .2, refl, refl);
-            runner-up-hits = sym (runner-hits (call .hard .board) (call .hard .logical) (call .hard .transforms) (call .hard .error-limit) (A .hard .board) (A .hard .logical) (A .hard .transforms .few) x r e (p .3));
-            best = b;
           })
 
     abbrev verdict : Candidate → RunnerUp → Admission
@@ -230,6 +229,13 @@ module _ (call : SoftCall) (m n o : ℕ) (A : SoftAccepted call m n o) where
   -- FOUND MEANS TRUE
   pub soft-sound : (d : SoftDecoded) → softCore call ≡ Found d → SoftAnswered call d
   soft-sound d h = let f = found-by d h in soft-answered d (f .first) (f .second) (f .best) (f .clears) (f .winner) (f .runner) (f .selected) (f .agrees) (f .told)
+
+  -- and which of the second-best placings is meant, where several tie
+  pub soft-kept : (d : SoftDecoded) → softCore call ≡ Found d → SoftKept call d
+  unfolding softDecodedOf
+  soft-kept d h =
+      let f = found-by d h in
+      subst (λ (z : SoftDecoded). SoftKept call z) (f .told) (record { square = f .first; second = f .second; best = f .best; names = (refl, refl, refl); second-named = (refl, refl, refl); margin = refl })
 
   -- ---- its own best placing clears the margin and leads: then soft decode finds
   -- A TRUE SQUARE IS FOUND

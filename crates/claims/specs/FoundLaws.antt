@@ -45,7 +45,8 @@ use Rattle.hard_core.specs.Hard.{afterPhysical, afterLogical, hardCore}
 use Rattle.decode_hard.specs.HardAnswer.{hardAnswer}
 use Rattle.soft_verdict.specs.declared.SoftBest.{SoftBest}
 use Rattle.soft_verdict.specs.SoftVerdict.{softWhenAccepted, softDecodedOf, softVerdict, bestOf}
-use Rattle.soft_core.specs.Soft.{fitOf, softJudged, afterHard, afterSoft, softCore}
+use Rattle.soft_logical.specs.Logical.{fitOf, softJudged, afterHard}
+use Rattle.soft_core.specs.Soft.{afterSoft, softCore}
 use Rattle.decode_soft.specs.SoftAnswer.{softAnswer}
 use Rattle.flat.specs.declared.flat.FlatAnswer.{FlatAnswer}
 use Rattle.flat.specs.declared.flat_soft.FlatSoft.{FlatSoft}

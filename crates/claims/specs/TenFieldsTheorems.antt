@@ -32,7 +32,8 @@ use Rattle.verdict.specs.VerdictTheorems.{never-both, judged-is}
 use Rattle.soft_verdict.specs.declared.SoftBest.{SoftBest}
 use Rattle.soft_verdict.specs.SoftVerdict.{softDecodedOf, bestOf}
 use Rattle.hard_core.specs.Hard.{afterPhysical, afterLogical, hardCore}
-use Rattle.soft_core.specs.Soft.{fitOf, softCore}
+use Rattle.soft_logical.specs.Logical.{fitOf}
+use Rattle.soft_core.specs.Soft.{softCore}
 use Rattle.soft_core.specs.SoftDemand.{withTotal}
 use Rattle.soft_core.specs.SoftTheorems.{FoundBy, found-by}
 use Rattle.ten_fields.specs.declared.TenFields.{TenFields}

@@ -34,7 +34,8 @@ use Rattle.soft_verdict.specs.SoftVerdict.{softRefusedBy, softWhenAccepted, sof
 use Rattle.demand.specs.OneSelection.{NoneWithinLimit, SomeWithinLimit, NoneLeads, Winner, Ended, ended, none-refused, within-refused, some-winner, winner-some}
 use Rattle.demand.specs.Winners.{winner-leads}
 use Rattle.soft_core.specs.SoftDemand.{withTotal, marginOf, BestByLikelihood}
-use Rattle.soft_core.specs.Soft.{fitOf, softJudged, afterHard, afterSoft, softCore}
+use Rattle.soft_logical.specs.Logical.{fitOf, softJudged, afterHard}
+use Rattle.soft_core.specs.Soft.{afterSoft, softCore}
 use Rattle.soft_core.specs.SoftTheorems.{own-best, own-exists, first-placing, second-placing}
 use Rattle.soft_verdict.specs.SoftVerdictTheorems.{soft-apart, soft-found-not}
 

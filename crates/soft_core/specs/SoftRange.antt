@@ -24,7 +24,8 @@ use Rattle.admission.specs.Accepted.{SoftAccepted}
 use Rattle.answer.specs.declared.SoftDecoded.{SoftDecoded}
 use Rattle.answer.specs.declared.SoftAnswer.the-variants.{Found}
 use Rattle.demand.specs.FoundRange.{FloatsFinite, SoftAnswerInRange, on-flat-board}
-use Rattle.soft_core.specs.Soft.{cellFit, fitOf, softCore}
+use Rattle.soft_logical.specs.Logical.{cellFit, fitOf}
+use Rattle.soft_core.specs.Soft.{softCore}
 use Rattle.soft_core.specs.SoftLaws.{likelihoods-ok}
 use Rattle.soft_core.specs.SoftDemand.{wholeSum, total, withTotal, marginOf}
 use Rattle.soft_core.specs.SoftTheorems.{fit-hits, found-by, soft-sound}

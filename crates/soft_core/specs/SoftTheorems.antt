@@ -49,7 +49,8 @@ use Rattle.answer.specs.declared.SoftAnswer.{SoftAnswer}
 use Rattle.answer.specs.declared.SoftAnswer.the-variants.{Found, Refused}
 use Rattle.verdict.specs.Verdict.{pick}
 use Rattle.soft_verdict.specs.SoftVerdict.{softRefusedBy, softWhenAccepted, softVerdict, softDecodedOf, bestOf}
-use Rattle.soft_core.specs.Soft.{cellFit, fitOf, softJudged, afterHard, afterSoft, softCore}
+use Rattle.soft_logical.specs.Logical.{cellFit, fitOf, softJudged, afterHard}
+use Rattle.soft_core.specs.Soft.{afterSoft, softCore}
 use Rattle.soft_core.specs.SoftLaws.{likelihoods-ok}
 use Rattle.demand.specs.Demand.{OnBoard, Same, Leads, RunsUp, Names}
 use Rattle.demand.specs.DemandLaws.{keyOf, placing, placing-on, key-same, key-back, row-back, col-back, leads-sole}

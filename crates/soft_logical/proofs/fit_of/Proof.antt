@@ -1,10 +1,10 @@
 use denote.Ref.{now}
 use Rattle.board.specs.Hits.{edges, tables}
 use Rattle.hard.specs.SelectLaws.{room-ready}
-use Rattle.soft_core.specs.SoftLaws.{fit-done}
+use Rattle.soft_logical.specs.LogicalLaws.{fit-done}
 use borrow.Author.Needs.{needs}
-use Rattle.soft_core.proofs.fit_of.Statement.{statement}
-use Rattle.soft_core.proofs.fit_of.Tie as tie
+use Rattle.soft_logical.proofs.fit_of.Statement.{statement}
+use Rattle.soft_logical.proofs.fit_of.Tie as tie
 
 build-tables-requires : tie.Need-build-tables-requires
 build-tables-requires c κs = search needs

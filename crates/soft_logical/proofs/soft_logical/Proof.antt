@@ -7,10 +7,10 @@ use lib.ListN.{length}
 use Rattle.board.specs.Hits.{edges, tables, size}
 use Rattle.admission.specs.Calls.{HardCall, hardCall}
 use Rattle.demand.specs.Ready.{ready-logical, logical-winner}
-use Rattle.soft_core.specs.SoftLaws.{logical-refused, fit-ready, verdict-refused, own-few, verdict-found}
+use Rattle.soft_logical.specs.LogicalLaws.{logical-refused, fit-ready, verdict-refused, own-few, verdict-found}
 use borrow.Author.Needs.{needs}
-use Rattle.soft_core.proofs.soft_logical.Statement.{statement}
-use Rattle.soft_core.proofs.soft_logical.Tie as tie
+use Rattle.soft_logical.proofs.soft_logical.Statement.{statement}
+use Rattle.soft_logical.proofs.soft_logical.Tie as tie
 
 -- what the function was given
 module _ (s : tie.Start) where

@@ -2,10 +2,10 @@ use Prim.Native.Nat.{ℕ, _+_, _*_, _%_, _≤_, _<_}
 use native.Mathlib.Omega.{arith}
 use denote.Ref.{now}
 use Rattle.laws.specs.GridLaws.{h-below, v-below}
-use Rattle.soft_core.specs.SoftLaws.{positive, cells-few, fit-read}
+use Rattle.soft_logical.specs.LogicalLaws.{positive, cells-few, fit-read}
 use borrow.Author.Needs.{needs}
-use Rattle.soft_core.proofs.fit_at.Statement.{statement}
-use Rattle.soft_core.proofs.fit_at.Tie as tie
+use Rattle.soft_logical.proofs.fit_at.Statement.{statement}
+use Rattle.soft_logical.proofs.fit_at.Tie as tie
 
 -- the two cells are inside
 module _ (c : tie.Start) where

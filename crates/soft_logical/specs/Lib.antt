@@ -1,0 +1,2 @@
+pub mod Logical
+pub mod LogicalLaws

@@ -65,6 +65,7 @@ use Rattle.soft_core.specs.SoftPlaces.{best-by-rows}
 use Rattle.soft_core.specs.SoftTheorems.{soft-sound, soft-kept, soft-complete-by-rows}
 use Rattle.stats.specs.Stats.{statsAnswer, statsOf, orCounted}
 use Rattle.stats.specs.StatsRange.{StatsInRange, stats-in-range}
+use Rattle.claims.specs.TenFieldsTheorems.{HardTold, hard-ten-fields, SoftTold, soft-ten-fields}
 use Rattle.claims.specs.Late.{hardLate, softLate}
 use Rattle.claims.specs.Promises.{NumberAndPlace, Emptied, WinsByHits, HardPromise, SoftPromise, StatsPromise, EarlyNumber, RunnerUpAlways, InHardDomain, HardGave, HardParticulars, InSoftDomain, SoftGave, MarginOfTheTwo, SoftParticulars, StatsParticulars}
 use Rattle.claims.specs.DemandsLaws.{answers, soft-answers, stats-answers, demands-met}
@@ -122,7 +123,7 @@ module _ (call : HardCall) (before after : HardRoom) (answer : Answer) (done : H
   pub hard-accepts : (hardChecked call before ≡ admission.Accepted → InHardDomain call before) × (InHardDomain call before → hardChecked call before ≡ admission.Accepted)
   hard-accepts = hard-domain call before
 
-  taken : InHardDomain call before → HardAccepted call (length (before .counts)) (length (before .weights))
+  pub taken : InHardDomain call before → HardAccepted call (length (before .counts)) (length (before .weights))
   taken domain = hard-accepted call (length (before .counts)) (length (before .weights)) (hard-accepts .1 domain)
 
   -- an early refusal: handed on whole, with its place, and both slices as they were
@@ -158,7 +159,7 @@ module _ (call : HardCall) (before after : HardRoom) (answer : Answer) (done : H
   hard-refused-exactly domain = subst (HardLate call) (sym (core domain)) (hard-late-numbers call (length (before .counts)) (length (before .weights)) (taken domain))
 
   -- a found answer: the call is in the domain, and it is the decoder's
-  told : (found : Decoded) → answer ≡ Found found → InHardDomain call before × (hardCore call ≡ Found found)
+  pub told : (found : Decoded) → answer ≡ Found found → InHardDomain call before × (hardCore call ≡ Found found)
   unfolding hardAnswer
   told d e = let f = found-only (hardChecked call before) (hardCore call) d (sym e ∙ done .answer) in (hard-accepts .0 (f .0), f .1)
 
@@ -167,6 +168,10 @@ module _ (call : HardCall) (before after : HardRoom) (answer : Answer) (done : H
 
   pub hard-no-influence : (before' after' : HardRoom) (answer' : Answer) → HardGave call before' after' answer' → length (before' .counts) ≡ length (before .counts) → length (before' .weights) ≡ length (before .weights) → answer' ≡ answer
   hard-no-influence before' after' answer' other p q = other .answer ∙ ap₂ (hardAnswer call) p q ∙ sym (done .answer)
+
+  -- C-12: document 01's ten fields come out of a found answer
+  pub hard-old-fields : (found : Decoded) (e : answer ≡ Found found) → HardTold call (length (before .counts)) (length (before .weights)) (taken (told found e .0)) found
+  hard-old-fields d e = let f = told d e in hard-ten-fields call (length (before .counts)) (length (before .weights)) (taken (f .0)) d (f .1)
 
   -- DEMAND 2
   pub hard-by-the-rules : answer ≡ hardAnswer call (length (before .counts)) (length (before .weights))
@@ -227,7 +232,7 @@ module _ (call : SoftCall) (before after : SoftRoom) (answer : SoftAnswer) (done
   pub soft-accepts : (softChecked call before ≡ admission.Accepted → InSoftDomain call before) × (InSoftDomain call before → softChecked call before ≡ admission.Accepted)
   soft-accepts = soft-domain call before
 
-  admitted : InSoftDomain call before → SoftAccepted call (length (before .counts)) (length (before .weights)) (length (before .sums))
+  pub admitted : InSoftDomain call before → SoftAccepted call (length (before .counts)) (length (before .weights)) (length (before .sums))
   admitted domain = soft-accepted call (length (before .counts)) (length (before .weights)) (length (before .sums)) (soft-accepts .1 domain)
 
   -- an early refusal: handed on whole, with its place, and all three slices as they were
@@ -267,7 +272,7 @@ module _ (call : SoftCall) (before after : SoftRoom) (answer : SoftAnswer) (done
   soft-refused-exactly domain =
       subst (SoftLate call) (sym (soft-core domain)) (soft-late-numbers call (length (before .counts)) (length (before .weights)) (length (before .sums)) (admitted domain))
 
-  soft-told : (found : SoftDecoded) → answer ≡ soft.Found found → InSoftDomain call before × (softCore call ≡ soft.Found found)
+  pub soft-told : (found : SoftDecoded) → answer ≡ soft.Found found → InSoftDomain call before × (softCore call ≡ soft.Found found)
   unfolding softAnswer
   soft-told d e = let f = soft-found-only (softChecked call before) (softCore call) d (sym e ∙ done .answer) in (soft-accepts .0 (f .0), f .1)
 
@@ -284,6 +289,10 @@ module _ (call : SoftCall) (before after : SoftRoom) (answer : SoftAnswer) (done
       let f = soft-told d e in
       let a = soft-sound call (length (before .counts)) (length (before .weights)) (length (before .sums)) (admitted (f .0)) d (f .1) in
       a .margin ∙ (λ i. div binary32 (sub binary32 (sym (a .best-score) i) (sym (a .second-score) i)) (ofInt binary32 (pos (sym (a .tells .edges) i))))
+
+  -- and document 01's ten fields come out
+  pub soft-old-fields : (found : SoftDecoded) (e : answer ≡ soft.Found found) → SoftTold call (length (before .counts)) (length (before .weights)) (length (before .sums)) (admitted (soft-told found e .0)) found
+  soft-old-fields d e = let f = soft-told d e in soft-ten-fields call (length (before .counts)) (length (before .weights)) (length (before .sums)) (admitted (f .0)) d (f .1)
 
   -- DEMAND 2
   pub soft-by-the-rules : answer ≡ softAnswer call (length (before .counts)) (length (before .weights)) (length (before .sums))

@@ -1,3 +1,4 @@
+pub mod TenFieldsTheorems
 pub mod Late
 pub mod Promises
 pub mod DemandsLaws
@@ -7,4 +8,3 @@ pub mod NumbersToTry
 pub mod FoundLaws
 pub mod Ranges
 pub mod Witness
-pub mod TenFieldsTheorems

@@ -36,7 +36,7 @@ use Rattle.answer.specs.declared.Decoded.{Decoded}
 use Rattle.answer.specs.declared.Answer.{Answer}
 use Rattle.answer.specs.declared.Answer.the-variants.{Found, Refused}
 use Rattle.verdict.specs.Verdict.{whenAccepted}
-use Rattle.demand.specs.Ready.{ready-logical, beyond}
+use Rattle.hard.specs.Ready.{ready-logical, beyond}
 use Rattle.soft_verdict.specs.SoftVerdict.{softVerdict, softDecodedOf}
 use Rattle.soft_logical.specs.Logical.{cellFit, fitOf, softJudged, afterHard, FitDone, Figured, LogicalRooms, LogicalDone}
 

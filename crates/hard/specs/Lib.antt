@@ -3,6 +3,7 @@ pub mod OneListLaws
 pub mod Placings
 pub mod PlacingsLaws
 pub mod RateLaws
+pub mod Ready
 pub mod Select
 pub mod SelectLaws
 pub mod SelectTheorems

@@ -29,7 +29,7 @@ use Rattle.hard.specs.SelectTheorems.{selected-in-range}
 use Rattle.answer.specs.declared.Answer.{Answer}
 use Rattle.answer.specs.declared.Answer.the-variants.{Found, Refused}
 use Rattle.verdict.specs.Verdict.{judged}
-use Rattle.demand.specs.Ready.{ready-logical, ready-physical, beyond}
+use Rattle.hard.specs.Ready.{ready-logical, ready-physical, beyond}
 use Rattle.hard_core.specs.Hard.{afterPhysical, afterLogical, hardCore, PhysicalRooms, CoreRooms, CoreDone}
 
 -- ---- the three ways in which the core ends

@@ -35,7 +35,7 @@ use Rattle.soft_verdict.specs.declared.SoftBest.{SoftBest}
 use Rattle.answer.specs.declared.SoftDecoded.{SoftDecoded}
 use Rattle.answer.specs.declared.SoftAnswer.{SoftAnswer}
 use Rattle.answer.specs.declared.SoftAnswer.the-variants.{Found, Refused}
-use Rattle.demand.specs.Ready.{ready-logical, beyond}
+use Rattle.hard.specs.Ready.{ready-logical, beyond}
 use Rattle.soft_verdict.specs.SoftVerdict.{softWhenAccepted, softVerdict, softDecodedOf}
 use Rattle.soft_logical.specs.Logical.{cellFit, fitOf, softJudged, afterHard, FitDone, Figured, LogicalRooms, LogicalDone}
 

@@ -6,7 +6,7 @@ use lib.ListN.{length}
 use Rattle.board.specs.Hits.{edges, tables}
 use Rattle.admission.specs.Calls.{HardCall, hardCall}
 use Rattle.admission.specs.Accepted.{HardAccepted, hard-accepted}
-use Rattle.demand.specs.Ready.{cleared-used}
+use Rattle.hard.specs.Ready.{cleared-used}
 use Rattle.decode_hard.specs.HardAnswerLaws.{hard-refused, hard-done}
 use borrow.Author.Needs.{needs}
 use Rattle.decode_hard.proofs.decode_hard.Statement.{statement}

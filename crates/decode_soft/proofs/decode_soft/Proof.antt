@@ -7,7 +7,7 @@ use Rattle.board.specs.Hits.{edges, tables}
 use Rattle.likelihood.specs.Likelihood.{likelihoods}
 use Rattle.admission.specs.Calls.{SoftCall, softCall}
 use Rattle.admission.specs.Accepted.{SoftAccepted, soft-accepted}
-use Rattle.demand.specs.Ready.{cleared-used}
+use Rattle.hard.specs.Ready.{cleared-used}
 use Rattle.decode_soft.specs.SoftAnswerLaws.{soft-refused, soft-done}
 use borrow.Author.Needs.{needs}
 use Rattle.decode_soft.proofs.decode_soft.Statement.{statement}

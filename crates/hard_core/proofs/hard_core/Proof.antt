@@ -9,7 +9,7 @@ use Rattle.board.specs.Hits.{edges, tables, size}
 use Rattle.admission.specs.Calls.{HardCall, hardCall}
 use Rattle.admission.specs.Accepted.{HardAccepted}
 use Rattle.hard.specs.SelectLaws.{select-beyond}
-use Rattle.demand.specs.Ready.{ready-logical, ready-physical, logical-winner, physical-winner}
+use Rattle.hard.specs.Ready.{ready-logical, ready-physical, logical-winner, physical-winner}
 use Rattle.hard_core.specs.HardLaws.{core-refused, core-physical-refused, core-judged}
 use borrow.Author.Needs.{needs}
 use Rattle.hard_core.proofs.hard_core.Statement.{statement}

@@ -6,7 +6,7 @@ use denote.Ref.{now}
 use lib.ListN.{length}
 use Rattle.board.specs.Hits.{edges, tables, size}
 use Rattle.admission.specs.Calls.{HardCall, hardCall}
-use Rattle.demand.specs.Ready.{ready-logical, logical-winner}
+use Rattle.hard.specs.Ready.{ready-logical, logical-winner}
 use Rattle.soft_logical.specs.LogicalLaws.{logical-refused, fit-ready, verdict-refused, own-few, verdict-found}
 use borrow.Author.Needs.{needs}
 use Rattle.soft_logical.proofs.soft_logical.Statement.{statement}

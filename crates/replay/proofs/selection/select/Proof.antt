@@ -5,7 +5,7 @@ use lib.ListN.{length}
 use Rattle.board.specs.Hits.{edges, tables}
 use Rattle.admission.specs.Calls.{HardCall, hardCall}
 use Rattle.admission.specs.Accepted.{HardAccepted, hard-accepted}
-use Rattle.demand.specs.Ready.{ready-logical}
+use Rattle.hard.specs.Ready.{ready-logical}
 use borrow.Author.Needs.{needs}
 use Rattle.replay.proofs.selection.select.Statement.{statement}
 use Rattle.replay.proofs.selection.select.Tie as tie

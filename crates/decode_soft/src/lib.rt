@@ -95,9 +95,10 @@ pub fn decode_soft<'a>(
                 v: v.len(),
             };
             let used = room::used_by_tables(periods);
+            let used_sums = room::used_by_sums(periods);
             clearing::clear_u32(counts, used);
             clearing::clear_f32(weights, used);
-            clearing::clear_i64(sums, room::used_by_sums(periods));
+            clearing::clear_i64(sums, used_sums);
             answer
         }
     }

@@ -44,8 +44,11 @@ told c = core c .before .before .before .before
 abbrev counted : tie.After-clear-f32 → tie.After-clear-u32
 counted c = c .before .before .before .before
 
+abbrev summed : tie.After-clear-u32 → tie.After-used-by-sums
+summed c = c .before .before
+
 abbrev measured : tie.After-clear-u32 → tie.After-used-by-tables
-measured c = c .before .before
+measured c = summed c .before
 
 soft-admission-requires : tie.Need-soft-admission-requires
 soft-admission-requires c κs = search needs
@@ -69,7 +72,7 @@ used-by-tables-requires : tie.Need-used-by-tables-requires
 used-by-tables-requires c κs = let p = accepted (told c) .hard .periods in record { some = (omega (arith, p .0), omega (arith, p .1)); few = (omega (arith, p .0), omega (arith, p .1)) }
 
 clear-u32-requires : tie.Need-clear-u32-requires
-clear-u32-requires c κs = let k = c .before .before in omega (arith, accepted (told k) .hard .room .0, core k .soft-core .ensures .counts .len, c .before .used-by-tables .ensures)
+clear-u32-requires c κs = let k = c .before .before .before in omega (arith, accepted (told k) .hard .room .0, core k .soft-core .ensures .counts .len, c .before .before .used-by-tables .ensures)
 
 clear-f32-requires : tie.Need-clear-f32-requires
 clear-f32-requires c κs =
@@ -79,14 +82,14 @@ clear-f32-requires c κs =
 
 used-by-sums-requires : tie.Need-used-by-sums-requires
 used-by-sums-requires c κs =
-    let k = measured (counted (c .before .before .before)) .before in
-    let p = accepted (told k) .hard .periods in
+    let p = accepted (told (c .before)) .hard .periods in
     record { some = (omega (arith, p .0), omega (arith, p .1)); few = (omega (arith, p .0), omega (arith, p .1)) }
 
 clear-i64-requires : tie.Need-clear-i64-requires
 clear-i64-requires c κs =
-    let k = measured (counted (c .before .before .before .before)) .before in
-    omega (arith, accepted (told k) .room, core k .soft-core .ensures .sums .len, c .used-by-sums .ensures)
+    let u = counted (c .before .before .before) in
+    let k = measured u .before in
+    omega (arith, accepted (told k) .room, core k .soft-core .ensures .sums .len, summed u .used-by-sums .ensures)
 
 same-length : tie.Need-same-length
 same-length c = search needs
@@ -100,7 +103,7 @@ same-length-3 c = search needs
 returns-2 : tie.Need-returns-2
 returns-2 c =
     let z = c .before in
-    let f = z .before .before .before .before .before in
+    let f = z .before .before .before .before in
     let u = counted f in
     let n = measured u in
     let k = n .before in
@@ -110,7 +113,7 @@ returns-2 c =
     (core k .soft-core .ensures)
     (cleared-used _ _ _ _ _ (n .used-by-tables .ensures) (u .clear-u32 .ensures))
     (cleared-used _ _ _ _ _ (n .used-by-tables .ensures) (f .clear-f32 .ensures))
-    (cleared-used _ _ _ _ _ (z .before .used-by-sums .ensures) (z .clear-i64 .ensures))
+    (cleared-used _ _ _ _ _ (summed u .used-by-sums .ensures) (z .clear-i64 .ensures))
 
 pub decode-soft-spec : {M : Type 1} → statement M
-decode-soft-spec = tie.close (tie.spec soft-admission-requires enum-known-admitted enum-told soft-core-requires used-by-tables-requires clear-u32-requires clear-f32-requires used-by-sums-requires clear-i64-requires returns same-length same-length-2 same-length-3 returns-2)
+decode-soft-spec = tie.close (tie.spec soft-admission-requires enum-known-admitted enum-told soft-core-requires used-by-tables-requires used-by-sums-requires clear-u32-requires clear-f32-requires clear-i64-requires returns same-length same-length-2 same-length-3 returns-2)

@@ -3,11 +3,10 @@
 use mathlib.Core.Path.{_≡_}
 use mathlib.Core.Bool.{true, false}
 use mathlib.Core.List.{List, [], _∷_}
-use Prim.Native.Nat.{ℕ, _≤_, _<_}
+use Prim.Native.Nat.{ℕ, _*_, _≤_, _<_}
 use lib.ListN.{getD, length}
 use lib.IntN.{pos, natAbs}
-use lib.Ieee.{Float, nan, fin, le}
-use Rattle.laws.specs.Words.{zeroF, oneF}
+use lib.Ieee.{Float, nan, inf, fin, up, down}
 use Rattle.board.specs.Hits.{EdgeList, Board, size}
 use Rattle.admission.specs.Calls.{HardCall, SoftCall, HardRoom, SoftRoom}
 use Rattle.admission.specs.Conditions.{Condition}
@@ -16,12 +15,14 @@ use Rattle.admission.specs.Conditions.{Condition}
 abbrev pub AtMost : ℕ → List ℕ → Type 0
 AtMost most xs = (i : ℕ) → i < length xs → getD xs i 0 ≤ most
 
--- a float from `least` to `most`: no NaN is one, and -0 counts as 0
-abbrev pub Between : Float → Float → Float → Type 0
-Between least most x = (le least x ≡ true) × (le x most ≡ true)
+-- a finite float from -below to above, by its value: `fin s m e` is m * up e / down e, negative where s is true. So -0 counts as 0
+abbrev pub Between : ℕ → ℕ → Float → Type 0
+Between below above nan = ⊥
+Between below above (inf s) = ⊥
+Between below above (fin true m e) = m * up e ≤ below * down e
+Between below above (fin false m e) = m * up e ≤ above * down e
 
--- the conditions on every call. `each P` says that P holds of each list of the call, which has `least` edges or more. `columns` is asked of the lengths of the likelihoods, and
--- `settings` of limit, margin or origin; a call without room or likelihoods is asked nothing of them
+-- the conditions on every call. `each P` says P of each list, of `least` edges or more; `columns` is about the lengths of the likelihoods, `settings` about limit, margin or origin
 unfoldable pub early : ((EdgeList → Type 0) → Type 0) → ℕ → List ℕ → Board → (room columns likelihoods settings : Type 0) → List Condition
 early each least transforms board room columns likelihoods settings =
     (1, room)
@@ -30,7 +31,7 @@ early each least transforms board room columns likelihoods settings =
     ∷ (4, each (λ E. (i : ℕ) → i < size E → (natAbs (getD (E .rows) i (pos 0)) ≤ 1000000) × (natAbs (getD (E .cols) i (pos 0)) ≤ 1000000)))
     ∷ (16, each (λ E. AtMost 1 (E .orientations)))
     ∷ (17, each (λ E. AtMost 1 (E .bits)))
-    ∷ (5, each (λ E. (i : ℕ) → i < length (E .confidences) → Between zeroF oneF (getD (E .confidences) i nan)))
+    ∷ (5, each (λ E. (i : ℕ) → i < length (E .confidences) → Between 0 1 (getD (E .confidences) i nan)))
     ∷ (6, likelihoods)
     ∷ (7, (1 ≤ length transforms) × (length transforms ≤ 8) × AtMost 7 transforms)
     ∷ (8, (length (board .h) ≡ 167) × AtMost 7 (board .h) × (length (board .v) ≡ 167) × AtMost 7 (board .v))
@@ -40,17 +41,16 @@ early each least transforms board room columns likelihoods settings =
 unfoldable pub hardEarly : HardCall → HardRoom → List Condition
 hardEarly call room =
     early (λ P. P (call .logical) × P (call .physical)) 1 (call .transforms) (call .board)
-    ((3006 ≤ length (room .counts)) × (3006 ≤ length (room .weights))) (Unit {0}) (Unit {0}) (Between zeroF oneF (call .error-limit))
+    ((3006 ≤ length (room .counts)) × (3006 ≤ length (room .weights))) (Unit {0}) (Unit {0}) (Between 0 1 (call .error-limit))
 
--- a soft call: "soft also 5,010 i64", "Each log likelihood is a finite f32 from -65,536 to 65,536", "Soft margin: f32 from 0 to 65,536" (65,536 is `fin false 1 (pos 16)`)
+-- a soft call: "soft also 5,010 i64", "Each log likelihood is a finite f32 from -65,536 to 65,536", "Soft margin: f32 from 0 to 65,536"
 unfoldable pub softEarly : SoftCall → SoftRoom → List Condition
 softEarly call room =
-    let likely : Float → Type 0 = Between (fin true 1 (pos 16)) (fin false 1 (pos 16)) in
     early (λ P. P (call .hard .logical) × P (call .hard .physical)) 1 (call .hard .transforms) (call .hard .board)
     ((3006 ≤ length (room .counts)) × (3006 ≤ length (room .weights)) × (5010 ≤ length (room .sums)))
     ((length (call .likelihoods .matches) ≡ size (call .hard .physical)) × (length (call .likelihoods .mismatches) ≡ size (call .hard .physical)))
-    ((i : ℕ) → i < size (call .hard .physical) → likely (getD (call .likelihoods .matches) i nan) × likely (getD (call .likelihoods .mismatches) i nan))
-    (Between zeroF oneF (call .hard .error-limit) × Between zeroF (fin false 1 (pos 16)) (call .soft-margin))
+    ((i : ℕ) → i < size (call .hard .physical) → Between 65536 65536 (getD (call .likelihoods .matches) i nan) × Between 65536 65536 (getD (call .likelihoods .mismatches) i nan))
+    (Between 0 1 (call .hard .error-limit) × Between 0 65536 (call .soft-margin))
 
 -- match statistics, which have no room and also take no edges: "An origin given to match statistics: 0 to 500 each way"
 unfoldable pub statsEarly : EdgeList → ℕ → ℕ → ℕ → Board → List Condition

@@ -18,6 +18,7 @@ use Rattle.laws.specs.Words.{first, zeroF, oneF, Weight}
 use Rattle.laws.specs.First.{first-least, first-none}
 use Rattle.board.specs.Hits.{EdgeList, Board, size}
 use Rattle.likelihood.specs.Likelihood.{acceptable}
+use Rattle.likelihood.specs.LikelihoodLaws.{Within, acceptable-within, within-acceptable}
 use Rattle.refusals.specs.declared.Refusal.{Refusal}
 use Rattle.refusals.specs.declared.Admission.{Admission}
 use Rattle.refusals.specs.declared.Admission.the-variants.{Accepted, Refused}
@@ -68,6 +69,72 @@ first-tested bad n Good t = ((λ e i l. t i .0 (first-none bad n (ltb-false (fir
     none : ((i : ℕ) → i < n → bad i ≡ false) → ltb (first bad n) n ≡ false
     none h = let e : first bad n ≡ n = first-least bad n n (le-refl n) h (λ l. absurd (omega arith)) in le-ltb (first bad n) n (omega arith)
 
+-- ---- a float between two others by comparing, and by its value
+abbrev Compared : Float → Float → Float → Type 0
+Compared least most x = (le least x ≡ true) × (le x most ≡ true)
+
+le-of : (a b : ℕ) (t : Bool) → (ltb a b || (eqb a b && t)) ≡ true → a ≤ b
+le-of a b t h = ⊎-elim (λ e. let l = ltb-true a b e in omega arith) (λ e. let q = eqb-true a b (and-true (eqb a b) t e .0) in omega arith) (or-true (ltb a b) _ h)
+
+of-le : (a b : ℕ) → a ≤ b → (ltb a b || (eqb a b && true)) ≡ true
+of-le a b h = ⊎-elim (λ l. rw (lt-ltb a b l)) (λ l. let e : a ≡ b = omega arith in rw (le-ltb a b l, eq-eqb a b e)) (compared a b)
+
+none-left : (m u : ℕ) → 0 < u → m * u ≡ 0 → m ≡ 0
+none-left zero u h k = refl
+none-left (suc m) u h k = let p = mul-pos (zero-lt-suc m) h in absurd (omega arith)
+
+between-value : (k : ℕ) (x : Float) → Compared zeroF (fin false 1 (pos k)) x → Weight x (2 ^ k)
+unfolding le lt eq
+between-value k nan h = absurd (true≢false (sym (h .0)))
+between-value k (inf true) h = absurd (true≢false (sym (h .0)))
+between-value k (inf false) h = absurd (true≢false (sym (h .1)))
+between-value k (fin true m e) h =
+    let q = and-true (eqb (0 * down e) (m * up e * 1)) _ (h .0) .0 in
+    let z : 0 ≡ m * up e = sym (zero-mul (down e)) ∙ eqb-true _ _ q ∙ mul-one (m * up e) in
+    none-left m (up e) (up-pos e) (sym z)
+between-value k (fin false m e) h = rw (mul-one, one-mul) at (le-of (m * up e * 1) (1 * 2 ^ k * down e) true (h .1))
+
+value-between : (k : ℕ) (x : Float) → Weight x (2 ^ k) → Compared zeroF (fin false 1 (pos k)) x
+unfolding le lt eq
+value-between k (fin true m e) h =
+    let z : 0 * down e ≡ m * up e * 1 = rw (h, zero-mul, zero-mul, zero-mul) in
+    let p : 0 < m * up e * 1 + 1 * 2 ^ k * down e = let q = mul-pos (mul-pos (zero-lt-suc 0) (pow-pos k)) (down-pos e) in omega arith in
+    (and-both _ _ (eq-eqb _ _ z) (eq-eqb _ _ (zero-mul (down e))), or-left (ltb 0 (m * up e * 1 + 1 * 2 ^ k * down e)) _ (lt-ltb _ _ p))
+  where
+    and-both : (p q : Bool) → p ≡ true → q ≡ true → (p && q) ≡ true
+    and-both p q a b = rw (a, b)
+
+    or-left : (p q : Bool) → p ≡ true → (p || q) ≡ true
+    or-left p q a = rw a
+value-between k (fin false m e) h = (of-le (0 * down e) (m * up e * 1) (rw zero-mul (omega arith)), of-le (m * up e * 1) (1 * 2 ^ k * down e) (rw (mul-one, one-mul) h))
+
+-- a weight is between 0 and its bound
+weight-between : (a : ℕ) (x : Float) → Weight x a → Between 0 a x
+weight-between a (fin true m e) h = rw (h, zero-mul, zero-mul) (le-refl 0)
+weight-between a (fin false m e) h = h
+
+between-weight : (a : ℕ) (x : Float) → Between 0 a x → Weight x a
+between-weight a (fin true m e) h = none-left m (up e) (up-pos e) (let z : m * up e ≤ 0 = rw zero-mul at h in omega arith)
+between-weight a (fin false m e) h = h
+
+within-between : (x : Float) → Within x → Between 65536 65536 x
+within-between (fin true m e) h = h
+within-between (fin false m e) h = h
+
+between-within : (x : Float) → Between 65536 65536 x → Within x
+between-within (fin true m e) h = h
+between-within (fin false m e) h = h
+
+between-tested : (k : ℕ) (x : Float) → Tests (not (inRange (fin false 1 (pos k)) x)) (Between 0 (2 ^ k) x)
+unfolding inRange
+between-tested k x =
+    let top = fin false 1 (pos k) in
+    let t : Tests (not (le zeroF x && le x top)) (Compared zeroF top x) = and-tested (le zeroF x) (le x top) (so-tested (le zeroF x)) (so-tested (le x top)) in
+    ((λ e. weight-between (2 ^ k) x (between-value k x (t .0 e))), λ h. t .1 (value-between k x (between-weight (2 ^ k) x h)))
+
+likely-tested : (x : Float) → Tests (not (acceptable x)) (Between 65536 65536 x)
+likely-tested x = ((λ e. within-between x (acceptable-within x (not-false _ e))), λ h. ap not (within-acceptable x (between-within x h)))
+
 -- ---- one list
 far-tested : (z : ℤ) → Tests (far z) (natAbs z ≤ 1000000)
 unfolding far
@@ -83,10 +150,6 @@ far-tested (negsuc n) = (
 bytes-tested : (most : ℕ) (xs : List ℕ) → Tests (ltb (firstBadByte most xs) (length xs)) (AtMost most xs)
 unfolding firstBadByte
 bytes-tested most xs = first-tested (badByte most xs) (length xs) (λ i. getD xs i 0 ≤ most) (λ i. at-most-tested most (getD xs i 0))
-
-between-tested : (top x : Float) → Tests (not (inRange top x)) (Between zeroF top x)
-unfolding inRange
-between-tested top x = and-tested (le zeroF x) (le x top) (so-tested (le zeroF x)) (so-tested (le x top))
 
 module _ (E : EdgeList) where
   lengths-tested : Tests (lengthsDiffer E) ((length (E .cols) ≡ size E) × (length (E .orientations) ≡ size E) × (length (E .bits) ≡ size E) × (length (E .confidences) ≡ size E))
@@ -107,9 +170,9 @@ module _ (E : EdgeList) where
   unfolding firstBadCoordinate
   coordinates-tested = first-tested (badCoordinate (E .rows) (E .cols)) (size E) _ (λ i. or-tested (far-tested (getD (E .rows) i (pos 0))) (far-tested (getD (E .cols) i (pos 0))))
 
-  confidences-tested : Tests (ltb (firstBadConfidence (E .confidences)) (length (E .confidences))) ((i : ℕ) → i < length (E .confidences) → Between zeroF oneF (getD (E .confidences) i nan))
+  confidences-tested : Tests (ltb (firstBadConfidence (E .confidences)) (length (E .confidences))) ((i : ℕ) → i < length (E .confidences) → Between 0 1 (getD (E .confidences) i nan))
   unfolding firstBadConfidence
-  confidences-tested = first-tested (badConfidence (E .confidences)) (length (E .confidences)) _ (λ i. between-tested oneF (getD (E .confidences) i nan))
+  confidences-tested = first-tested (badConfidence (E .confidences)) (length (E .confidences)) _ (λ i. between-tested 0 (getD (E .confidences) i nan))
 
 -- ---- transforms, tables
 transforms-tested : (ts : List ℕ) → Tests (transformsBad ts) ((1 ≤ length ts) × (length ts ≤ 8) × AtMost 7 ts)
@@ -146,7 +209,7 @@ bits-judged : (l : ListName) (E : EdgeList) → Judged (refusedAt 17 l (firstBad
 bits-judged l E = judged-at 17 l (firstBadByte 1 (E .bits)) (length (E .bits)) (bytes-tested 1 (E .bits))
 
 confidences-judged : (l : ListName) (E : EdgeList)
-    → Judged (refusedAt 5 l (firstBadConfidence (E .confidences)) (length (E .confidences))) 5 ((i : ℕ) → i < length (E .confidences) → Between zeroF oneF (getD (E .confidences) i nan))
+    → Judged (refusedAt 5 l (firstBadConfidence (E .confidences)) (length (E .confidences))) 5 ((i : ℕ) → i < length (E .confidences) → Between 0 1 (getD (E .confidences) i nan))
 confidences-judged l E = judged-at 5 l (firstBadConfidence (E .confidences)) (length (E .confidences)) (confidences-tested E)
 
 -- in both lists of a call
@@ -175,7 +238,7 @@ module _ (call : HardCall) (room : HardRoom) where
       judges-row _ _ (judged-alone _ (both-judged call orientations-judged)) (λ h.
       judges-row _ _ (judged-alone _ (both-judged call bits-judged)) (λ h.
       judges-row _ _ (judged-alone _ (both-judged call confidences-judged)) (λ h.
-      judges-row Accepted _ (judged-none 6) (λ h. settings-judged (call .transforms) (call .board) _ (between-tested oneF (call .error-limit))))))))))
+      judges-row Accepted _ (judged-none 6) (λ h. settings-judged (call .transforms) (call .board) _ (between-tested 0 (call .error-limit))))))))))
 
   -- HARD: accepted exactly when all conditions are met
   pub hard-domain : (hardChecked call room ≡ Accepted → AllMet (hardEarly call room)) × (AllMet (hardEarly call room) → hardChecked call room ≡ Accepted)
@@ -186,10 +249,6 @@ module _ (call : HardCall) (room : HardRoom) where
   hard-first = hard-judged .refused
 
 -- ---- soft decode
-likely-tested : (x : Float) → Tests (not (acceptable x)) (Between (fin true 1 (pos 16)) (fin false 1 (pos 16)) x)
-unfolding acceptable
-likely-tested x = and-tested (le (fin true 1 (pos 16)) x) (le x (fin false 1 (pos 16))) (so-tested (le (fin true 1 (pos 16)) x)) (so-tested (le x (fin false 1 (pos 16))))
-
 module _ (call : SoftCall) (room : SoftRoom) where
   abbrev ms : List Float
   ms = call .likelihoods .matches
@@ -211,7 +270,7 @@ module _ (call : SoftCall) (room : SoftRoom) where
       (judged-both _ _ (both-judged (call .hard) (sizes-judged 1)) (judged-if (sizeBad 0 (length ms)) 3 (or-tested (at-least-tested 0 (length ms)) (at-most-tested 8192 (length ms)))))
 
   likelihoods-tested : length ms ≡ size (call .hard .physical) → Tests (ltb (firstBadLikelihood ms us) (length ms))
-      ((i : ℕ) → i < size (call .hard .physical) → Between (fin true 1 (pos 16)) (fin false 1 (pos 16)) (getD ms i nan) × Between (fin true 1 (pos 16)) (fin false 1 (pos 16)) (getD us i nan))
+      ((i : ℕ) → i < size (call .hard .physical) → Between 65536 65536 (getD ms i nan) × Between 65536 65536 (getD us i nan))
   unfolding firstBadLikelihood
   likelihoods-tested e =
       let t = first-tested (badLikelihood ms us) (length ms) _ (λ i. or-tested (likely-tested (getD ms i nan)) (likely-tested (getD us i nan))) in
@@ -230,7 +289,7 @@ module _ (call : SoftCall) (room : SoftRoom) where
       judges-row _ _ (judged-alone _ (judged-alone _ (both-judged (call .hard) bits-judged))) (λ h.
       judges-row _ _ (judged-alone _ (judged-alone _ (both-judged (call .hard) confidences-judged))) (λ h.
       judges-row _ _ (judged-alone _ (judged-at 6 list.Physical (firstBadLikelihood ms us) (length ms) (likelihoods-tested (same .1 .0)))) (λ h.
-      settings-judged (call .hard .transforms) (call .hard .board) _ (or-tested (between-tested oneF (call .hard .error-limit)) (between-tested marginTop (call .soft-margin)))))))))))
+      settings-judged (call .hard .transforms) (call .hard .board) _ (or-tested (between-tested 0 (call .hard .error-limit)) (between-tested 16 (call .soft-margin)))))))))))
 
   -- SOFT: the same
   pub soft-domain : (softChecked call room ≡ Accepted → AllMet (softEarly call room)) × (AllMet (softEarly call room) → softChecked call room ≡ Accepted)
@@ -270,39 +329,3 @@ module _ (E : EdgeList) (t row col : ℕ) (B : Board) where
 
   pub stats-first : (r : Refusal) → statsAdmission E t row col B ≡ Refused r → FirstFails (statsEarly E t row col B) (r .number)
   stats-first = stats-judged .refused
-
--- ---- what it is to lie between 0 and 2 ^ k, by value: finite, not below 0 but for -0, and m * 2 ^ e at most 2 ^ k
-le-of : (a b : ℕ) (t : Bool) → (ltb a b || (eqb a b && t)) ≡ true → a ≤ b
-le-of a b t h = ⊎-elim (λ e. let l = ltb-true a b e in omega arith) (λ e. let q = eqb-true a b (and-true (eqb a b) t e .0) in omega arith) (or-true (ltb a b) _ h)
-
-of-le : (a b : ℕ) → a ≤ b → (ltb a b || (eqb a b && true)) ≡ true
-of-le a b h = ⊎-elim (λ l. rw (lt-ltb a b l)) (λ l. let e : a ≡ b = omega arith in rw (le-ltb a b l, eq-eqb a b e)) (compared a b)
-
-none-left : (m u : ℕ) → 0 < u → m * u ≡ 0 → m ≡ 0
-none-left zero u h k = refl
-none-left (suc m) u h k = let p = mul-pos (zero-lt-suc m) h in absurd (omega arith)
-
-pub between-value : (k : ℕ) (x : Float) → Between zeroF (fin false 1 (pos k)) x → Weight x (2 ^ k)
-unfolding le lt eq
-between-value k nan h = absurd (true≢false (sym (h .0)))
-between-value k (inf true) h = absurd (true≢false (sym (h .0)))
-between-value k (inf false) h = absurd (true≢false (sym (h .1)))
-between-value k (fin true m e) h =
-    let q = and-true (eqb (0 * down e) (m * up e * 1)) _ (h .0) .0 in
-    let z : 0 ≡ m * up e = sym (zero-mul (down e)) ∙ eqb-true _ _ q ∙ mul-one (m * up e) in
-    none-left m (up e) (up-pos e) (sym z)
-between-value k (fin false m e) h = rw (mul-one, one-mul) at (le-of (m * up e * 1) (1 * 2 ^ k * down e) true (h .1))
-
-pub value-between : (k : ℕ) (x : Float) → Weight x (2 ^ k) → Between zeroF (fin false 1 (pos k)) x
-unfolding le lt eq
-value-between k (fin true m e) h =
-    let z : 0 * down e ≡ m * up e * 1 = rw (h, zero-mul, zero-mul, zero-mul) in
-    let p : 0 < m * up e * 1 + 1 * 2 ^ k * down e = let q = mul-pos (mul-pos (zero-lt-suc 0) (pow-pos k)) (down-pos e) in omega arith in
-    (and-both _ _ (eq-eqb _ _ z) (eq-eqb _ _ (zero-mul (down e))), or-left (ltb 0 (m * up e * 1 + 1 * 2 ^ k * down e)) _ (lt-ltb _ _ p))
-  where
-    and-both : (p q : Bool) → p ≡ true → q ≡ true → (p && q) ≡ true
-    and-both p q a b = rw (a, b)
-
-    or-left : (p q : Bool) → p ≡ true → (p || q) ≡ true
-    or-left p q a = rw a
-value-between k (fin false m e) h = (of-le (0 * down e) (m * up e * 1) (rw zero-mul (omega arith)), of-le (m * up e * 1) (1 * 2 ^ k * down e) (rw (mul-one, one-mul) h))

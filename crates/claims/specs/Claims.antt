@@ -201,7 +201,7 @@ module _ (call : HardCall) (before after : HardRoom) (answer : Answer) (done : H
   hard-most-agrees domain = let A = taken domain in agrees.most-agrees (call .board) (call .physical) (call .transforms) (A .board) (A .physical) (A .transforms .few) (A .some-physical)
 
   -- WHAT HARD DECODE PROMISES
-  pub hard-promise : HardPromise call before after answer
+  pub hard-promise : HardPromise (hardEarly call before) (tablesFor (length (call .board .h))) call before after answer
   hard-promise = record {
     demands = demands-met Refused Found answers (hardEarly call before) (hardLate call) (after ≡ before) _ (HardAnswered call) answer (hardCore call) (hardChecked call before) hard-accepts (hard-first call before)
         (λ x h. let e = hard-refused-early x h in (e .0, λ i. record { counts = e .1 i; weights = e .2 i })) core
@@ -327,7 +327,7 @@ module _ (call : SoftCall) (before after : SoftRoom) (answer : SoftAnswer) (done
   soft-second-kept d e = let f = soft-told d e in soft-kept call (length (before .counts)) (length (before .weights)) (length (before .sums)) (admitted (f .0)) d (f .1)
 
   -- WHAT SOFT DECODE PROMISES
-  pub soft-promise : SoftPromise call before after answer
+  pub soft-promise : SoftPromise (softEarly call before) (tablesFor (length (call .hard .board .h))) (sumsFor (length (call .hard .board .h))) call before after answer
   soft-promise = record {
     demands = demands-met soft.Refused soft.Found soft-answers (softEarly call before) (softLate call) (after ≡ before) _ (SoftAnswered call) answer (softCore call) (softChecked call before) soft-accepts (soft-first call before)
         (λ x h. let e = soft-refused-early x h in (e .0, λ i. record { counts = e .1 i; weights = e .2 i; sums = e .3 i })) soft-core
@@ -393,7 +393,7 @@ module _ (list : EdgeList) (transform row col : ℕ) (board : Board) (answer : S
       go (admission.Refused x) q = let z : _≡_ {A = ℕ} 0 1 = cc in absurd (omega arith)
 
   -- WHAT MATCH STATISTICS PROMISE
-  pub stats-promise : StatsPromise list transform row col board answer
+  pub stats-promise : StatsPromise (statsEarly list transform row col board) list transform row col board answer
   unfolding AllMet
   stats-promise = record {
     demands = demands-met stats.Refused stats.Counted stats-answers (statsEarly list transform row col board) [] (Unit {0}) (Unit {0}) _ answer (stats.Counted (statsOf list transform row col board)) statsChecked stats-accepts

@@ -111,7 +111,7 @@ module _ {A : Type 0} (d zero : A) (n : ℕ) (a : Admission) (old : List A) wher
   -- "after every other call the used room is zero"
   left-emptied : a ≡ admission.Accepted → n ≤ length old → Emptied d zero n old (left zero n a old)
   unfolding left
-  left-emptied h room = rw h (let w = cleared-written d zero n old room in record { len = w .len; used = w .front; surplus = w .back })
+  left-emptied h room = rw h (let w = cleared-written d zero n old room in record { room = room; len = w .len; used = w .front; surplus = w .back })
 
 -- the same of what a call left, where n is m
 pub left-zero : {A : Type 0} (d zero : A) (n m : ℕ) (a : Admission) (old new : List A) → n ≡ m → a ≡ admission.Accepted → n ≤ length old → new ≡ left zero n a old → Emptied d zero m old new

@@ -81,8 +81,9 @@ pub record Demands {Answer Told : Type 0} (refusing : Refusal → Answer) (findi
   pub found : (told : Told) → answer ≡ finding told → AllMet (early ++ late) × says told
   pub finds : AllMet (early ++ late) → (told : Told) × (answer ≡ finding told)
 
--- a slice before and after a call that uses n places of it: they are zero, the surplus is as it was
+-- a slice before and after a call that uses n places of it: they exist and are zero, the surplus is as it was
 pub record Emptied {A : Type 0} (missing zero : A) (n : ℕ) (before after : List A) : Type 0 where
+  pub room : n ≤ length before
   pub len : length after ≡ length before
   pub used : (k : ℕ) → k < n → getD after k missing ≡ zero
   pub surplus : (k : ℕ) → n ≤ k → getD after k missing ≡ getD before k missing

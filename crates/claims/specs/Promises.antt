@@ -17,7 +17,7 @@ use mathlib.Core.Path.{_≡_}
 use mathlib.Core.Bool.{Bool, false}
 use mathlib.Core.Logic.{_⊎_}
 use mathlib.Core.List.{List, [], _++_}
-use Prim.Native.Nat.{ℕ, _≤_, _<_}
+use Prim.Native.Nat.{ℕ, _-_, _≤_, _<_}
 use lib.ListN.{getD, length}
 use lib.IntN.{pos}
 use lib.Ieee.{Float, nan, binary32, sub, div, ofInt}
@@ -169,6 +169,8 @@ pub record HardParticulars (call : HardCall) (before after : HardRoom) (answer :
   -- "What the room held before has no influence": the same call with room as long gives the same answer
   pub no-influence : (before' after' : HardRoom) (answer' : Answer) → HardGave call before' after' answer' → length (before' .counts) ≡ length (before .counts) → length (before' .weights) ≡ length (before .weights)
       → answer' ≡ answer
+  -- C-12: the margin is the winner's hits less the runner-up's, of exactly the two counts that the answer holds
+  pub margin-of-the-two : (found : Decoded) → answer ≡ Found found → found .«margin_hits» ≡ found .hits - found .«runner_up_hits»
   -- DEMAND 2: the answer is document 01's
   pub by-the-rules : answer ≡ hardAnswer call (length (before .counts)) (length (before .weights))
 

@@ -3,7 +3,7 @@
 use mathlib.Core.Path.{_≡_, refl, sym, ap, ap₂, subst, _∙_}
 use mathlib.Core.Bool.{false}
 use mathlib.Core.List.{List, []}
-use Prim.Native.Nat.{ℕ, _≤_, _<_}
+use Prim.Native.Nat.{ℕ, _-_, _≤_, _<_}
 use native.Mathlib.Omega.{arith}
 use lib.ListN.{length}
 use lib.IntN.{pos}
@@ -38,7 +38,7 @@ use Rattle.answer.specs.declared.SoftAnswer.the-variants as soft
 use Rattle.answer.specs.declared.MatchStats.{MatchStats}
 use Rattle.answer.specs.declared.StatsAnswer.{StatsAnswer}
 use Rattle.answer.specs.declared.StatsAnswer.the-variants as stats
-use Rattle.verdict.specs.Verdict.{whenAccepted}
+use Rattle.verdict.specs.Verdict.{whenAccepted, decodedOf}
 use Rattle.soft_verdict.specs.SoftVerdict.{softWhenAccepted}
 use Rattle.demand.specs.Left.{left}
 use Rattle.demand.specs.Demand.{OnBoard, Same, Leads, Names, AgreesPhysical}
@@ -111,7 +111,7 @@ module _ {A : Type 0} (d zero : A) (n : ℕ) (a : Admission) (old : List A) wher
   -- "after every other call the used room is zero"
   left-emptied : a ≡ admission.Accepted → n ≤ length old → Emptied d zero n old (left zero n a old)
   unfolding left
-  left-emptied h room = rw h (let w = cleared-written d zero n old room in record { len = w .len; used = w .front; surplus = w .back })
+  left-emptied h room = rw h (let w = cleared-written d zero n old room in record { room = room; len = w .len; used = w .front; surplus = w .back })
 
 -- the same of what a call left, where n is m
 pub left-zero : {A : Type 0} (d zero : A) (n m : ℕ) (a : Admission) (old new : List A) → n ≡ m → a ≡ admission.Accepted → n ≤ length old → new ≡ left zero n a old → Emptied d zero m old new
@@ -174,6 +174,11 @@ module _ (call : HardCall) (before after : HardRoom) (answer : Answer) (done : H
   pub hard-old-fields : (found : Decoded) (e : answer ≡ Found found) → HardTold call (length (before .counts)) (length (before .weights)) (taken (told found e .0)) found
   hard-old-fields d e = let f = told d e in hard-ten-fields call (length (before .counts)) (length (before .weights)) (taken (f .0)) d (f .1)
 
+  -- and its margin is that of the two counts
+  pub hard-margin-of-the-two : (found : Decoded) → answer ≡ Found found → found .«margin_hits» ≡ found .hits - found .«runner_up_hits»
+  unfolding decodedOf
+  hard-margin-of-the-two d e = subst (λ (z : Decoded). z .«margin_hits» ≡ z .hits - z .«runner_up_hits») (hard-old-fields d e .decoded) refl
+
   -- DEMAND 2
   pub hard-by-the-rules : answer ≡ hardAnswer call (length (before .counts)) (length (before .weights))
   hard-by-the-rules = done .answer
@@ -224,6 +229,7 @@ module _ (call : HardCall) (before after : HardRoom) (answer : Answer) (done : H
     refused-exactly = hard-refused-exactly;
     answer-in-range = hard-answer-in-range;
     no-influence = hard-no-influence;
+    margin-of-the-two = hard-margin-of-the-two;
     by-the-rules = hard-by-the-rules;
   }
 

@@ -17,7 +17,7 @@ use mathlib.Core.Path.{_≡_}
 use mathlib.Core.Bool.{Bool, false}
 use mathlib.Core.Logic.{_⊎_}
 use mathlib.Core.List.{List, [], _++_}
-use Prim.Native.Nat.{ℕ, _≤_, _<_}
+use Prim.Native.Nat.{ℕ, _-_, _≤_, _<_}
 use lib.ListN.{getD, length}
 use lib.IntN.{pos}
 use lib.Ieee.{Float, nan, binary32, sub, div, ofInt}
@@ -80,8 +80,9 @@ pub record Demands {Answer Told : Type 0} (refusing : Refusal → Answer) (findi
   pub found : (told : Told) → answer ≡ finding told → AllMet (early ++ late) × says told
   pub finds : AllMet (early ++ late) → (told : Told) × (answer ≡ finding told)
 
--- a slice before and after a call that uses n places of it: they are zero, the surplus is as it was
+-- a slice before and after a call that uses n places of it: they exist and are zero, the surplus is as it was
 pub record Emptied {A : Type 0} (missing zero : A) (n : ℕ) (before after : List A) : Type 0 where
+  pub room : n ≤ length before
   pub len : length after ≡ length before
   pub used : (k : ℕ) → k < n → getD after k missing ≡ zero
   pub surplus : (k : ℕ) → n ≤ k → getD after k missing ≡ getD before k missing
@@ -165,6 +166,8 @@ pub record HardParticulars (call : HardCall) (before after : HardRoom) (answer :
   -- "What the room held before has no influence": the same call with room as long gives the same answer
   pub no-influence : (before' after' : HardRoom) (answer' : Answer) → HardGave call before' after' answer' → length (before' .counts) ≡ length (before .counts) → length (before' .weights) ≡ length (before .weights)
       → answer' ≡ answer
+  -- C-12: the margin is the winner's hits less the runner-up's, of exactly the two counts that the answer holds
+  pub margin-of-the-two : (found : Decoded) → answer ≡ Found found → found .«margin_hits» ≡ found .hits - found .«runner_up_hits»
   -- DEMAND 2: the answer is document 01's
   pub by-the-rules : answer ≡ hardAnswer call (length (before .counts)) (length (before .weights))
 

@@ -53,8 +53,7 @@ pub record FirstByLikelihood (B : Board) (E : EdgeList) (X : Likelihoods) (ts : 
   pub row-major-first : (Q : Placing) → OnBoard B ts Q → Q .listed ≡ P .listed → RowMajorBefore Q P → ltZ (wholeSum B E X ts Q) (wholeSum B E X ts P) ≡ true
   pub earliest-listed : (Q : Placing) → OnBoard B ts Q → Q .listed < P .listed → lt (total B E X ts Q) (total B E X ts P) ≡ true
 
--- Q has second place after P: another placing, and no placing but P has a greater f32 total. All that have it have one total (`second-total`), which is all that the
--- margin takes of it; which of them the decoder keeps is in SecondPlace (BestPlacing.antt of soft)
+-- Q has second place after P: another placing, and no placing but P has a greater f32 total. Which one is told of several, all with one total (`second-total`), `SoftKept` says
 pub record SecondByLikelihood (B : Board) (E : EdgeList) (X : Likelihoods) (ts : List ℕ) (P Q : Placing) : Type 0 where
   pub on-board : OnBoard B ts Q
   pub other : Same Q P → ⊥

@@ -79,13 +79,13 @@ fn counted(n: usize) -> u32 {
     if n < 1048576 { n as u32 } else { 1048576 }
 }
 
-// What follows a word of a size that was put in quotes, of which 40 bytes are shown. The size is told where the word is longer, and where a table was expected.
+// What follows a word of a size that was put in quotes, of which 40 bytes are shown. The size is told where the word is longer, and from 10 bytes on where a table was expected.
 fn put_rest(page: &mut [u8; 32768], at: usize, size: usize, table: bool) -> usize {
     let wholes = [counted(size)];
     if size > 40 {
         return put_wholes(page, at, b"..\" (% bytes)\n", &wholes);
     }
-    if table {
+    if table && size > 9 {
         return put_wholes(page, at, b"\" (% bytes)\n", &wholes);
     }
     put(page, at, b"\"\n")

@@ -20,9 +20,9 @@ use Rattle.hard.specs.declared.select.Selection.the-variants as sel
 use Rattle.hard.specs.Select.{selection}
 use Rattle.hard.specs.SelectTheorems.{selected-in-range}
 use Rattle.hard.specs.WeighedLaws.{winner-within}
-use Rattle.verdict.specs.Answers.{answers}
+use Rattle.verdict.specs.Answers.{answers, never-both}
 use Rattle.verdict.specs.Verdict.{decodedOf}
-use Rattle.verdict.specs.VerdictTheorems.{never-both, judged-is}
+use Rattle.verdict.specs.VerdictTheorems.{judged-is}
 use Rattle.demand.specs.FoundRange.{FloatsFinite, AnswerInRange, square-in-range}
 use Rattle.hard_core.specs.Hard.{afterPhysical, afterLogical, hardCore}
 use Rattle.hard_core.specs.HardTheorems.{hard-sound}

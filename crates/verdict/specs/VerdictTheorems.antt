@@ -16,8 +16,7 @@ use Rattle.answer.specs.declared.Square.{Square}
 use Rattle.answer.specs.declared.Decoded.{Decoded}
 use Rattle.answer.specs.declared.Answer.the-variants.{Found}
 use Rattle.verdict.specs.Verdict.{refusedBy, agreed, decodedOf, judged}
-use Rattle.verdict.specs.Answers.{answers}
-pub use Rattle.verdict.specs.Answers.{never-both}
+use Rattle.verdict.specs.Answers.{answers, never-both}
 
 -- "origin and matrix must agree": the transforms and the origins of two placings are the same
 pub record Agree (t : ℕ) (P : Placing) (s : ℕ) (Q : Placing) : Type 0 where

@@ -1,8 +1,8 @@
 -- `read_answer`: the index stays below 17.
 use Prim.Native.Nat.{_≤_, _-_}
 use borrow.Author.Needs.{needs}
-use Rattle.replay.proofs.columns.read_answer.Statement.{statement}
-use Rattle.replay.proofs.columns.read_answer.Tie as tie
+use Rattle.replay.proofs.run.read_answer.Statement.{statement}
+use Rattle.replay.proofs.run.read_answer.Tie as tie
 
 abbrev Inv-loop : tie.InvT-loop
 Inv-loop buf₀ words₀ next₀ i₀ buf words next i = i ≤ 17

@@ -1,8 +1,8 @@
--- `read_i32`: the column fits the array.
+-- `read_f32`: the column fits the array.
 use Prim.Native.Nat.{_+_, _-_, _≤_}
 use borrow.Author.Needs.{needs}
-use Rattle.replay.proofs.columns.read_i32.Statement.{statement}
-use Rattle.replay.proofs.columns.read_i32.Tie as tie
+use Rattle.wordfile.proofs.columns.read_f32.Statement.{statement}
+use Rattle.wordfile.proofs.columns.read_f32.Tie as tie
 
 abbrev Inv-loop : tie.InvT-loop
 Inv-loop buf₀ out₀ from head next₀ i₀ i-end buf out next i = (i ≤ i-end) × (i-end ≤ 8193) × (from + 8193 ≤ 32772)
@@ -19,17 +19,17 @@ loop-holds c = search needs
 next-word-requires : tie.Need-next-word-requires Inv-loop μ-loop
 next-word-requires c κs = search needs
 
-signed-requires : tie.Need-signed-requires Inv-loop μ-loop
-signed-requires c κs = search needs
+float-requires : tie.Need-float-requires Inv-loop μ-loop
+float-requires c κs = search needs
 
-add-x : tie.Need-add-x Inv-loop μ-loop
-add-x c = search needs
+add-out : tie.Need-add-out Inv-loop μ-loop
+add-out c = search needs
 
-mul-x : tie.Need-mul-x Inv-loop μ-loop
-mul-x c = search needs
+mul-out : tie.Need-mul-out Inv-loop μ-loop
+mul-out c = search needs
 
-element-set-from-x : tie.Need-element-set-from-x Inv-loop μ-loop
-element-set-from-x c = search needs
+element-write-out : tie.Need-element-write-out Inv-loop μ-loop
+element-write-out c = search needs
 
 add-i : tie.Need-add-i Inv-loop μ-loop
 add-i c = search needs
@@ -43,8 +43,8 @@ loop-again c = search needs
 returns : tie.Need-returns Inv-loop μ-loop
 returns c = search needs
 
-pub read-i32-spec : {M : Type 1} → statement M
-read-i32-spec =
+pub read-f32-spec : {M : Type 1} → statement M
+read-f32-spec =
     tie.close
     (tie.spec
     Inv-loop
@@ -52,10 +52,10 @@ read-i32-spec =
     read-length-requires
     loop-holds
     next-word-requires
-    signed-requires
-    add-x
-    mul-x
-    element-set-from-x
+    float-requires
+    add-out
+    mul-out
+    element-write-out
     add-i
     loop-less
     loop-again

@@ -9,19 +9,19 @@ use crate::words::octet;
 use crate::words::signed;
 
 // Where a column begins in its array.
-pub(crate) const FIRST: usize = 0;
+pub const FIRST: usize = 0;
 
-pub(crate) const SECOND: usize = 8193;
+pub const SECOND: usize = 8193;
 
-pub(crate) const THIRD: usize = 16386;
+pub const THIRD: usize = 16386;
 
-pub(crate) const FOURTH: usize = 24579;
+pub const FOURTH: usize = 24579;
 
-pub(crate) const FIFTH: usize = 32772;
+pub const FIFTH: usize = 32772;
 
-pub(crate) const SIXTH: usize = 40965;
+pub const SIXTH: usize = 40965;
 
-pub(crate) const SEVENTH: usize = 49158;
+pub const SEVENTH: usize = 49158;
 
 // How many words a column has, and where the next word stands.
 pub struct Column {
@@ -47,13 +47,9 @@ fn read_length(buf: &mut [u8; 65536], c: Cursor) -> Column
 }
 
 // A column of coordinates, from a place of its array on.
-pub(crate) fn read_i32(
-    buf: &mut [u8; 65536],
-    c: Cursor,
-    out: &mut [i32; 32772],
-    from: usize,
-) -> Column
+pub fn read_i32(buf: &mut [u8; 65536], c: Cursor, out: &mut [i32; 32772], from: usize) -> Column
     requires { ⌜ from + 8193 ≤ 32772 ⌝ }
+    ensures { λ r. ⌜ r .n ≤ 8193 ⌝ }
 {
     let head = read_length(buf, c);
     let mut next = head.next;
@@ -67,13 +63,9 @@ pub(crate) fn read_i32(
 }
 
 // A column of bytes.
-pub(crate) fn read_u8(
-    buf: &mut [u8; 65536],
-    c: Cursor,
-    out: &mut [u8; 57351],
-    from: usize,
-) -> Column
+pub fn read_u8(buf: &mut [u8; 65536], c: Cursor, out: &mut [u8; 57351], from: usize) -> Column
     requires { ⌜ from + 8193 ≤ 57351 ⌝ }
+    ensures { λ r. ⌜ r .n ≤ 8193 ⌝ }
 {
     let head = read_length(buf, c);
     let mut next = head.next;
@@ -86,13 +78,9 @@ pub(crate) fn read_u8(
 }
 
 // A column of floats.
-pub(crate) fn read_f32(
-    buf: &mut [u8; 65536],
-    c: Cursor,
-    out: &mut [f32; 32772],
-    from: usize,
-) -> Column
+pub fn read_f32(buf: &mut [u8; 65536], c: Cursor, out: &mut [f32; 32772], from: usize) -> Column
     requires { ⌜ from + 8193 ≤ 32772 ⌝ }
+    ensures { λ r. ⌜ r .n ≤ 8193 ⌝ }
 {
     let head = read_length(buf, c);
     let mut next = head.next;
@@ -120,7 +108,7 @@ pub struct Listed {
 }
 
 // A list: its five columns, from a place of the whole numbers and of the bytes on, and of the floats.
-pub(crate) fn read_list(
+pub fn read_list(
     buf: &mut [u8; 65536],
     c: Cursor,
     wholes: &mut [i32; 32772],
@@ -146,22 +134,4 @@ pub(crate) fn read_list(
     };
     let next = f.next;
     Listed { sizes, next }
-}
-
-// The seventeen words of an answer, and where the next word stands.
-pub struct Expected {
-    pub words: [u32; 17],
-    pub next: Cursor,
-}
-
-// An answer.
-pub(crate) fn read_answer(buf: &mut [u8; 65536], c: Cursor) -> Expected {
-    let mut words = [0u32; 17];
-    let mut next = c;
-    for i in 0..17 {
-        let w = next_word(buf, next);
-        next = w.next;
-        words[i] = w.value;
-    }
-    Expected { words, next }
 }

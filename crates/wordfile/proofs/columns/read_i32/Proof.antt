@@ -1,11 +1,11 @@
--- `read_u8`: the column fits the array.
+-- `read_i32`: the column fits the array.
 use Prim.Native.Nat.{_+_, _-_, _≤_}
 use borrow.Author.Needs.{needs}
-use Rattle.replay.proofs.columns.read_u8.Statement.{statement}
-use Rattle.replay.proofs.columns.read_u8.Tie as tie
+use Rattle.wordfile.proofs.columns.read_i32.Statement.{statement}
+use Rattle.wordfile.proofs.columns.read_i32.Tie as tie
 
 abbrev Inv-loop : tie.InvT-loop
-Inv-loop buf₀ out₀ from head next₀ i₀ i-end buf out next i = (i ≤ i-end) × (i-end ≤ 8193) × (from + 8193 ≤ 57351)
+Inv-loop buf₀ out₀ from head next₀ i₀ i-end buf out next i = (i ≤ i-end) × (i-end ≤ 8193) × (from + 8193 ≤ 32772)
 
 abbrev μ-loop : tie.MeasureT-loop
 μ-loop buf₀ out₀ from head next₀ i₀ i-end buf out next i = i-end - i
@@ -19,14 +19,17 @@ loop-holds c = search needs
 next-word-requires : tie.Need-next-word-requires Inv-loop μ-loop
 next-word-requires c κs = search needs
 
-octet-requires : tie.Need-octet-requires Inv-loop μ-loop
-octet-requires c κs = search needs
+signed-requires : tie.Need-signed-requires Inv-loop μ-loop
+signed-requires c κs = search needs
 
-add-out : tie.Need-add-out Inv-loop μ-loop
-add-out c = search needs
+add-x : tie.Need-add-x Inv-loop μ-loop
+add-x c = search needs
 
-element-write-out : tie.Need-element-write-out Inv-loop μ-loop
-element-write-out c = search needs
+mul-x : tie.Need-mul-x Inv-loop μ-loop
+mul-x c = search needs
+
+element-set-from-x : tie.Need-element-set-from-x Inv-loop μ-loop
+element-set-from-x c = search needs
 
 add-i : tie.Need-add-i Inv-loop μ-loop
 add-i c = search needs
@@ -40,8 +43,8 @@ loop-again c = search needs
 returns : tie.Need-returns Inv-loop μ-loop
 returns c = search needs
 
-pub read-u8-spec : {M : Type 1} → statement M
-read-u8-spec =
+pub read-i32-spec : {M : Type 1} → statement M
+read-i32-spec =
     tie.close
     (tie.spec
     Inv-loop
@@ -49,9 +52,10 @@ read-u8-spec =
     read-length-requires
     loop-holds
     next-word-requires
-    octet-requires
-    add-out
-    element-write-out
+    signed-requires
+    add-x
+    mul-x
+    element-set-from-x
     add-i
     loop-less
     loop-again

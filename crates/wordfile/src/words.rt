@@ -1,7 +1,8 @@
-// A file as words of four bytes, the lowest first, read through a buffer of 65,536 bytes.
+// A file as words of four bytes, the lowest first, read through a buffer of 65,536 bytes; and what a word stands for.
 ghost use mathlib.Core.Path.{_≡_};
 ghost use mathlib.Core.Bool.{true};
-ghost use Rattle.replay.specs.Bits.{realBits};
+ghost use Prim.Native.Nat.{_%_};
+ghost use Rattle.wordfile.specs.Bits.{realBits, signedOf, floatOf};
 
 // Where the next word stands in the buffer, how far the buffer is filled, and the file.
 pub struct Cursor {
@@ -44,7 +45,7 @@ fn ready(buf: &mut [u8; 65536], c: Cursor) -> Cursor {
 }
 
 // The next word; 0 past the end of the file.
-pub(crate) fn next_word(buf: &mut [u8; 65536], c: Cursor) -> Word {
+pub fn next_word(buf: &mut [u8; 65536], c: Cursor) -> Word {
     let d = ready(buf, c);
     let at = d.at;
     let len = d.len;
@@ -65,7 +66,9 @@ pub(crate) fn next_word(buf: &mut [u8; 65536], c: Cursor) -> Word {
 }
 
 // A word as a coordinate, by two's complement.
-pub(crate) fn signed(x: u32) -> i32 {
+pub fn signed(x: u32) -> i32
+    ensures { λ r. ⌜ r ≡ signedOf x ⌝ }
+{
     if x < 2147483648 {
         return x as i32;
     }
@@ -75,6 +78,7 @@ pub(crate) fn signed(x: u32) -> i32 {
 // A float's bits that are no NaN's.
 fn float_of(x: u32) -> f32
     requires { ⌜ realBits x ≡ true ⌝ }
+    ensures { λ r. ⌜ r ≡ floatOf x ⌝ }
 {
     f32::from_bits(x)
 }
@@ -87,7 +91,9 @@ fn real(x: u32) -> bool
 }
 
 // A word as a float; every NaN's bits give NaN.
-pub(crate) fn float(x: u32) -> f32 {
+pub fn float(x: u32) -> f32
+    ensures { λ r. ⌜ r ≡ floatOf x ⌝ }
+{
     if real(x) {
         return float_of(x);
     }
@@ -95,6 +101,8 @@ pub(crate) fn float(x: u32) -> f32 {
 }
 
 // A word as a byte: its lowest.
-pub(crate) fn octet(x: u32) -> u8 {
+pub fn octet(x: u32) -> u8
+    ensures { λ r. ⌜ r ≡ x % 256 ⌝ }
+{
     (x % 256) as u8
 }

@@ -2,14 +2,14 @@
 use mathlib.Core.Path.{_≡_, refl, sym, ap, _∙_}
 use mathlib.Core.Bool.{Bool, true, false, not, _&&_, _||_, cond, true≢false}
 use mathlib.Core.List.{List}
-use Prim.Native.Nat.{ℕ, suc, _%_, _≤_, _<_}
+use Prim.Native.Nat.{ℕ, suc, _*_, _%_, _≤_, _<_}
 use native.Mathlib.Nat.{le-trans, le-of-eq}
 use native.Mathlib.Omega.{arith}
 use lib.Dec.{T, ltb, eqb, lit≤}
 use lib.ListN.{getD, length}
 use lib.IntN.{ℤ, pos, negsuc, natAbs}
 use lib.Ieee.{Float, nan, le}
-use borrow.Author.Tests.{eqb-true, eqb-false, ltb-false, not-false}
+use borrow.Author.Tests.{eqb-true, eqb-false, ltb-true, ltb-false, not-true, not-false}
 use Rattle.laws.specs.Tests.{or-false, and-true}
 use Rattle.laws.specs.First.{first-none}
 use Rattle.laws.specs.Words.{zeroF, oneF, Weight}
@@ -21,13 +21,13 @@ use Rattle.refusals.specs.declared.Admission.the-variants.{Accepted}
 use Rattle.refusals.specs.declared.ListName.{ListName}
 use Rattle.refusals.specs.declared.ListName.the-variants as list
 use Rattle.refusals.specs.Numbers as why
-use Rattle.room.specs.Room.{flatTables, flatSums, tablesRoom, sumsRoom, flat-room}
+use Rattle.room.specs.Room.{tablesFor, sumsFor, tablesRoom, sumsRoom, pole-rooms}
 use Rattle.checks.specs.Checks.{far, farAt, badCoordinate, badLikelihood, firstBadCoordinate, firstBadLikelihood, lengthsDiffer, sizeBad, likelihoodsDiffer, originBad}
-use Rattle.ranges.specs.Ranges.{badByte, inRange, marginTop, badConfidence, firstBadByte, firstBadConfidence, transformsBad, tableBad}
+use Rattle.ranges.specs.Ranges.{badByte, inRange, marginTop, badConfidence, firstBadByte, firstBadConfidence, transformsBad, poleLength, patternsBad, horizontalBad, verticalBad}
 use Rattle.findings.specs.Findings.{joined, roomFindings, listFindings, likelihoodFindings, settingsFindings}
 use Rattle.findings.specs.FindingsLaws.{Clean, clean-of, clean-parts, clean-joined, if-accepted, at-accepted}
 use Rattle.admission.specs.Calls.{HardCall, SoftCall}
-use Rattle.admission.specs.Refusals.{tablesBad, roomShort, softRoomShort, bothLists, softLikelihoods, softSettingsBad, hardAdmission, softAdmission, statsAdmission}
+use Rattle.admission.specs.Refusals.{askedLength, tablesBad, roomShort, softRoomShort, bothLists, softLikelihoods, softSettingsBad, hardAdmission, softAdmission, statsAdmission}
 
 -- ---- lists without a bad place
 none-bad : (p : ℕ → Bool) (n k : ℕ) → ltb k n ≡ false → k ≡ Rattle.laws.specs.Words.first p n → (i : ℕ) → i < n → p i ≡ false
@@ -135,62 +135,81 @@ transforms-ok ts h =
       small = λ i l. let m = bytes-ok 7 ts (b .1) i l in omega arith;
     }
 
--- ---- tables: 167 patterns below 8
-pub patterns-ok : (ps : List ℕ) → tableBad ps ≡ false → Patterns ps
-unfolding tableBad
-patterns-ok ps h =
-    let a = or-false (not (eqb (length ps) 167)) _ h in
-    let e : length ps ≡ 167 = eqb-true _ _ (not-false _ (a .0)) in
-    record {
-      some = omega arith;
-      few = omega arith;
-      free = λ z. omega (arith, ap (λ (n : ℕ). n % 3) e);
-      small = λ i l. let m = bytes-ok 7 ps (a .1) i l in omega arith;
-    }
+-- ---- tables: patterns below 8, as many as may be
+pub of-pole-length : (L : ℕ) → poleLength L ≡ true → (4 ≤ L) × (L ≤ 500) × (L % 3 ≡ 0 → ⊥)
+unfolding poleLength
+of-pole-length L h =
+    let a = and-true (not (ltb L 4 || ltb 500 L)) _ h in
+    let b = or-false (ltb L 4) (ltb 500 L) (not-true _ (a .0)) in
+    (ltb-false _ _ (b .0), ltb-false _ _ (b .1), eqb-false _ _ (not-true _ (a .1)))
 
--- and both have the flat board's period
-pub period-167 : (ps : List ℕ) → tableBad ps ≡ false → length ps ≡ 167
-unfolding tableBad
-period-167 ps h = eqb-true _ _ (not-false _ (or-false (not (eqb (length ps) 167)) _ h .0))
+-- of either table: its length is one that it may have, and no byte is above 7
+table-ok : (may-be : Bool) (ps : List ℕ) → patternsBad may-be ps ≡ false → (may-be ≡ true) × ((i : ℕ) → i < length ps → getD ps i 0 < 8)
+unfolding patternsBad
+table-ok may-be ps h = let a = or-false (not may-be) _ h in (not-false _ (a .0), λ i l. let m = bytes-ok 7 ps (a .1) i l in omega arith)
+
+patterns-ok : (ps : List ℕ) → (4 ≤ length ps) × (length ps ≤ 500) × (length ps % 3 ≡ 0 → ⊥) → ((i : ℕ) → i < length ps → getD ps i 0 < 8) → Patterns ps
+patterns-ok ps l b = record { some = omega (arith, l .0); few = l .1; free = l .2; small = b }
+
+-- the length of a horizontal table is one of a pole's, and that of a vertical one 167
+pub horizontal-length : (B : Board) → tablesBad B ≡ false → poleLength (length (B .h)) ≡ true
+unfolding horizontalBad
+horizontal-length B h = table-ok _ (B .h) (or-false (horizontalBad (B .h)) (verticalBad (B .v)) h .0) .0
+
+pub vertical-length : (B : Board) → tablesBad B ≡ false → length (B .v) ≡ 167
+unfolding verticalBad
+vertical-length B h = eqb-true _ _ (table-ok _ (B .v) (or-false (horizontalBad (B .h)) (verticalBad (B .v)) h .1) .0)
 
 pub board-ok : (B : Board) → tablesBad B ≡ false → BoardOk B
-board-ok B h = let a = or-false (tableBad (B .h)) (tableBad (B .v)) h in record { h = patterns-ok (B .h) (a .0); v = patterns-ok (B .v) (a .1) }
+unfolding horizontalBad verticalBad
+board-ok B h =
+    let a = or-false (horizontalBad (B .h)) (verticalBad (B .v)) h in
+    let e = vertical-length B h in
+    record {
+      h = patterns-ok (B .h) (of-pole-length (length (B .h)) (horizontal-length B h)) (table-ok _ (B .h) (a .0) .1);
+      v = patterns-ok (B .v) (omega arith, omega arith, λ z. omega (arith, ap (λ (n : ℕ). n % 3) e)) (table-ok _ (B .v) (a .1) .1);
+    }
+
+-- room is asked for by the horizontal table's own length
+pub asked-own : (L : ℕ) → poleLength L ≡ true → askedLength L ≡ L
+unfolding askedLength
+asked-own L h = rw h refl
 
 -- match statistics
 pub record StatsAccepted (E : EdgeList) (t row col : ℕ) (B : Board) : Type 0 where
   pub list : ListOk E
   pub transform : t < 8
   pub board : BoardOk B
-  pub origin : (row ≤ 500) × (col ≤ 500)
+  pub origin : (row < 3 * length (B .h)) × (col ≤ 500)
 
 -- none of its tests holds
 pub record StatsTests (E : EdgeList) (t row col : ℕ) (B : Board) : Type 0 where
   pub list : ListTests 0 E
   pub transform : ltb 7 t ≡ false
   pub tables : tablesBad B ≡ false
-  pub origin : originBad row col ≡ false
+  pub origin : originBad (length (B .h)) row col ≡ false
 
 pub stats-tests-of : (E : EdgeList) (t row col : ℕ) (B : Board) → statsAdmission E t row col B ≡ Accepted → StatsTests E t row col B
 unfolding statsAdmission settingsFindings
 stats-tests-of E t row col B h =
-    let k = clean-parts (listFindings 0 list.Only E) (settingsFindings (ltb 7 t) (tablesBad B) (originBad row col)) (clean-of _ h) in
+    let k = clean-parts (listFindings 0 list.Only E) (settingsFindings (ltb 7 t) (tablesBad B) (originBad (length (B .h)) row col)) (clean-of _ h) in
     record {
       list = list-tests 0 list.Only E (k .0);
       transform = if-accepted (ltb 7 t) why.badTransform (k .1 .transform);
       tables = if-accepted (tablesBad B) why.badTable (k .1 .table);
-      origin = if-accepted (originBad row col) why.badSetting (k .1 .setting);
+      origin = if-accepted (originBad (length (B .h)) row col) why.badSetting (k .1 .setting);
     }
 
 pub stats-accepted : (E : EdgeList) (t row col : ℕ) (B : Board) → statsAdmission E t row col B ≡ Accepted → StatsAccepted E t row col B
 unfolding originBad
 stats-accepted E t row col B h =
     let k = stats-tests-of E t row col B h in
-    let o = or-false (ltb 500 row) (ltb 500 col) (k .origin) in
+    let o = or-false (not (ltb row (3 * length (B .h)))) (ltb 500 col) (k .origin) in
     record {
       list = list-ok 0 E (k .list);
       transform = let l = ltb-false 7 t (k .transform) in omega arith;
       board = board-ok B (k .tables);
-      origin = (ltb-false _ _ (o .0), ltb-false _ _ (o .1));
+      origin = (ltb-true _ _ (not-false _ (o .0)), ltb-false _ _ (o .1));
     }
 
 -- a hard call
@@ -202,12 +221,12 @@ pub record HardAccepted (call : HardCall) (counts weights : ℕ) : Type 0 where
   pub some-physical : 0 < size (call .physical)
   pub transforms : TransformsOk (call .transforms)
   pub board : BoardOk (call .board)
-  pub periods : (length (call .board .h) ≡ 167) × (length (call .board .v) ≡ 167)
+  pub vertical : length (call .board .v) ≡ 167
   pub within-limit : inRange oneF (call .error-limit) ≡ true
 
 -- none of its tests holds
 pub record HardTests (call : HardCall) (m n : ℕ) : Type 0 where
-  pub room : roomShort m n ≡ false
+  pub room : roomShort (length (call .board .h)) m n ≡ false
   pub logical : ListTests 1 (call .logical)
   pub physical : ListTests 1 (call .physical)
   pub transforms : transformsBad (call .transforms) ≡ false
@@ -228,11 +247,11 @@ pub hard-tests-of : (call : HardCall) (m n : ℕ) → hardAdmission call m n ≡
 unfolding hardAdmission roomFindings settingsFindings
 hard-tests-of call m n h =
     let s = settingsFindings (transformsBad (call .transforms)) (tablesBad (call .board)) (not (inRange oneF (call .error-limit))) in
-    let a = clean-parts (roomFindings (roomShort m n)) (joined (bothLists call) s) (clean-of _ h) in
+    let a = clean-parts (roomFindings (roomShort (length (call .board .h)) m n)) (joined (bothLists call) s) (clean-of _ h) in
     let b = clean-parts (bothLists call) s (a .1) in
     let lists = both-tests call (b .0) in
     record {
-      room = if-accepted (roomShort m n) why.roomTooShort (a .0 .room);
+      room = if-accepted (roomShort (length (call .board .h)) m n) why.roomTooShort (a .0 .room);
       logical = lists .0;
       physical = lists .1;
       transforms = if-accepted (transformsBad (call .transforms)) why.badTransform (b .1 .transform);
@@ -243,10 +262,10 @@ hard-tests-of call m n h =
 hard-passed : (call : HardCall) (m n : ℕ) → HardTests call m n → HardAccepted call m n
 unfolding roomShort
 hard-passed call m n k =
-    let r = or-false (ltb m flatTables) (ltb n flatTables) (k .room) in
-    let t = or-false (tableBad (call .board .h)) (tableBad (call .board .v)) (k .tables) in
-    let periods : (length (call .board .h) ≡ 167) × (length (call .board .v) ≡ 167) = (period-167 (call .board .h) (t .0), period-167 (call .board .v) (t .1)) in
-    let u = flat-room (call .board) periods .0 in
+    let L = length (call .board .h) in
+    let r = or-false (ltb m (tablesFor (askedLength L))) (ltb n (tablesFor (askedLength L))) (k .room) in
+    let vertical = vertical-length (call .board) (k .tables) in
+    let u : tablesRoom (call .board) ≡ tablesFor (askedLength L) = pole-rooms (call .board) vertical .0 ∙ ap tablesFor (sym (asked-own L (horizontal-length (call .board) (k .tables)))) in
     record {
       room = (le-trans (le-of-eq u) (ltb-false _ _ (r .0)), le-trans (le-of-eq u) (ltb-false _ _ (r .1)));
       logical = list-ok 1 (call .logical) (k .logical);
@@ -255,7 +274,7 @@ hard-passed call m n k =
       some-physical = size-ok 1 (size (call .physical)) (k .physical .sizes);
       transforms = transforms-ok (call .transforms) (k .transforms);
       board = board-ok (call .board) (k .tables);
-      periods = periods;
+      vertical = vertical;
       within-limit = not-false _ (k .limit);
     }
 
@@ -274,7 +293,7 @@ pub record SoftAccepted (call : SoftCall) (counts weights sums : ℕ) : Type 0 w
 -- none of its tests holds
 pub record SoftTests (call : SoftCall) (m n k : ℕ) : Type 0 where
   pub hard : HardTests (call .hard) m n
-  pub sums-room : ltb k flatSums ≡ false
+  pub sums-room : ltb k (sumsFor (askedLength (length (call .hard .board .h)))) ≡ false
   pub lengths : likelihoodsDiffer (size (call .hard .physical)) (call .likelihoods .matches) (call .likelihoods .mismatches) ≡ false
   pub likelihoods : ltb (firstBadLikelihood (call .likelihoods .matches) (call .likelihoods .mismatches)) (length (call .likelihoods .matches)) ≡ false
   pub margin : not (inRange marginTop (call .soft-margin)) ≡ false
@@ -283,11 +302,12 @@ pub soft-tests-of : (call : SoftCall) (m n k : ℕ) → softAdmission call m n k
 unfolding softAdmission softRoomShort roomFindings likelihoodFindings settingsFindings
 soft-tests-of call m n k h =
     let s = settingsFindings (transformsBad (call .hard .transforms)) (tablesBad (call .hard .board)) (softSettingsBad call) in
-    let a = clean-parts (roomFindings (softRoomShort m n k)) (joined (joined (bothLists (call .hard)) (softLikelihoods call)) s) (clean-of _ h) in
+    let a = clean-parts (roomFindings (softRoomShort (length (call .hard .board .h)) m n k)) (joined (joined (bothLists (call .hard)) (softLikelihoods call)) s) (clean-of _ h) in
     let b = clean-parts (joined (bothLists (call .hard)) (softLikelihoods call)) s (a .1) in
     let c = clean-parts (bothLists (call .hard)) (softLikelihoods call) (b .0) in
     let lists = both-tests (call .hard) (c .0) in
-    let r = or-false (roomShort m n) (ltb k flatSums) (if-accepted (softRoomShort m n k) why.roomTooShort (a .0 .room)) in
+    let L = length (call .hard .board .h) in
+    let r = or-false (roomShort L m n) (ltb k (sumsFor (askedLength L))) (if-accepted (softRoomShort (length (call .hard .board .h)) m n k) why.roomTooShort (a .0 .room)) in
     let g = or-false (not (inRange oneF (call .hard .error-limit))) (not (inRange marginTop (call .soft-margin))) (if-accepted (softSettingsBad call) why.badSetting (b .1 .setting)) in
     record {
       hard = record {
@@ -310,13 +330,14 @@ soft-accepted call m n k h =
     let ms = call .likelihoods .matches in
     let us = call .likelihoods .mismatches in
     let edges = size (call .hard .physical) in
+    let L = length (call .hard .board .h) in
     let t = soft-tests-of call m n k h in
     let hard = hard-passed (call .hard) m n (t .hard) in
     let q = and-true (eqb edges (length ms)) (eqb edges (length us)) (not-false _ (t .lengths)) in
     let matches : length ms ≡ edges = sym (eqb-true _ _ (q .0)) in
     record {
       hard = hard;
-      room = le-trans (le-of-eq (flat-room (call .hard .board) (hard .periods) .1)) (ltb-false _ _ (t .sums-room));
+      room = le-trans (le-of-eq (pole-rooms (call .hard .board) (hard .vertical) .1 ∙ ap sumsFor (sym (asked-own L (horizontal-length (call .hard .board) (t .hard .tables)))))) (ltb-false _ _ (t .sums-room));
       matches = matches;
       mismatches = sym (eqb-true _ _ (q .1));
       likely = λ i l.

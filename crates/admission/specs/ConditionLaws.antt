@@ -1,7 +1,7 @@
 -- Laws of conditions: they are met or fail, not both, and by one number; some after others; and how a check judges them, one by one.
 use mathlib.Core.Path.{_≡_, refl, sym, ap, _∙_}
 use mathlib.Core.Bool.{Bool, true, false, cond}
-use mathlib.Core.Logic.{inl, inr}
+use mathlib.Core.Logic.{_⊎_, inl, inr, ⊎-elim}
 use mathlib.Core.List.{List, [], _∷_, _++_}
 use Prim.Native.Nat.{ℕ}
 use lib.Dec.{ltb}
@@ -54,6 +54,42 @@ pub fails-late : (early late : List Condition) (n : ℕ) → AllMet early → Fi
 unfolding AllMet FirstFails
 fails-late [] late n m f = f
 fails-late (row ∷ early) late n m f = inr (m .0, fails-late early late n (m .1) f)
+
+-- one of the two
+fails-parts : (early late : List Condition) (n : ℕ) → FirstFails (early ++ late) n → FirstFails early n ⊎ (AllMet early × FirstFails late n)
+unfolding AllMet FirstFails
+fails-parts [] late n f = inr (tt, f)
+fails-parts (row ∷ early) late n (inl f) = inl (inl f)
+fails-parts (row ∷ early) late n (inr f) = ⊎-elim (λ g. inl (inr (f .0, g))) (λ g. inr ((f .0, g .0), g .1)) (fails-parts early late n (f .1))
+
+-- ---- the same conditions in other words: by the same numbers, and met and failing alike
+pub record InOtherWords (rows others : List Condition) : Type 0 where
+  pub met : AllMet rows → AllMet others
+  pub back : AllMet others → AllMet rows
+  pub fails : (n : ℕ) → FirstFails rows n → FirstFails others n
+  pub fails-back : (n : ℕ) → FirstFails others n → FirstFails rows n
+
+pub word-for-word : (rows : List Condition) → InOtherWords rows rows
+word-for-word rows = record { met = λ m. m; back = λ m. m; fails = λ n f. f; fails-back = λ n f. f }
+
+-- one fact for another, and then the rest
+pub reworded : {n : ℕ} {fact other : Type 0} {rows others : List Condition} → (fact → other) → (other → fact) → InOtherWords rows others → InOtherWords ((n, fact) ∷ rows) ((n, other) ∷ others)
+unfolding AllMet FirstFails
+reworded to from w = record {
+  met = λ m. (to (m .0), w .met (m .1));
+  back = λ m. (from (m .0), w .back (m .1));
+  fails = λ k f. ⊎-elim (λ g. inl ((λ h. g .0 (from h)), g .1)) (λ g. inr (to (g .0), w .fails k (g .1))) f;
+  fails-back = λ k f. ⊎-elim (λ g. inl ((λ h. g .0 (to h)), g .1)) (λ g. inr (from (g .0), w .fails-back k (g .1))) f;
+}
+
+-- with late conditions after them
+pub reworded-early : (rows others late : List Condition) → InOtherWords rows others → InOtherWords (rows ++ late) (others ++ late)
+reworded-early rows others late w = record {
+  met = λ m. let p = met-parts rows late m in met-both others late (w .met (p .0)) (p .1);
+  back = λ m. let p = met-parts others late m in met-both rows late (w .back (p .0)) (p .1);
+  fails = λ n f. ⊎-elim (λ g. fails-early others late n (w .fails n g)) (λ g. fails-late others late n (w .met (g .0)) (g .1)) (fails-parts rows late n f);
+  fails-back = λ n f. ⊎-elim (λ g. fails-early rows late n (w .fails-back n g)) (λ g. fails-late rows late n (w .back (g .0)) (g .1)) (fails-parts others late n f);
+}
 
 -- ---- how a check judges one condition: it accepts exactly where the fact holds, and refuses by the number
 pub record Judged (a : Admission) (n : ℕ) (fact : Type 0) : Type 0 where

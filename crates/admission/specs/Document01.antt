@@ -40,7 +40,7 @@ confidencesBad E = ltb (firstBadConfidence (E .confidences)) (length (E .confide
 -- the table of document 01, of a hard call
 unfoldable pub hardNumbers01 : HardCall → ℕ → ℕ → Admission
 hardNumbers01 call counts weights =
-    cond (roomShort counts weights) (Refused (numbered 1))
+    cond (roomShort (length (call .board .h)) counts weights) (Refused (numbered 1))
     (cond (lengthsDiffer (call .logical) || lengthsDiffer (call .physical)) (Refused (numbered 2))
     (cond (sizeBad 1 (size (call .logical)) || sizeBad 1 (size (call .physical))) (Refused (numbered 3))
     (cond (fieldsBad (call .logical) || fieldsBad (call .physical)) (Refused (numbered 4))
@@ -55,7 +55,7 @@ softNumbers01 call counts weights sums =
     let h = call .hard in
     let ms = call .likelihoods .matches in
     let us = call .likelihoods .mismatches in
-    cond (softRoomShort counts weights sums) (Refused (numbered 1))
+    cond (softRoomShort (length (h .board .h)) counts weights sums) (Refused (numbered 1))
     (cond ((lengthsDiffer (h .logical) || lengthsDiffer (h .physical)) || likelihoodsDiffer (size (h .physical)) ms us) (Refused (numbered 2))
     (cond (sizeBad 1 (size (h .logical)) || sizeBad 1 (size (h .physical))) (Refused (numbered 3))
     (cond (fieldsBad (h .logical) || fieldsBad (h .physical)) (Refused (numbered 4))
@@ -74,4 +74,4 @@ statsNumbers01 E t row col B =
     (cond (confidencesBad E) (Refused (numbered 5))
     (cond (ltb 7 t) (Refused (numbered 7))
     (cond (tablesBad B) (Refused (numbered 8))
-    (cond (originBad row col) (Refused (numbered 9)) Accepted))))))
+    (cond (originBad (length (B .h)) row col) (Refused (numbered 9)) Accepted))))))

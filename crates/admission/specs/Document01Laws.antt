@@ -286,26 +286,26 @@ hard-document-01 call m n =
     let L = call .logical in
     let E = call .physical in
     let s = settingsFindings (transformsBad (call .transforms)) (tablesBad (call .board)) (not (inRange oneF (call .error-limit))) in
-    let f = joined (roomFindings (roomShort m n)) (joined (bothLists call) s) in
+    let f = joined (roomFindings (roomShort (length (call .board .h)) m n)) (joined (bothLists call) s) in
     let lists = tests-joined (listFindings 1 list.Logical L) (listFindings 1 list.Physical E) (list-01 1 list.Logical L) (list-01 1 list.Physical E) in
-    let t = tests-joined (roomFindings (roomShort m n)) (joined (bothLists call) s) (room-01 (roomShort m n)) (tests-joined (bothLists call) s lists (settings-01 (transformsBad (call .transforms)) (tablesBad (call .board)) (not (inRange oneF (call .error-limit))))) in
+    let t = tests-joined (roomFindings (roomShort (length (call .board .h)) m n)) (joined (bothLists call) s) (room-01 (roomShort (length (call .board .h)) m n)) (tests-joined (bothLists call) s lists (settings-01 (transformsBad (call .transforms)) (tablesBad (call .board)) (not (inRange oneF (call .error-limit))))) in
     found-01 f t
     ∙ (λ i.
-    chain01 (or-right (roomShort m n) i) (or-right (lengthsDiffer L || lengthsDiffer E) i) (or-right (sizeBad 1 (size L) || sizeBad 1 (size E)) i)
+    chain01 (or-right (roomShort (length (call .board .h)) m n) i) (or-right (lengthsDiffer L || lengthsDiffer E) i) (or-right (sizeBad 1 (size L) || sizeBad 1 (size E)) i)
     (or-right (lists .coordinate) i || (or-right (lists .orientation) i || or-right (lists .bit) i))
     (or-right (confidencesBad L || confidencesBad E) i) false (transformsBad (call .transforms)) (tablesBad (call .board)) (not (inRange oneF (call .error-limit))))
-    ∙ ap (λ (fields : Bool). chain01 (roomShort m n) (lengthsDiffer L || lengthsDiffer E) (sizeBad 1 (size L) || sizeBad 1 (size E)) fields (confidencesBad L || confidencesBad E) false (transformsBad (call .transforms)) (tablesBad (call .board)) (not (inRange oneF (call .error-limit))))
+    ∙ ap (λ (fields : Bool). chain01 (roomShort (length (call .board .h)) m n) (lengthsDiffer L || lengthsDiffer E) (sizeBad 1 (size L) || sizeBad 1 (size E)) fields (confidencesBad L || confidencesBad E) false (transformsBad (call .transforms)) (tablesBad (call .board)) (not (inRange oneF (call .error-limit))))
     (by-lists (list-01 1 list.Logical L .coordinate) (list-01 1 list.Logical L .orientation) (list-01 1 list.Logical L .bit) (list-01 1 list.Physical E .coordinate) (list-01 1 list.Physical E .orientation) (list-01 1 list.Physical E .bit))
 
 -- MATCH STATISTICS: the same
 pub stats-document-01 : (E : EdgeList) (t row col : ℕ) (B : Board) → admission01 (statsAdmission E t row col B) ≡ statsNumbers01 E t row col B
 unfolding statsAdmission statsNumbers01 tests-joined list-01 settings-01
 stats-document-01 E t row col B =
-    let s = settingsFindings (ltb 7 t) (tablesBad B) (originBad row col) in
+    let s = settingsFindings (ltb 7 t) (tablesBad B) (originBad (length (B .h)) row col) in
     let l = list-01 0 list.Only E in
-    found-01 (joined (listFindings 0 list.Only E) s) (tests-joined (listFindings 0 list.Only E) s l (settings-01 (ltb 7 t) (tablesBad B) (originBad row col)))
+    found-01 (joined (listFindings 0 list.Only E) s) (tests-joined (listFindings 0 list.Only E) s l (settings-01 (ltb 7 t) (tablesBad B) (originBad (length (B .h)) row col)))
     ∙ (λ i.
-    chain01 false (or-right (lengthsDiffer E) i) (or-right (sizeBad 0 (size E)) i) (or-right (l .coordinate) i || (or-right (l .orientation) i || or-right (l .bit) i)) (or-right (confidencesBad E) i) false (ltb 7 t) (tablesBad B) (originBad row col))
+    chain01 false (or-right (lengthsDiffer E) i) (or-right (sizeBad 0 (size E)) i) (or-right (l .coordinate) i || (or-right (l .orientation) i || or-right (l .bit) i)) (or-right (confidencesBad E) i) false (ltb 7 t) (tablesBad B) (originBad (length (B .h)) row col))
 
 -- ---- soft decode: likelihoods as many as the edges are over 8,192 only where the edges are
 sizes-same : (z y : Bool) → (y ≡ true → z ≡ true) → (z || y) ≡ z
@@ -344,7 +344,7 @@ soft-document-01 call m n k =
     let E = call .hard .physical in
     let ms = call .likelihoods .matches in
     let us = call .likelihoods .mismatches in
-    let room = softRoomShort m n k in
+    let room = softRoomShort (length (call .hard .board .h)) m n k in
     let ts = transformsBad (call .hard .transforms) in
     let tb = tablesBad (call .hard .board) in
     let s = settingsFindings ts tb (softSettingsBad call) in

@@ -3,11 +3,12 @@
 use mathlib.Core.Path.{_≡_}
 use mathlib.Core.Bool.{true, false}
 use mathlib.Core.List.{List, [], _∷_}
-use Prim.Native.Nat.{ℕ, _*_, _≤_, _<_}
+use Prim.Native.Nat.{ℕ, _*_, _%_, _≤_, _<_}
 use lib.ListN.{getD, length}
 use lib.IntN.{pos, natAbs}
 use lib.Ieee.{Float, nan, inf, fin, up, down}
 use Rattle.board.specs.Hits.{EdgeList, Board, size}
+use Rattle.room.specs.Room.{tablesFor, sumsFor}
 use Rattle.admission.specs.Calls.{HardCall, SoftCall, HardRoom, SoftRoom}
 use Rattle.admission.specs.Conditions.{Condition}
 
@@ -22,9 +23,18 @@ Between below above (inf s) = ⊥
 Between below above (fin true m e) = m * up e ≤ below * down e
 Between below above (fin false m e) = m * up e ≤ above * down e
 
--- the conditions on every call. `each P` says P of each list, of `least` edges or more; `columns` is about the lengths of the likelihoods, `settings` about limit, margin or origin
-unfoldable pub early : ((EdgeList → Type 0) → Type 0) → ℕ → List ℕ → Board → (room columns likelihoods settings : Type 0) → List Condition
-early each least transforms board room columns likelihoods settings =
+-- C-13: "L is from 4 to 500 and not a multiple of 3", the length of a horizontal pattern table; that of the flat board is 167
+abbrev pub PoleLength : ℕ → Type 0
+PoleLength L = (4 ≤ L) × (L ≤ 500) × (L % 3 ≡ 0 → ⊥)
+
+-- n places are room enough: as many as L asks for, and "by the smallest allowed size when L is bad", that of 4
+abbrev pub Lent : (ℕ → ℕ) → ℕ → ℕ → Type 0
+Lent asked L n = (asked 4 ≤ n) × (PoleLength L → asked L ≤ n)
+
+-- the conditions on every call. `each P` says P of each list, of `least` edges or more; `long` is what the length of the horizontal table may be; `columns` is about the lengths of the likelihoods,
+-- `settings` about limit, margin or origin
+unfoldable pub early : ((EdgeList → Type 0) → Type 0) → ℕ → List ℕ → (ℕ → Type 0) → Board → (room columns likelihoods settings : Type 0) → List Condition
+early each least transforms long board room columns likelihoods settings =
     (1, room)
     ∷ (2, each (λ E. (length (E .cols) ≡ size E) × (length (E .orientations) ≡ size E) × (length (E .bits) ≡ size E) × (length (E .confidences) ≡ size E)) × columns)
     ∷ (3, each (λ E. (least ≤ size E) × (size E ≤ 8192)))
@@ -34,24 +44,24 @@ early each least transforms board room columns likelihoods settings =
     ∷ (5, each (λ E. (i : ℕ) → i < length (E .confidences) → Between 0 1 (getD (E .confidences) i nan)))
     ∷ (6, likelihoods)
     ∷ (7, (1 ≤ length transforms) × (length transforms ≤ 8) × AtMost 7 transforms)
-    ∷ (8, (length (board .h) ≡ 167) × AtMost 7 (board .h) × (length (board .v) ≡ 167) × AtMost 7 (board .v))
+    ∷ (8, long (length (board .h)) × AtMost 7 (board .h) × (length (board .v) ≡ 167) × AtMost 7 (board .v))
     ∷ (9, settings) ∷ []
 
--- a hard call with its room: "Room: 3,006 u32 and 3,006 f32", "Error limit: f32 from 0 to 1"
+-- a hard call with its room: "9L+1,503 u32 and f32", "Error limit: f32 from 0 to 1"
 unfoldable pub hardEarly : HardCall → HardRoom → List Condition
 hardEarly call room =
-    early (λ P. P (call .logical) × P (call .physical)) 1 (call .transforms) (call .board)
-    ((3006 ≤ length (room .counts)) × (3006 ≤ length (room .weights))) (Unit {0}) (Unit {0}) (Between 0 1 (call .error-limit))
+    early (λ P. P (call .logical) × P (call .physical)) 1 (call .transforms) PoleLength (call .board)
+    (Lent tablesFor (length (call .board .h)) (length (room .counts)) × Lent tablesFor (length (call .board .h)) (length (room .weights))) (Unit {0}) (Unit {0}) (Between 0 1 (call .error-limit))
 
--- a soft call: "soft also 5,010 i64", "Each log likelihood is a finite f32 from -65,536 to 65,536", "Soft margin: f32 from 0 to 65,536"
+-- a soft call: "15L+2,505 i64", "Each log likelihood is a finite f32 from -65,536 to 65,536", "Soft margin: f32 from 0 to 65,536"
 unfoldable pub softEarly : SoftCall → SoftRoom → List Condition
 softEarly call room =
-    early (λ P. P (call .hard .logical) × P (call .hard .physical)) 1 (call .hard .transforms) (call .hard .board)
-    ((3006 ≤ length (room .counts)) × (3006 ≤ length (room .weights)) × (5010 ≤ length (room .sums)))
+    early (λ P. P (call .hard .logical) × P (call .hard .physical)) 1 (call .hard .transforms) PoleLength (call .hard .board)
+    (Lent tablesFor (length (call .hard .board .h)) (length (room .counts)) × Lent tablesFor (length (call .hard .board .h)) (length (room .weights)) × Lent sumsFor (length (call .hard .board .h)) (length (room .sums)))
     ((length (call .likelihoods .matches) ≡ size (call .hard .physical)) × (length (call .likelihoods .mismatches) ≡ size (call .hard .physical)))
     ((i : ℕ) → i < size (call .hard .physical) → Between 65536 65536 (getD (call .likelihoods .matches) i nan) × Between 65536 65536 (getD (call .likelihoods .mismatches) i nan))
     (Between 0 1 (call .hard .error-limit) × Between 0 65536 (call .soft-margin))
 
--- match statistics, which have no room and also take no edges: "An origin given to match statistics: 0 to 500 each way"
+-- match statistics, which have no room and also take no edges: "one row below 3L, the bound for a given origin's row too; columns stay 501"
 unfoldable pub statsEarly : EdgeList → ℕ → ℕ → ℕ → Board → List Condition
-statsEarly list transform row col board = early (λ P. P list) 0 (transform ∷ []) board (Unit {0}) (Unit {0}) (Unit {0}) ((row ≤ 500) × (col ≤ 500))
+statsEarly list transform row col board = early (λ P. P list) 0 (transform ∷ []) PoleLength board (Unit {0}) (Unit {0}) (Unit {0}) ((row < 3 * length (board .h)) × (col ≤ 500))

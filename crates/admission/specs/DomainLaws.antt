@@ -1,10 +1,10 @@
 -- WHAT IS ASKED IS WHAT IS CHECKED: no early refusal exactly when the call meets all conditions of Domain.antt, and else the number of the first that it does not meet.
 use mathlib.Core.Path.{_≡_, refl, sym, ap, _∙_}
-use mathlib.Core.Bool.{Bool, true, false, not, _&&_, _||_, true≢false}
+use mathlib.Core.Bool.{Bool, true, false, not, _&&_, _||_, cond, true≢false}
 use mathlib.Core.Logic.{⊎-elim}
 use mathlib.Core.List.{List, [], _∷_}
-use Prim.Native.Nat.{ℕ, zero, suc, _+_, _*_, _^_, _≤_, _<_}
-use native.Mathlib.Nat.{le-refl, zero-lt-suc, zero-mul, one-mul, mul-one, mul-pos}
+use Prim.Native.Nat.{ℕ, zero, suc, _+_, _*_, _%_, _^_, _≤_, _<_}
+use native.Mathlib.Nat.{le-refl, le-trans, zero-lt-suc, zero-mul, one-mul, mul-one, mul-pos}
 use native.Mathlib.Omega.{arith}
 use lib.Dec.{ltb, eqb}
 use lib.ListN.{getD, length}
@@ -24,15 +24,15 @@ use Rattle.refusals.specs.declared.Admission.{Admission}
 use Rattle.refusals.specs.declared.Admission.the-variants.{Accepted, Refused}
 use Rattle.refusals.specs.declared.ListName.{ListName}
 use Rattle.refusals.specs.declared.ListName.the-variants as list
-use Rattle.room.specs.Room.{flatTables}
+use Rattle.room.specs.Room.{tablesFor, sumsFor}
 use Rattle.checks.specs.Checks.{far, badCoordinate, badLikelihood, firstBadCoordinate, firstBadLikelihood, lengthsDiffer, sizeBad, likelihoodsDiffer, originBad}
-use Rattle.ranges.specs.Ranges.{badByte, inRange, marginTop, badConfidence, firstBadByte, firstBadConfidence, transformsBad, tableBad}
+use Rattle.ranges.specs.Ranges.{badByte, inRange, marginTop, badConfidence, firstBadByte, firstBadConfidence, transformsBad, poleLength, patternsBad, horizontalBad, verticalBad}
 use Rattle.findings.specs.Findings.{refusedIf, refusedAt, orElse, firstOf, firstFound, roomFindings, listFindings, likelihoodFindings, settingsFindings}
 use Rattle.admission.specs.Calls.{HardCall, SoftCall, HardRoom, SoftRoom}
-use Rattle.admission.specs.Refusals.{tablesBad, roomShort, softRoomShort, hardAdmission, softAdmission, statsAdmission, hardChecked, softChecked}
+use Rattle.admission.specs.Refusals.{askedLength, tablesBad, roomShort, softRoomShort, hardAdmission, softAdmission, statsAdmission, hardChecked, softChecked}
 use Rattle.admission.specs.Conditions.{AllMet, FirstFails}
 use Rattle.admission.specs.ConditionLaws.{Tests, Judged, judged-if, judged-at, judged-none, judged-both, judged-alone, judged-same, Judges, judges-none, judges-row}
-use Rattle.admission.specs.Domain.{AtMost, Between, early, hardEarly, softEarly, statsEarly}
+use Rattle.admission.specs.Domain.{AtMost, Between, PoleLength, Lent, early, hardEarly, softEarly, statsEarly}
 
 -- ---- tests and facts
 -- two tests, of which neither is to hold
@@ -51,6 +51,9 @@ and-tested p q s t = ((λ e. let o = and-true p q (not-false _ e) in (s .0 (ap n
 
 at-most-tested : (most n : ℕ) → Tests (ltb most n) (n ≤ most)
 at-most-tested most n = ((λ e. ltb-false most n e), λ h. le-ltb most n h)
+
+below-tested : (bound n : ℕ) → Tests (not (ltb n bound)) (n < bound)
+below-tested bound n = ((λ e. ltb-true n bound (not-false _ e)), λ h. ap not (lt-ltb n bound h))
 
 at-least-tested : (least n : ℕ) → Tests (ltb n least) (least ≤ n)
 at-least-tested least n = ((λ e. ltb-false n least e), λ h. le-ltb n least h)
@@ -182,14 +185,46 @@ transforms-tested ts =
     let t = or-tested some (or-tested (at-most-tested 8 (length ts)) (bytes-tested 7 ts)) in
     ((λ e. let h = t .0 e in (h .0, h .1 .0, h .1 .1)), λ h. t .1 (h .0, (h .1, h .2)))
 
-table-tested : (ps : List ℕ) → Tests (tableBad ps) ((length ps ≡ 167) × AtMost 7 ps)
-unfolding tableBad
-table-tested ps = let same : Tests (not (eqb (length ps) 167)) (length ps ≡ 167) = ((λ e. eqb-true _ _ (not-false _ e)), λ h. ap not (eq-eqb _ _ h)) in or-tested same (bytes-tested 7 ps)
+-- a length that a horizontal table may have
+pole-tested : (L : ℕ) → Tests (not (poleLength L)) (PoleLength L)
+unfolding poleLength
+pole-tested L =
+    let size = or-tested (at-least-tested 4 L) (at-most-tested 500 L) in
+    let sizes : Tests (not (not (ltb L 4 || ltb 500 L))) ((4 ≤ L) × (L ≤ 500)) = ((λ e. size .0 (not-not _ ∙ e)), λ h. sym (not-not _) ∙ size .1 h) in
+    let free : Tests (not (not (eqb (L % 3) 0))) (L % 3 ≡ 0 → ⊥) = ((λ e. eqb-false (L % 3) 0 (not-not _ ∙ e)), λ h. sym (not-not _) ∙ ne-eqb (L % 3) 0 h) in
+    let t = and-tested (not (ltb L 4 || ltb 500 L)) (not (eqb (L % 3) 0)) sizes free in
+    ((λ e. let h = t .0 e in (h .0 .0, h .0 .1, h .1)), λ h. t .1 ((h .0, h .1), h .2))
+  where
+    not-not : (b : Bool) → b ≡ not (not b)
+    not-not true = refl
+    not-not false = refl
 
-tables-tested : (B : Board) → Tests (tablesBad B) ((length (B .h) ≡ 167) × AtMost 7 (B .h) × (length (B .v) ≡ 167) × AtMost 7 (B .v))
+-- a table of a length that it may have
+table-tested : (may-be : Bool) (ps : List ℕ) {fact : Type 0} → Tests (not may-be) fact → Tests (patternsBad may-be ps) (fact × AtMost 7 ps)
+unfolding patternsBad
+table-tested may-be ps t = or-tested t (bytes-tested 7 ps)
+
+tables-tested : (B : Board) → Tests (tablesBad B) (PoleLength (length (B .h)) × AtMost 7 (B .h) × (length (B .v) ≡ 167) × AtMost 7 (B .v))
+unfolding horizontalBad verticalBad
 tables-tested B =
-    let t = or-tested (table-tested (B .h)) (table-tested (B .v)) in
+    let same : Tests (not (eqb (length (B .v)) 167)) (length (B .v) ≡ 167) = ((λ e. eqb-true _ _ (not-false _ e)), λ h. ap not (eq-eqb _ _ h)) in
+    let t = or-tested (table-tested _ (B .h) (pole-tested (length (B .h)))) (table-tested _ (B .v) same) in
     ((λ e. let h = t .0 e in (h .0 .0, h .0 .1, h .1 .0, h .1 .1)), λ h. t .1 ((h .0, h .1), (h .2, h .3)))
+
+-- room that is lent, where more is asked for with a greater length
+lent-tested : (asked : ℕ → ℕ) → ((L : ℕ) → 4 ≤ L → asked 4 ≤ asked L) → (L n : ℕ) → Tests (ltb n (asked (askedLength L))) (Lent asked L n)
+unfolding askedLength
+lent-tested asked more L n = go (poleLength L) (pole-tested L)
+  where
+    go : (good : Bool) → Tests (not good) (PoleLength L) → Tests (ltb n (asked (cond good L 4))) (Lent asked L n)
+    go true t = let g = t .0 refl in ((λ e. let l = ltb-false _ _ e in (le-trans (more L (g .0)) l, λ h. l)), λ h. le-ltb _ _ (h .1 g))
+    go false t = ((λ e. (ltb-false _ _ e, λ h. absurd (true≢false (t .1 h)))), λ h. le-ltb _ _ (h .0))
+
+tables-lent : (L n : ℕ) → Tests (ltb n (tablesFor (askedLength L))) (Lent tablesFor L n)
+tables-lent = lent-tested tablesFor (λ L h. omega arith)
+
+sums-lent : (L n : ℕ) → Tests (ltb n (sumsFor (askedLength L))) (Lent sumsFor L n)
+sums-lent = lent-tested sumsFor (λ L h. omega arith)
 
 -- ---- what is found of each kind judges its condition: in one list
 lengths-judged : (l : ListName) (E : EdgeList) → Judged (refusedIf (lengthsDiffer E) 2) 2 ((length (E .cols) ≡ size E) × (length (E .orientations) ≡ size E) × (length (E .bits) ≡ size E) × (length (E .confidences) ≡ size E))
@@ -219,7 +254,7 @@ both-judged call j = judged-both _ _ (j list.Logical (call .logical)) (j list.Ph
 
 -- and in what comes last
 settings-judged : (ts : List ℕ) (B : Board) (bad : Bool) {fact : Type 0} → Tests bad fact
-    → Judges ((7, (1 ≤ length ts) × (length ts ≤ 8) × AtMost 7 ts) ∷ (8, (length (B .h) ≡ 167) × AtMost 7 (B .h) × (length (B .v) ≡ 167) × AtMost 7 (B .v)) ∷ (9, fact) ∷ [])
+    → Judges ((7, (1 ≤ length ts) × (length ts ≤ 8) × AtMost 7 ts) ∷ (8, PoleLength (length (B .h)) × AtMost 7 (B .h) × (length (B .v) ≡ 167) × AtMost 7 (B .v)) ∷ (9, fact) ∷ [])
     (orElse (refusedIf (transformsBad ts) 7) (orElse (refusedIf (tablesBad B) 8) (orElse (refusedIf bad 9) Accepted)))
 settings-judged ts B bad t =
     judges-row _ _ (judged-if (transformsBad ts) 7 (transforms-tested ts)) (λ h.
@@ -231,7 +266,7 @@ module _ (call : HardCall) (room : HardRoom) where
   hard-judged : Judges (hardEarly call room) (hardChecked call room)
   unfolding early hardEarly hardAdmission firstFound firstOf orElse roomFindings listFindings settingsFindings roomShort
   hard-judged =
-      judges-row _ _ (judged-alone _ (judged-if _ 1 (or-tested (at-least-tested flatTables (length (room .counts))) (at-least-tested flatTables (length (room .weights)))))) (λ h.
+      judges-row _ _ (judged-alone _ (judged-if _ 1 (or-tested (tables-lent (length (call .board .h)) (length (room .counts))) (tables-lent (length (call .board .h)) (length (room .weights)))))) (λ h.
       judges-row _ _ (judged-both _ Accepted (both-judged call lengths-judged) (judged-none 2)) (λ h.
       judges-row _ _ (judged-alone _ (both-judged call (sizes-judged 1))) (λ h.
       judges-row _ _ (judged-alone _ (both-judged call coordinates-judged)) (λ h.
@@ -256,11 +291,15 @@ module _ (call : SoftCall) (room : SoftRoom) where
   abbrev us : List Float
   us = call .likelihoods .mismatches
 
-  rooms-judged : Judged (refusedIf (softRoomShort (length (room .counts)) (length (room .weights)) (length (room .sums))) 1) 1 ((3006 ≤ length (room .counts)) × (3006 ≤ length (room .weights)) × (5010 ≤ length (room .sums)))
+  abbrev L : ℕ
+  L = length (call .hard .board .h)
+
+  rooms-judged : Judged (refusedIf (softRoomShort L (length (room .counts)) (length (room .weights)) (length (room .sums))) 1) 1
+      (Lent tablesFor L (length (room .counts)) × Lent tablesFor L (length (room .weights)) × Lent sumsFor L (length (room .sums)))
   unfolding softRoomShort roomShort
   rooms-judged =
       judged-same (λ h. (h .0 .0, h .0 .1, h .1)) (λ h. ((h .0, h .1), h .2))
-      (judged-if _ 1 (or-tested (or-tested (at-least-tested 3006 (length (room .counts))) (at-least-tested 3006 (length (room .weights)))) (at-least-tested 5010 (length (room .sums)))))
+      (judged-if _ 1 (or-tested (or-tested (tables-lent L (length (room .counts))) (tables-lent L (length (room .weights)))) (sums-lent L (length (room .sums)))))
 
   -- the likelihoods are as many as the edges, and so not over 8,192
   sizes-with : (length ms ≡ size (call .hard .physical)) → Judged (orElse (orElse (refusedIf (sizeBad 1 (size (call .hard .logical))) 3) (refusedIf (sizeBad 1 (size (call .hard .physical))) 3)) (refusedIf (sizeBad 0 (length ms)) 3)) 3
@@ -321,7 +360,7 @@ module _ (E : EdgeList) (t row col : ℕ) (B : Board) where
       judges-row Accepted _ (judged-none 6) (λ h.
       judges-row _ _ one-judged (λ h.
       judges-row _ _ (judged-if (tablesBad B) 8 (tables-tested B)) (λ h.
-      judges-row _ _ (judged-if (originBad row col) 9 (or-tested (at-most-tested 500 row) (at-most-tested 500 col))) (λ h. judges-none)))))))))))
+      judges-row _ _ (judged-if (originBad (length (B .h)) row col) 9 (or-tested (below-tested (3 * length (B .h)) row) (at-most-tested 500 col))) (λ h. judges-none)))))))))))
 
   -- MATCH STATISTICS: the same
   pub stats-domain : (statsAdmission E t row col B ≡ Accepted → AllMet (statsEarly E t row col B)) × (AllMet (statsEarly E t row col B) → statsAdmission E t row col B ≡ Accepted)

@@ -4,6 +4,7 @@ use mathlib.Core.Path.{_≡_}
 use mathlib.Core.Bool.{Bool, not}
 use Prim.Native.Nat.{ℕ}
 use lib.Dec.{ltb}
+use lib.ListN.{length}
 use Rattle.laws.specs.Words.{oneF}
 use Rattle.board.specs.Hits.{EdgeList, Board, size}
 use Rattle.refusals.specs.declared.Refusal.{Refusal}
@@ -40,7 +41,7 @@ unfolding hardAdmission
 hard-place call m n r h =
     let P = PlaceRight (hardCount call) (hardBad call) in
     let s = settingsFindings (transformsBad (call .transforms)) (tablesBad (call .board)) (not (inRange oneF (call .error-limit))) in
-    of-refusal P _ r (of-found P _ (each-joined P (roomFindings (roomShort m n)) (joined (bothLists call) s) (each-room (hardCount call) (hardBad call) (roomShort m n))
+    of-refusal P _ r (of-found P _ (each-joined P (roomFindings (roomShort (length (call .board .h)) m n)) (joined (bothLists call) s) (each-room (hardCount call) (hardBad call) (roomShort (length (call .board .h)) m n))
     (each-joined P (bothLists call) s (each-lists (call .logical) (call .physical) noLikelihoods) (each-settings (hardCount call) (hardBad call) (transformsBad (call .transforms)) (tablesBad (call .board)) (not (inRange oneF (call .error-limit))))))) h
 
 -- SOFT
@@ -51,7 +52,7 @@ soft-place call m n k r h =
     let s = settingsFindings (transformsBad (call .hard .transforms)) (tablesBad (call .hard .board)) (softSettingsBad call) in
     let lists = each-lists (call .hard .logical) (call .hard .physical) (unlikelyIn (call .likelihoods .matches) (call .likelihoods .mismatches)) in
     let likelihoods = each-likelihoods (call .hard .logical) (call .hard .physical) (call .likelihoods .matches) (call .likelihoods .mismatches) in
-    of-refusal P _ r (of-found P _ (each-joined P (roomFindings (softRoomShort m n k)) (joined (joined (bothLists (call .hard)) (softLikelihoods call)) s) (each-room (hardCount (call .hard)) (softBad call) (softRoomShort m n k))
+    of-refusal P _ r (of-found P _ (each-joined P (roomFindings (softRoomShort (length (call .hard .board .h)) m n k)) (joined (joined (bothLists (call .hard)) (softLikelihoods call)) s) (each-room (hardCount (call .hard)) (softBad call) (softRoomShort (length (call .hard .board .h)) m n k))
     (each-joined P (joined (bothLists (call .hard)) (softLikelihoods call)) s (each-joined P (bothLists (call .hard)) (softLikelihoods call) lists likelihoods)
     (each-settings (hardCount (call .hard)) (softBad call) (transformsBad (call .hard .transforms)) (tablesBad (call .hard .board)) (softSettingsBad call))))) h
 
@@ -60,5 +61,5 @@ pub stats-place : (E : EdgeList) (t row col : ℕ) (B : Board) (r : Refusal) →
 unfolding statsAdmission
 stats-place E t row col B r h =
     let P = PlaceRight (statsCount E) (statsBad E) in
-    of-refusal P _ r (of-found P _ (each-joined P (listFindings 0 list.Only E) (settingsFindings (ltb 7 t) (tablesBad B) (originBad row col)) (each-list E noLikelihoods)
-    (each-settings (statsCount E) (statsBad E) (ltb 7 t) (tablesBad B) (originBad row col)))) h
+    of-refusal P _ r (of-found P _ (each-joined P (listFindings 0 list.Only E) (settingsFindings (ltb 7 t) (tablesBad B) (originBad (length (B .h)) row col)) (each-list E noLikelihoods)
+    (each-settings (statsCount E) (statsBad E) (ltb 7 t) (tablesBad B) (originBad (length (B .h)) row col)))) h

@@ -36,17 +36,17 @@ sorted-both : (call : HardCall) → Sorted (bothLists call)
 sorted-both call = sorted-joined (listFindings 1 list.Logical (call .logical)) (listFindings 1 list.Physical (call .physical)) (sorted-list 1 list.Logical (call .logical)) (sorted-list 1 list.Physical (call .physical))
 
 pub hard-parts : (call : HardCall) (m n : ℕ)
-    → earlier (refusedIf (roomShort m n) why.roomTooShort) (earlier (earlier (firstFound (listFindings 1 list.Logical (call .logical))) (firstFound (listFindings 1 list.Physical (call .physical)))) (firstFound (settingsFindings (transformsBad (call .transforms)) (tablesBad (call .board)) (not (inRange oneF (call .error-limit))))))
+    → earlier (refusedIf (roomShort (length (call .board .h)) m n) why.roomTooShort) (earlier (earlier (firstFound (listFindings 1 list.Logical (call .logical))) (firstFound (listFindings 1 list.Physical (call .physical)))) (firstFound (settingsFindings (transformsBad (call .transforms)) (tablesBad (call .board)) (not (inRange oneF (call .error-limit))))))
     ≡ hardAdmission call m n
 unfolding hardAdmission
 hard-parts call m n =
     let s = settingsFindings (transformsBad (call .transforms)) (tablesBad (call .board)) (not (inRange oneF (call .error-limit))) in
     let k = sorted-settings (transformsBad (call .transforms)) (tablesBad (call .board)) (not (inRange oneF (call .error-limit))) in
-    with-room (roomShort m n) (joined (bothLists call) s) _ (sorted-joined (bothLists call) s (sorted-both call) k)
+    with-room (roomShort (length (call .board .h)) m n) (joined (bothLists call) s) _ (sorted-joined (bothLists call) s (sorted-both call) k)
     (ap (λ (x : Admission). earlier x (firstFound s)) (two-lists call) ∙ first-joined (bothLists call) s (sorted-both call) k)
 
 pub soft-parts : (call : SoftCall) (m n k : ℕ)
-    → earlier (refusedIf (softRoomShort m n k) why.roomTooShort) (earlier (earlier (earlier (firstFound (listFindings 1 list.Logical (call .hard .logical))) (firstFound (listFindings 1 list.Physical (call .hard .physical)))) (firstFound (softLikelihoods call))) (firstFound (settingsFindings (transformsBad (call .hard .transforms)) (tablesBad (call .hard .board)) (softSettingsBad call))))
+    → earlier (refusedIf (softRoomShort (length (call .hard .board .h)) m n k) why.roomTooShort) (earlier (earlier (earlier (firstFound (listFindings 1 list.Logical (call .hard .logical))) (firstFound (listFindings 1 list.Physical (call .hard .physical)))) (firstFound (softLikelihoods call))) (firstFound (settingsFindings (transformsBad (call .hard .transforms)) (tablesBad (call .hard .board)) (softSettingsBad call))))
     ≡ softAdmission call m n k
 unfolding softAdmission
 soft-parts call m n k =
@@ -54,13 +54,13 @@ soft-parts call m n k =
     let t = sorted-settings (transformsBad (call .hard .transforms)) (tablesBad (call .hard .board)) (softSettingsBad call) in
     let l = sorted-likelihoods (size (call .hard .physical)) (call .likelihoods .matches) (call .likelihoods .mismatches) in
     let b = sorted-joined (bothLists (call .hard)) (softLikelihoods call) (sorted-both (call .hard)) l in
-    with-room (softRoomShort m n k) (joined (joined (bothLists (call .hard)) (softLikelihoods call)) s) _ (sorted-joined (joined (bothLists (call .hard)) (softLikelihoods call)) s b t)
+    with-room (softRoomShort (length (call .hard .board .h)) m n k) (joined (joined (bothLists (call .hard)) (softLikelihoods call)) s) _ (sorted-joined (joined (bothLists (call .hard)) (softLikelihoods call)) s b t)
     (ap (λ (x : Admission). earlier x (firstFound s)) (ap (λ (x : Admission). earlier x (firstFound (softLikelihoods call))) (two-lists (call .hard)) ∙ first-joined (bothLists (call .hard)) (softLikelihoods call) (sorted-both (call .hard)) l)
     ∙ first-joined (joined (bothLists (call .hard)) (softLikelihoods call)) s b t)
 
-pub stats-parts : (E : EdgeList) (t row col : ℕ) (B : Board) → earlier (firstFound (listFindings 0 list.Only E)) (firstFound (settingsFindings (ltb 7 t) (tablesBad B) (originBad row col))) ≡ statsAdmission E t row col B
+pub stats-parts : (E : EdgeList) (t row col : ℕ) (B : Board) → earlier (firstFound (listFindings 0 list.Only E)) (firstFound (settingsFindings (ltb 7 t) (tablesBad B) (originBad (length (B .h)) row col))) ≡ statsAdmission E t row col B
 unfolding statsAdmission
-stats-parts E t row col B = first-joined (listFindings 0 list.Only E) (settingsFindings (ltb 7 t) (tablesBad B) (originBad row col)) (sorted-list 0 list.Only E) (sorted-settings (ltb 7 t) (tablesBad B) (originBad row col))
+stats-parts E t row col B = first-joined (listFindings 0 list.Only E) (settingsFindings (ltb 7 t) (tablesBad B) (originBad (length (B .h)) row col)) (sorted-list 0 list.Only E) (sorted-settings (ltb 7 t) (tablesBad B) (originBad (length (B .h)) row col))
 
 -- ---- refused early means by one of 1 to 9, 16 and 17
 pub hard-early : (call : HardCall) (m n : ℕ) (r : Refusal) → hardAdmission call m n ≡ Refused r → why.Early (r .number)
@@ -68,7 +68,7 @@ unfolding hardAdmission
 hard-early call m n r =
     let s = settingsFindings (transformsBad (call .transforms)) (tablesBad (call .board)) (not (inRange oneF (call .error-limit))) in
     let k = sorted-settings (transformsBad (call .transforms)) (tablesBad (call .board)) (not (inRange oneF (call .error-limit))) in
-    found-early (joined (roomFindings (roomShort m n)) (joined (bothLists call) s)) r (sorted-joined (roomFindings (roomShort m n)) (joined (bothLists call) s) (sorted-room (roomShort m n)) (sorted-joined (bothLists call) s (sorted-both call) k))
+    found-early (joined (roomFindings (roomShort (length (call .board .h)) m n)) (joined (bothLists call) s)) r (sorted-joined (roomFindings (roomShort (length (call .board .h)) m n)) (joined (bothLists call) s) (sorted-room (roomShort (length (call .board .h)) m n)) (sorted-joined (bothLists call) s (sorted-both call) k))
 
 pub soft-early : (call : SoftCall) (m n k : ℕ) (r : Refusal) → softAdmission call m n k ≡ Refused r → why.Early (r .number)
 unfolding softAdmission
@@ -77,10 +77,10 @@ soft-early call m n k r =
     let t = sorted-settings (transformsBad (call .hard .transforms)) (tablesBad (call .hard .board)) (softSettingsBad call) in
     let l = joined (bothLists (call .hard)) (softLikelihoods call) in
     let b = sorted-joined (bothLists (call .hard)) (softLikelihoods call) (sorted-both (call .hard)) (sorted-likelihoods (size (call .hard .physical)) (call .likelihoods .matches) (call .likelihoods .mismatches)) in
-    found-early (joined (roomFindings (softRoomShort m n k)) (joined l s)) r (sorted-joined (roomFindings (softRoomShort m n k)) (joined l s) (sorted-room (softRoomShort m n k)) (sorted-joined l s b t))
+    found-early (joined (roomFindings (softRoomShort (length (call .hard .board .h)) m n k)) (joined l s)) r (sorted-joined (roomFindings (softRoomShort (length (call .hard .board .h)) m n k)) (joined l s) (sorted-room (softRoomShort (length (call .hard .board .h)) m n k)) (sorted-joined l s b t))
 
 pub stats-early : (E : EdgeList) (t row col : ℕ) (B : Board) (r : Refusal) → statsAdmission E t row col B ≡ Refused r → why.Early (r .number)
 unfolding statsAdmission
 stats-early E t row col B r =
-    let s = settingsFindings (ltb 7 t) (tablesBad B) (originBad row col) in
-    found-early (joined (listFindings 0 list.Only E) s) r (sorted-joined (listFindings 0 list.Only E) s (sorted-list 0 list.Only E) (sorted-settings (ltb 7 t) (tablesBad B) (originBad row col)))
+    let s = settingsFindings (ltb 7 t) (tablesBad B) (originBad (length (B .h)) row col) in
+    found-early (joined (listFindings 0 list.Only E) s) r (sorted-joined (listFindings 0 list.Only E) s (sorted-list 0 list.Only E) (sorted-settings (ltb 7 t) (tablesBad B) (originBad (length (B .h)) row col)))

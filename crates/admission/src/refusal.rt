@@ -1,8 +1,9 @@
 // Whether a hard call is taken on: the early refusals 1 to 9, 16 and 17, the first in their order over both lists, or accepted.
 ghost use mathlib.Core.Path.{_≡_};
+ghost use Prim.Native.Nat.{_≤_};
 ghost use Rattle.board.specs.Hits.{edges, tables};
 ghost use Rattle.admission.specs.Calls.{hardCall};
-ghost use Rattle.admission.specs.Refusals.{roomShort, tablesBad, hardAdmission};
+ghost use Rattle.admission.specs.Refusals.{askedLength, roomShort, tablesBad, hardAdmission};
 use findings::list_admission;
 use findings::refused_if;
 use findings::settings_admission;
@@ -10,18 +11,29 @@ use refusals::Admission;
 use refusals::ListName;
 use refusals::first_of;
 
-// Whether the room of a hard call is too short: 3,006 u32 and 3,006 f32 are needed.
-pub fn room_short(counts: usize, weights: usize) -> bool
-    ensures { λ r. ⌜ r ≡ roomShort counts weights ⌝ }
+// The smallest length of a pole's horizontal table.
+const SMALLEST: usize = 4;
+
+// The length by which room is asked for: that of the horizontal table, or the smallest where the table may not have its own.
+pub fn asked_length(l: usize) -> usize
+    ensures { λ r. ⌜ (r ≡ askedLength l) × (r ≤ 500) ⌝ }
 {
-    counts < room::FLAT_TABLES || weights < room::FLAT_TABLES
+    if ranges::pole_length(l) { l } else { SMALLEST }
+}
+
+// Whether the room of a hard call with l horizontal patterns is too short.
+pub fn room_short(l: usize, counts: usize, weights: usize) -> bool
+    ensures { λ r. ⌜ r ≡ roomShort l counts weights ⌝ }
+{
+    let least = room::tables_for(asked_length(l));
+    counts < least || weights < least
 }
 
 // Whether one of the two pattern tables is wrong.
 pub fn tables_bad(h: &[u8], v: &[u8]) -> bool
     ensures { λ r. ⌜ r ≡ tablesBad (tables (now (h .entry)) (now (v .entry))) ⌝ }
 {
-    ranges::table_bad(h) || ranges::table_bad(v)
+    ranges::horizontal_bad(h) || ranges::vertical_bad(v)
 }
 
 // The early refusals of a hard call: the first over both lists, or accepted. The last two are the lengths of the lent room.
@@ -49,7 +61,10 @@ pub fn hard_admission(
         (edges (now (prows .entry)) (now (pcols .entry)) (now (porientations .entry)) (now (pbits .entry)) (now (pconfidences .entry)))
         (now (transforms .entry)) (tables (now (h .entry)) (now (v .entry))) «error_limit») counts weights ⌝ }
 {
-    let room = refused_if(room_short(counts, weights), refusals::ROOM_TOO_SHORT);
+    let room = refused_if(
+        room_short(h.len(), counts, weights),
+        refusals::ROOM_TOO_SHORT,
+    );
     let logical = list_admission(
         1,
         ListName::Logical,

@@ -1,7 +1,7 @@
 -- Document 01, 'Numbers that bound the domain': what of a list is out of range, and where it first is.
 use mathlib.Core.Bool.{Bool, not, _||_, _&&_}
 use mathlib.Core.List.{List}
-use Prim.Native.Nat.{ℕ}
+use Prim.Native.Nat.{ℕ, _*_}
 use lib.Dec.{ltb, eqb}
 use lib.ListN.{getD, length}
 use lib.IntN.{ℤ, pos, negsuc}
@@ -53,6 +53,6 @@ sizeBad least n = ltb n least || ltb 8192 n
 unfoldable pub likelihoodsDiffer : ℕ → List Float → List Float → Bool
 likelihoodsDiffer n ms us = not (eqb n (length ms) && eqb n (length us))
 
--- "An origin given to match statistics: 0 to 500 each way"
-unfoldable pub originBad : ℕ → ℕ → Bool
-originBad row col = ltb 500 row || ltb 500 col
+-- "An origin given to match statistics: 0 to 500 each way", and C-13's "one row below 3L, the bound for a given origin's row too; columns stay 501"
+unfoldable pub originBad : ℕ → ℕ → ℕ → Bool
+originBad L row col = not (ltb row (3 * L)) || ltb 500 col

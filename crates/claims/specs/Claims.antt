@@ -17,7 +17,7 @@ use Rattle.refusals.specs.declared.Refusal.{Refusal}
 use Rattle.refusals.specs.declared.Place.the-variants.{Nowhere}
 use Rattle.refusals.specs.declared.Admission.{Admission}
 use Rattle.refusals.specs.declared.Admission.the-variants as admission
-use Rattle.room.specs.Room.{tablesRoom, sumsRoom, flat-room}
+use Rattle.room.specs.Room.{tablesRoom, sumsRoom, tablesFor, sumsFor, pole-rooms}
 use Rattle.admission.specs.Calls.{HardCall, SoftCall, HardRoom, SoftRoom}
 use Rattle.admission.specs.Refusals.{hardAdmission, softAdmission, statsAdmission, hardChecked, softChecked}
 use Rattle.admission.specs.RefusalLaws as refusals
@@ -140,14 +140,15 @@ module _ (call : HardCall) (before after : HardRoom) (answer : Answer) (done : H
   unfolding hardAnswer
   core domain = done .answer ∙ ap (λ (y : Admission). whenAccepted y (hardCore call)) (hard-accepts .1 domain)
 
-  -- every call in the domain: the first 3,006 places are zero, the surplus as it was
-  pub hard-room-zero : InHardDomain call before → Emptied 0 0 3006 (before .counts) (after .counts) × Emptied nan zeroF 3006 (before .weights) (after .weights)
+  -- every call in the domain: the first 9L + 1,503 places are zero, the surplus as it was
+  pub hard-room-zero : InHardDomain call before
+      → Emptied 0 0 (tablesFor (length (call .board .h))) (before .counts) (after .counts) × Emptied nan zeroF (tablesFor (length (call .board .h))) (before .weights) (after .weights)
   hard-room-zero domain =
       let h = hard-accepts .1 domain in
       let A = taken domain in
-      let u = flat-room (call .board) (A .periods) .0 in (
-        left-zero 0 0 (tablesRoom (call .board)) 3006 (hardChecked call before) (before .counts) (after .counts) u h (A .room .0) (done .counts),
-        left-zero nan zeroF (tablesRoom (call .board)) 3006 (hardChecked call before) (before .weights) (after .weights) u h (A .room .1) (done .weights),
+      let u = pole-rooms (call .board) (A .vertical) .0 in (
+        left-zero 0 0 (tablesRoom (call .board)) (tablesFor (length (call .board .h))) (hardChecked call before) (before .counts) (after .counts) u h (A .room .0) (done .counts),
+        left-zero nan zeroF (tablesRoom (call .board)) (tablesFor (length (call .board .h))) (hardChecked call before) (before .weights) (after .weights) u h (A .room .1) (done .weights),
       )
 
   -- refused late means 10 to 13
@@ -163,7 +164,7 @@ module _ (call : HardCall) (before after : HardRoom) (answer : Answer) (done : H
   unfolding hardAnswer
   told d e = let f = found-only (hardChecked call before) (hardCore call) d (sym e ∙ done .answer) in (hard-accepts .0 (f .0), f .1)
 
-  pub hard-answer-in-range : (found : Decoded) → answer ≡ Found found → AnswerInRange found
+  pub hard-answer-in-range : (found : Decoded) → answer ≡ Found found → AnswerInRange (length (call .board .h)) found
   hard-answer-in-range d e = let f = told d e in hard-in-range call (length (before .counts)) (length (before .weights)) (taken (f .0)) d (f .1)
 
   pub hard-no-influence : (before' after' : HardRoom) (answer' : Answer) → HardGave call before' after' answer' → length (before' .counts) ≡ length (before .counts) → length (before' .weights) ≡ length (before .weights) → answer' ≡ answer
@@ -251,16 +252,17 @@ module _ (call : SoftCall) (before after : SoftRoom) (answer : SoftAnswer) (done
   unfolding softAnswer
   soft-core domain = done .answer ∙ ap (λ (y : Admission). softWhenAccepted y (softCore call)) (soft-accepts .1 domain)
 
-  -- every call in the domain: the first 3,006, 3,006 and 5,010 places are zero, the surplus as it was
+  -- every call in the domain: the first 9L + 1,503, as many and 15L + 2,505 places are zero, the surplus as it was
   pub soft-room-zero : InSoftDomain call before
-      → Emptied 0 0 3006 (before .counts) (after .counts) × Emptied nan zeroF 3006 (before .weights) (after .weights) × Emptied (pos 0) (pos 0) 5010 (before .sums) (after .sums)
+      → Emptied 0 0 (tablesFor (length (call .hard .board .h))) (before .counts) (after .counts) × Emptied nan zeroF (tablesFor (length (call .hard .board .h))) (before .weights) (after .weights)
+      × Emptied (pos 0) (pos 0) (sumsFor (length (call .hard .board .h))) (before .sums) (after .sums)
   soft-room-zero domain =
       let h = soft-accepts .1 domain in
       let A = admitted domain in
-      let u = flat-room (call .hard .board) (A .hard .periods) in (
-        left-zero 0 0 (tablesRoom (call .hard .board)) 3006 (softChecked call before) (before .counts) (after .counts) (u .0) h (A .hard .room .0) (done .counts),
-        left-zero nan zeroF (tablesRoom (call .hard .board)) 3006 (softChecked call before) (before .weights) (after .weights) (u .0) h (A .hard .room .1) (done .weights),
-        left-zero (pos 0) (pos 0) (sumsRoom (call .hard .board)) 5010 (softChecked call before) (before .sums) (after .sums) (u .1) h (A .room) (done .sums),
+      let u = pole-rooms (call .hard .board) (A .hard .vertical) in (
+        left-zero 0 0 (tablesRoom (call .hard .board)) (tablesFor (length (call .hard .board .h))) (softChecked call before) (before .counts) (after .counts) (u .0) h (A .hard .room .0) (done .counts),
+        left-zero nan zeroF (tablesRoom (call .hard .board)) (tablesFor (length (call .hard .board .h))) (softChecked call before) (before .weights) (after .weights) (u .0) h (A .hard .room .1) (done .weights),
+        left-zero (pos 0) (pos 0) (sumsRoom (call .hard .board)) (sumsFor (length (call .hard .board .h))) (softChecked call before) (before .sums) (after .sums) (u .1) h (A .room) (done .sums),
       )
 
   -- refused late means 10, 11, 13, 14 or 15
@@ -276,7 +278,7 @@ module _ (call : SoftCall) (before after : SoftRoom) (answer : SoftAnswer) (done
   unfolding softAnswer
   soft-told d e = let f = soft-found-only (softChecked call before) (softCore call) d (sym e ∙ done .answer) in (soft-accepts .0 (f .0), f .1)
 
-  pub soft-answer-in-range : (found : SoftDecoded) → answer ≡ soft.Found found → SoftAnswerInRange found
+  pub soft-answer-in-range : (found : SoftDecoded) → answer ≡ soft.Found found → SoftAnswerInRange (length (call .hard .board .h)) found
   soft-answer-in-range d e = let f = soft-told d e in soft-in-range call (length (before .counts)) (length (before .weights)) (length (before .sums)) (admitted (f .0)) d (f .1)
 
   pub soft-no-influence : (before' after' : SoftRoom) (answer' : SoftAnswer) → SoftGave call before' after' answer'

@@ -31,6 +31,7 @@ use Rattle.refusals.specs.declared.ListName.{ListName}
 use Rattle.refusals.specs.declared.Admission.{Admission}
 use Rattle.refusals.specs.declared.Admission.the-variants as admission
 use Rattle.findings.specs.Places.{PlaceRight}
+use Rattle.room.specs.Room.{tablesFor, sumsFor}
 use Rattle.admission.specs.Calls.{HardCall, SoftCall, HardRoom, SoftRoom}
 use Rattle.admission.specs.Refusals.{statsAdmission, hardChecked, softChecked}
 use Rattle.admission.specs.Conditions.{Condition, AllMet, FirstFails}
@@ -93,33 +94,42 @@ pub record WinsByHits (B : Board) (E : EdgeList) (ts : List ℕ) (limit : Float)
   pub most-wins : noConfidence E ≡ false → (P : Placing) → WithinLimit B E ts limit P
       → ((Q : Placing) → OnBoard B ts Q → (Same Q P → ⊥) → hitsAt B E ts Q < hitsAt B E ts P) → Wins B E ts limit P
 
--- HARD DECODE: `answer` is what the call gave, with the room before and after it
-pub record HardPromise (call : HardCall) (before after : HardRoom) (answer : Answer) : Type 0 where
-  pub demands : Demands Refused Found (hardEarly call before) (hardLate call) (after ≡ before)
-      (Emptied 0 0 3006 (before .counts) (after .counts) × Emptied nan zeroF 3006 (before .weights) (after .weights)) (HardAnswered call) answer
+-- HARD DECODE: `answer` is what the call gave, with the room before and after it, under these early conditions and with so much of each slice used
+pub record HardPromised (early : List Condition) (used : ℕ) (call : HardCall) (before after : HardRoom) (answer : Answer) : Type 0 where
+  pub demands : Demands Refused Found early (hardLate call) (after ≡ before)
+      (Emptied 0 0 used (before .counts) (after .counts) × Emptied nan zeroF used (before .weights) (after .weights)) (HardAnswered call) answer
   -- "answers exactly when": a placing that leads and agrees is found, and it is the one that the answer names
-  pub finds-square : AllMet (hardEarly call before) → noConfidence (call .logical) ≡ false → (P : Placing)
+  pub finds-square : AllMet early → noConfidence (call .logical) ≡ false → (P : Placing)
       → Leads (call .board) (call .logical) (call .transforms) (call .error-limit) P → AgreesPhysical (call .board) (call .physical) (call .transforms) P
       → (found : Decoded) × (answer ≡ Found found) × Names (call .transforms) P (found .square)
   -- what it is to win on the logical list, and to agree with the winner of the physical one, where no placing is over the limit
-  pub logical-winner : AllMet (hardEarly call before) → WinsByHits (call .board) (call .logical) (call .transforms) (call .error-limit)
-  pub physical-winner : AllMet (hardEarly call before) → WinsByHits (call .board) (call .physical) (call .transforms) oneF
+  pub logical-winner : AllMet early → WinsByHits (call .board) (call .logical) (call .transforms) (call .error-limit)
+  pub physical-winner : AllMet early → WinsByHits (call .board) (call .physical) (call .transforms) oneF
+
+abbrev pub HardPromise : HardCall → HardRoom → HardRoom → Answer → Type 0
+HardPromise call before after = HardPromised (hardEarly call before) (tablesFor (length (call .board .h))) call before after
 
 -- SOFT DECODE
-pub record SoftPromise (call : SoftCall) (before after : SoftRoom) (answer : SoftAnswer) : Type 0 where
-  pub demands : Demands soft.Refused soft.Found (softEarly call before) (softLate call) (after ≡ before)
-      (Emptied 0 0 3006 (before .counts) (after .counts) × Emptied nan zeroF 3006 (before .weights) (after .weights) × Emptied (pos 0) (pos 0) 5010 (before .sums) (after .sums))
+pub record SoftPromised (early : List Condition) (used used-sums : ℕ) (call : SoftCall) (before after : SoftRoom) (answer : SoftAnswer) : Type 0 where
+  pub demands : Demands soft.Refused soft.Found early (softLate call) (after ≡ before)
+      (Emptied 0 0 used (before .counts) (after .counts) × Emptied nan zeroF used (before .weights) (after .weights) × Emptied (pos 0) (pos 0) used-sums (before .sums) (after .sums))
       (SoftAnswered call) answer
   -- "answers exactly when": its own best placing, where it clears the margin and leads, is found, and it is the one that the answer names
-  pub finds-square : AllMet (softEarly call before) → noConfidence (call .hard .physical) ≡ false → noConfidence (call .hard .logical) ≡ false → (P Q : Placing)
+  pub finds-square : AllMet early → noConfidence (call .hard .physical) ≡ false → noConfidence (call .hard .logical) ≡ false → (P Q : Placing)
       → Clears call P Q → Leads (call .hard .board) (call .hard .logical) (call .hard .transforms) (call .hard .error-limit) P
       → (found : SoftDecoded) × (answer ≡ soft.Found found) × Names (call .hard .transforms) P (found .square)
-  pub logical-winner : AllMet (softEarly call before) → WinsByHits (call .hard .board) (call .hard .logical) (call .hard .transforms) (call .hard .error-limit)
+  pub logical-winner : AllMet early → WinsByHits (call .hard .board) (call .hard .logical) (call .hard .transforms) (call .hard .error-limit)
+
+abbrev pub SoftPromise : SoftCall → SoftRoom → SoftRoom → SoftAnswer → Type 0
+SoftPromise call before after = SoftPromised (softEarly call before) (tablesFor (length (call .hard .board .h))) (sumsFor (length (call .hard .board .h))) call before after
 
 -- MATCH STATISTICS, of a list at one square: no room, no late conditions, and the hits are counted edge by edge
-pub record StatsPromise (list : EdgeList) (transform row col : ℕ) (board : Board) (answer : StatsAnswer) : Type 0 where
-  pub demands : Demands stats.Refused stats.Counted (statsEarly list transform row col board) [] (Unit {0}) (Unit {0})
+pub record StatsPromised (early : List Condition) (list : EdgeList) (transform row col : ℕ) (board : Board) (answer : StatsAnswer) : Type 0 where
+  pub demands : Demands stats.Refused stats.Counted early [] (Unit {0}) (Unit {0})
       (λ counted. (counted .hits ≡ hits board list transform row col) × (counted .edges ≡ size list)) answer
+
+abbrev pub StatsPromise : EdgeList → (transform row col : ℕ) → Board → StatsAnswer → Type 0
+StatsPromise list transform row col board = StatsPromised (statsEarly list transform row col board) list transform row col board
 
 -- ==== PARTICULARS
 
@@ -164,7 +174,7 @@ pub record HardParticulars (call : HardCall) (before after : HardRoom) (answer :
   -- each of them exactly when
   pub refused-exactly : InHardDomain call before → HardLate call answer
   -- a found answer is in range: its whole numbers, and no float is a NaN or an infinity
-  pub answer-in-range : (found : Decoded) → answer ≡ Found found → AnswerInRange found
+  pub answer-in-range : (found : Decoded) → answer ≡ Found found → AnswerInRange (length (call .board .h)) found
   -- "What the room held before has no influence": the same call with room as long gives the same answer
   pub no-influence : (before' after' : HardRoom) (answer' : Answer) → HardGave call before' after' answer' → length (before' .counts) ≡ length (before .counts) → length (before' .weights) ≡ length (before .weights)
       → answer' ≡ answer
@@ -193,7 +203,7 @@ pub record SoftParticulars (call : SoftCall) (before after : SoftRoom) (answer :
   pub refused-late : InSoftDomain call before → (refusal : Refusal) → answer ≡ soft.Refused refusal
       → ((10 ≤ refusal .number) × (refusal .number ≤ 15) × (refusal .number ≡ 12 → ⊥)) × (refusal .place ≡ Nowhere)
   pub refused-exactly : InSoftDomain call before → SoftLate call answer
-  pub answer-in-range : (found : SoftDecoded) → answer ≡ soft.Found found → SoftAnswerInRange found
+  pub answer-in-range : (found : SoftDecoded) → answer ≡ soft.Found found → SoftAnswerInRange (length (call .hard .board .h)) found
   pub no-influence : (before' after' : SoftRoom) (answer' : SoftAnswer) → SoftGave call before' after' answer'
       → length (before' .counts) ≡ length (before .counts) → length (before' .weights) ≡ length (before .weights) → length (before' .sums) ≡ length (before .sums) → answer' ≡ answer
   -- C-12: the margin is (best - second) / edges of exactly the two totals that the answer holds

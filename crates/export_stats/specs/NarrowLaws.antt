@@ -3,6 +3,7 @@ use mathlib.Core.Path.{_≡_, refl, sym, ap, _∙_}
 use mathlib.Core.Bool.{Bool, true, false, cond}
 use Prim.Native.Nat.{ℕ}
 use lib.Dec.{ltb}
+use lib.ListN.{length}
 use Rattle.laws.specs.Tests.{clash}
 use Rattle.board.specs.Hits.{EdgeList, Board}
 use Rattle.checks.specs.Checks.{originBad}
@@ -20,7 +21,7 @@ use Rattle.flat.specs.Flat.{narrow}
 -- the checks ask only whether it is above 7
 same-admission : (E : EdgeList) (t s row col : ℕ) (B : Board) → ltb 7 t ≡ ltb 7 s → statsAdmission E t row col B ≡ statsAdmission E s row col B
 unfolding statsAdmission
-same-admission E t s row col B e = ap (λ (b : Bool). firstFound (joined (listFindings 0 list.Only E) (settingsFindings b (tablesBad B) (originBad row col)))) e
+same-admission E t s row col B e = ap (λ (b : Bool). firstFound (joined (listFindings 0 list.Only E) (settingsFindings b (tablesBad B) (originBad (length (B .h)) row col)))) e
 
 -- a transform number above 7 is refused whatever it is, so statistics of the narrowed number are those of the number
 same-refusal : (a : Admission) (s u : MatchStats) → (a ≡ Accepted → ⊥) → orCounted a s ≡ orCounted a u

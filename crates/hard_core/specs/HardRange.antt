@@ -2,7 +2,7 @@
 use mathlib.Core.Path.{_≡_, refl, subst}
 use Prim.Native.Nat.{ℕ, _-_, _*_, _≤_}
 use native.Mathlib.Omega.{arith}
-use lib.ListN.{getD}
+use lib.ListN.{length, getD}
 use Rattle.laws.specs.Words.{oneF}
 use Rattle.laws.specs.WithinLaws.{within-finite}
 use Rattle.board.specs.Hits.{size}
@@ -22,7 +22,7 @@ use Rattle.hard.specs.SelectTheorems.{selected-in-range}
 use Rattle.hard.specs.WeighedLaws.{winner-within}
 use Rattle.verdict.specs.Verdict.{decodedOf}
 use Rattle.verdict.specs.VerdictTheorems.{never-both, judged-is}
-use Rattle.demand.specs.FoundRange.{FloatsFinite, AnswerInRange, on-flat-board}
+use Rattle.demand.specs.FoundRange.{FloatsFinite, AnswerInRange, square-in-range}
 use Rattle.hard_core.specs.Hard.{afterPhysical, afterLogical, hardCore}
 use Rattle.hard_core.specs.HardTheorems.{hard-sound}
 
@@ -64,7 +64,7 @@ module _ (call : HardCall) (m n : ℕ) (A : HardAccepted call m n) (d : Decoded)
   unfolding hardCore
   hard-floats h = by-logical (selection (call .board) (call .logical) (call .transforms) (call .error-limit)) refl h
 
-pub hard-in-range : (call : HardCall) (m n : ℕ) (A : HardAccepted call m n) (d : Decoded) → hardCore call ≡ Found d → AnswerInRange d
+pub hard-in-range : (call : HardCall) (m n : ℕ) (A : HardAccepted call m n) (d : Decoded) → hardCore call ≡ Found d → AnswerInRange (length (call .board .h)) d
 hard-in-range call m n A d e =
     let a = hard-sound call m n A d e in
     let P = a .square in
@@ -72,10 +72,10 @@ hard-in-range call m n A d e =
     let f = hard-floats call m n A d e in
     record {
       wholes = record {
-        on-board = on-flat-board (call .board) (call .transforms) P (d .square) (A .transforms) (A .periods) (a .leads .on-board) (a .tells .square);
+        on-board = square-in-range (call .board) (call .transforms) P (d .square) (A .transforms) (A .vertical) (a .leads .on-board) (a .tells .square);
         some-hits = omega (arith, a .tells .hits, a .tells .edges, hits-le (call .board) (call .logical) (getD (call .transforms) (P .listed) 0) (P .row) (P .col));
         few = omega (arith, a .tells .edges, A .logical .few);
-        runner-up-on = on-flat-board (call .board) (call .transforms) Q (d .«runner_up») (A .transforms) (A .periods) (a .runs-up .on-board) (a .tells .runner-up);
+        runner-up-on = square-in-range (call .board) (call .transforms) Q (d .«runner_up») (A .transforms) (A .vertical) (a .runs-up .on-board) (a .tells .runner-up);
         runner-up-few = omega (arith, a .tells .runner-up-hits, A .logical .few, hits-le (call .board) (call .logical) (getD (call .transforms) (Q .listed) 0) (Q .row) (Q .col));
       };
       margin = f .1;

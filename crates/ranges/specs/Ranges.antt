@@ -1,7 +1,7 @@
 -- Document 01, 'Numbers that bound the domain': what of bytes, confidences, tables and settings is out of range, and where in a list it first is.
 use mathlib.Core.Bool.{Bool, false, not, _||_, _&&_}
 use mathlib.Core.List.{List}
-use Prim.Native.Nat.{ℕ}
+use Prim.Native.Nat.{ℕ, _%_}
 use lib.Dec.{ltb, eqb}
 use lib.ListN.{getD, length}
 use lib.IntN.{pos}
@@ -32,9 +32,20 @@ firstBadConfidence xs = first (badConfidence xs) (length xs)
 unfoldable pub transformsBad : List ℕ → Bool
 transformsBad ts = eqb (length ts) 0 || (ltb 8 (length ts) || ltb (firstBadByte 7 ts) (length ts))
 
--- "pattern table length or byte wrong": 167 bytes, each 0 to 7
-unfoldable pub tableBad : List ℕ → Bool
-tableBad ps = not (eqb (length ps) 167) || ltb (firstBadByte 7 ps) (length ps)
+-- C-13: "L is from 4 to 500 and not a multiple of 3": how many patterns a horizontal table may have
+unfoldable pub poleLength : ℕ → Bool
+poleLength L = not (ltb L 4 || ltb 500 L) && not (eqb (L % 3) 0)
+
+-- "pattern table length or byte wrong": it may not have its length, or a byte is not "0 to 7"
+unfoldable pub patternsBad : Bool → List ℕ → Bool
+patternsBad may-be ps = not may-be || ltb (firstBadByte 7 ps) (length ps)
+
+-- "Their horizontal pattern table has its own length L .. the vertical one stays at 167"
+unfoldable pub horizontalBad : List ℕ → Bool
+horizontalBad ps = patternsBad (poleLength (length ps)) ps
+
+unfoldable pub verticalBad : List ℕ → Bool
+verticalBad ps = patternsBad (eqb (length ps) 167) ps
 
 -- the largest soft margin, 65,536
 abbrev pub marginTop : Float

@@ -1,14 +1,19 @@
 // Where a byte, a confidence, the transforms, a pattern table or a setting leaves its range. Each check takes every input; one of a column answers where: the first bad index, or the length.
 ghost use mathlib.Core.Path.{_≡_};
-ghost use Rattle.ranges.specs.Ranges.{inRange, firstBadByte, firstBadConfidence, transformsBad, tableBad};
+ghost use Rattle.ranges.specs.Ranges.{inRange, firstBadByte, firstBadConfidence, transformsBad, poleLength, patternsBad, horizontalBad, verticalBad};
 
 // How many transforms a call may list, and the last transform and pattern by number.
 const MAX_TRANSFORMS: usize = 8;
 
 const LAST: u8 = 7;
 
-// How many patterns each table of the flat board has.
-const FLAT_PERIOD: usize = 167;
+// How many patterns a vertical table has, and the horizontal one of the flat board.
+const FLAT_LENGTH: usize = 167;
+
+// The least and the greatest length of a pole's horizontal table.
+const LEAST_LENGTH: usize = 4;
+
+const GREATEST_LENGTH: usize = 500;
 
 // The first byte above top, or the length: orientations and bits (top 1), transform numbers and patterns (top 7).
 pub fn first_bad_byte(xs: &[u8], top: u8) -> usize
@@ -59,12 +64,39 @@ pub fn transforms_bad(transforms: &[u8]) -> bool
     first_bad_byte(transforms, LAST) < n
 }
 
-// Whether a pattern table has not 167 entries, or one above 7.
-pub fn table_bad(patterns: &[u8]) -> bool
-    ensures { λ r. ⌜ r ≡ tableBad (now (patterns .entry)) ⌝ }
+// Whether a horizontal pattern table may have n entries: 4 to 500 of them and no multiple of 3. The flat board's has 167.
+pub fn pole_length(n: usize) -> bool
+    ensures { λ r. ⌜ r ≡ poleLength n ⌝ }
 {
-    if patterns.len() == FLAT_PERIOD {
-        return first_bad_byte(patterns, LAST) < FLAT_PERIOD;
+    if n < LEAST_LENGTH {
+        return false;
+    }
+    if GREATEST_LENGTH < n {
+        return false;
+    }
+    n % 3 != 0
+}
+
+// Whether a pattern table has a length that it may not have, or an entry above 7.
+fn patterns_bad(may_be: bool, patterns: &[u8]) -> bool
+    ensures { λ r. ⌜ r ≡ patternsBad «may_be» (now (patterns .entry)) ⌝ }
+{
+    if may_be {
+        return first_bad_byte(patterns, LAST) < patterns.len();
     }
     true
+}
+
+// Whether a horizontal pattern table has no pole's length, or an entry above 7.
+pub fn horizontal_bad(patterns: &[u8]) -> bool
+    ensures { λ r. ⌜ r ≡ horizontalBad (now (patterns .entry)) ⌝ }
+{
+    patterns_bad(pole_length(patterns.len()), patterns)
+}
+
+// Whether a vertical pattern table has not 167 entries, or one above 7.
+pub fn vertical_bad(patterns: &[u8]) -> bool
+    ensures { λ r. ⌜ r ≡ verticalBad (now (patterns .entry)) ⌝ }
+{
+    patterns_bad(patterns.len() == FLAT_LENGTH, patterns)
 }

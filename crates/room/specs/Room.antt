@@ -1,8 +1,9 @@
 -- Document 01, 'Numbers that bound the domain' (room): where cells and groups stand in lent room, and how much of it is used. P gives the period of each side.
-use mathlib.Core.Path.{_≡_, refl, ap₂}
+use mathlib.Core.Path.{_≡_, refl}
 use mathlib.Core.Bool.{Bool, true, false, cond}
 use mathlib.Core.List.{List}
 use Prim.Native.Nat.{ℕ, _+_, _*_, _≤_, _<_}
+use native.Mathlib.Omega.{arith}
 use lib.Dec.{eqb}
 use lib.ListN.{length, getD}
 use Rattle.laws.specs.declared.Periods.{Periods}
@@ -82,19 +83,17 @@ tablesRoom B = used (periodOf B) 1
 abbrev pub sumsRoom : Board → ℕ
 sumsRoom B = used (periodOf B) 2
 
--- "Room: 3,006 u32 and 3,006 f32; soft also 5,010 i64": what a call must lend
-abbrev pub flatTables : ℕ
-flatTables = 3006
+-- C-13: "Room becomes 9L+1,503 u32 and f32, and 15L+2,505 i64": what a call must lend where the horizontal table has L patterns
+abbrev pub tablesFor : ℕ → ℕ
+tablesFor L = 9 * L + 1503
 
-abbrev pub flatSums : ℕ
-flatSums = 5010
+abbrev pub sumsFor : ℕ → ℕ
+sumsFor L = 15 * L + 2505
 
--- it is what two periods of 167 use
-pub rooms : (used (λ s. 167) 1 ≡ flatTables) × (used (λ s. 167) 2 ≡ flatSums)
-rooms = (refl, refl)
+-- "Room: 3,006 u32 and 3,006 f32; soft also 5,010 i64", of the flat board
+pub flat-rooms : (tablesFor 167 ≡ 3006) × (sumsFor 167 ≡ 5010)
+flat-rooms = (refl, refl)
 
-pub flat-room : (B : Board) → (length (B .h) ≡ 167) × (length (B .v) ≡ 167) → (tablesRoom B ≡ flatTables) × (sumsRoom B ≡ flatSums)
-flat-room B p = (used-flat 1, used-flat 2)
-  where
-    used-flat : (m : ℕ) → used (periodOf B) m ≡ 1002 + m * 2004
-    used-flat m = ap₂ (λ (x y : ℕ). 3 * x + 3 * y + m * ((x + y) * 6)) (p .0) (p .1)
+-- it is what the tables and the sums of such a board use
+pub pole-rooms : (B : Board) → length (B .v) ≡ 167 → (tablesRoom B ≡ tablesFor (length (B .h))) × (sumsRoom B ≡ sumsFor (length (B .h)))
+pole-rooms B p = (omega (arith, p), omega (arith, p))

@@ -13,8 +13,14 @@ use Rattle.laws.specs.Cleared.{cleared-written}
 use Rattle.laws.specs.Tests.{compared}
 use Rattle.laws.specs.Written.{Written}
 use Rattle.laws.specs.Zone.{Zone}
+use Rattle.board.specs.Hits.{Board}
+use Rattle.board.specs.Domain.{BoardOk}
 use Rattle.board.specs.Sides.{is}
-use Rattle.room.specs.Room.{rowLength, cellsAt, cellsEnd, groupsAt, used, sideOf, Stands, Laid}
+use Rattle.room.specs.Room.{PeriodsOk, rowLength, cellsAt, cellsEnd, groupsAt, used, sideOf, Stands, Laid}
+
+-- ---- the periods of an accepted board
+pub board-periods : (B : Board) → BoardOk B → PeriodsOk (record { h = length (B .h); v = length (B .v) })
+board-periods B ok = record { some = (omega (arith, ok .h .some), omega (arith, ok .v .some)); few = (ok .h .few, ok .v .few) }
 
 -- ---- the parts do not overlap
 module _ (P : Bool → ℕ) where

@@ -1,13 +1,9 @@
 // Lent room: how the two sides of the tables stand in it, and how much of it is used, over both periods.
 ghost use mathlib.Core.Path.{_≡_};
 ghost use mathlib.Core.Bool.{true, false};
-ghost use Rattle.room.specs.Room.{bySide, rowLength, used, sideOf, PeriodsOk};
+ghost use Prim.Native.Nat.{_≤_};
+ghost use Rattle.room.specs.Room.{bySide, rowLength, used, tablesFor, sumsFor, sideOf, PeriodsOk};
 use laws::Periods;
-
-// What a call must lend of the u32 and of the f32 room, and of the i64 room: what two periods of 167 use.
-pub const FLAT_TABLES: usize = 3006;
-
-pub const FLAT_SUMS: usize = 5010;
 
 // How one side of the tables stands in lent room: 0 for horizontal or 1 for vertical, how far a cell is from that of the next class along the pattern table
 // and from that of the next one across it, and where the side's cells and its groups start.
@@ -55,7 +51,7 @@ pub fn row_of_groups(p: Periods) -> usize
     (p.h + p.v) * 6
 }
 
-// How many places of the u32 and of the f32 room are used: the cells of both sides and one row of groups. 3,006 for two periods of 167.
+// How many places of the u32 and of the f32 room are used: the cells of both sides and one row of groups.
 pub fn used_by_tables(p: Periods) -> usize
     requires { ⌜ PeriodsOk p ⌝ }
     ensures { λ r. ⌜ r ≡ used (bySide p) 1 ⌝ }
@@ -63,10 +59,26 @@ pub fn used_by_tables(p: Periods) -> usize
     3 * p.h + 3 * p.v + row_of_groups(p)
 }
 
-// How many places of the i64 room are used: the cells of both sides and two rows of groups. 5,010 for two periods of 167.
+// How many places of the i64 room are used: the cells of both sides and two rows of groups.
 pub fn used_by_sums(p: Periods) -> usize
     requires { ⌜ PeriodsOk p ⌝ }
     ensures { λ r. ⌜ r ≡ used (bySide p) 2 ⌝ }
 {
     3 * p.h + 3 * p.v + 2 * row_of_groups(p)
+}
+
+// What a call must lend of the u32 and of the f32 room where its horizontal table has l patterns and its vertical one 167: 3,006 for the flat board.
+pub fn tables_for(l: usize) -> usize
+    requires { ⌜ l ≤ 500 ⌝ }
+    ensures { λ r. ⌜ r ≡ tablesFor l ⌝ }
+{
+    9 * l + 1503
+}
+
+// What it must lend of the i64 room: 5,010 for the flat board.
+pub fn sums_for(l: usize) -> usize
+    requires { ⌜ l ≤ 500 ⌝ }
+    ensures { λ r. ⌜ r ≡ sumsFor l ⌝ }
+{
+    15 * l + 2505
 }

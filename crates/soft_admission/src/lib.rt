@@ -7,6 +7,7 @@ ghost use Rattle.likelihood.specs.Likelihood.{likelihoods};
 ghost use Rattle.ranges.specs.Ranges.{inRange, marginTop};
 ghost use Rattle.admission.specs.Calls.{softCall};
 ghost use Rattle.admission.specs.Refusals.{softRoomShort, softAdmission};
+use admission::refusal::asked_length;
 use admission::refusal::room_short;
 use admission::refusal::tables_bad;
 use findings::likelihood_admission;
@@ -17,11 +18,14 @@ use refusals::Admission;
 use refusals::ListName;
 use refusals::first_of;
 
-// Whether the room of a soft call is too short: 5,010 i64 besides.
-fn soft_room_short(counts: usize, weights: usize, sums: usize) -> bool
-    ensures { λ r. ⌜ r ≡ softRoomShort counts weights sums ⌝ }
+// Whether the room of a soft call with l horizontal patterns is too short: there is room for sums besides.
+fn soft_room_short(l: usize, counts: usize, weights: usize, sums: usize) -> bool
+    ensures { λ r. ⌜ r ≡ softRoomShort l counts weights sums ⌝ }
 {
-    room_short(counts, weights) || sums < room::FLAT_SUMS
+    if room_short(l, counts, weights) {
+        return true;
+    }
+    sums < room::sums_for(asked_length(l))
 }
 
 // Whether the error limit or the soft margin is out of range.
@@ -65,7 +69,7 @@ pub fn soft_admission(
         (now (transforms .entry)) (tables (now (h .entry)) (now (v .entry))) «error_limit» «soft_margin») counts weights sums ⌝ }
 {
     let room = refused_if(
-        soft_room_short(counts, weights, sums),
+        soft_room_short(h.len(), counts, weights, sums),
         refusals::ROOM_TOO_SHORT,
     );
     let logical = list_admission(

@@ -4,7 +4,7 @@ use mathlib.Core.Bool.{true, false}
 use Prim.Native.Nat.{ℕ, _+_, _^_, _≤_}
 use native.Mathlib.Nat.{le-trans, le-of-eq}
 use native.Mathlib.Omega.{arith}
-use lib.ListN.{getD}
+use lib.ListN.{length, getD}
 use lib.IntN.{pos}
 use lib.Ieee.{binary32, div, ofInt}
 use Rattle.laws.specs.Words.{Finite}
@@ -23,7 +23,7 @@ use Rattle.admission.specs.Calls.{SoftCall}
 use Rattle.admission.specs.Accepted.{SoftAccepted}
 use Rattle.answer.specs.declared.SoftDecoded.{SoftDecoded}
 use Rattle.answer.specs.declared.SoftAnswer.the-variants.{Found}
-use Rattle.demand.specs.FoundRange.{FloatsFinite, SoftAnswerInRange, on-flat-board}
+use Rattle.demand.specs.FoundRange.{FloatsFinite, SoftAnswerInRange, square-in-range}
 use Rattle.soft_logical.specs.Logical.{cellFit, fitOf}
 use Rattle.soft_core.specs.Soft.{softCore}
 use Rattle.soft_core.specs.SoftLaws.{likelihoods-ok}
@@ -65,7 +65,7 @@ soft-floats call m n k A d e =
       within-finite (marginOf B E X ts P (f .second)) (2 ^ 29 + 2 ^ 29) (margin-within edges some few (withTotal B E X ts P) (withTotal B E X ts (f .second)) one two),
     )
 
-pub soft-in-range : (call : SoftCall) (m n k : ℕ) (A : SoftAccepted call m n k) (d : SoftDecoded) → softCore call ≡ Found d → SoftAnswerInRange d
+pub soft-in-range : (call : SoftCall) (m n k : ℕ) (A : SoftAccepted call m n k) (d : SoftDecoded) → softCore call ≡ Found d → SoftAnswerInRange (length (call .hard .board .h)) d
 soft-in-range call m n k A d e =
     let a = soft-sound call m n k A d e in
     let P = a .square in
@@ -74,14 +74,14 @@ soft-in-range call m n k A d e =
     let f = soft-floats call m n k A d e in
     record {
       wholes = record {
-        on-board = on-flat-board (h .board) (h .transforms) P (d .square) (A .hard .transforms) (A .hard .periods) (a .leads .on-board) (a .tells .square);
+        on-board = square-in-range (h .board) (h .transforms) P (d .square) (A .hard .transforms) (A .hard .vertical) (a .leads .on-board) (a .tells .square);
         some-hits = omega (arith, a .tells .hits, a .tells .edges, hits-le (h .board) (h .physical) (getD (h .transforms) (P .listed) 0) (P .row) (P .col));
         few = omega (arith, a .tells .edges, A .hard .physical .few);
-        runner-up-on = on-flat-board (h .board) (h .transforms) Q (d .«runner_up») (A .hard .transforms) (A .hard .periods) (a .runs-up .on-board) (a .tells .runner-up);
+        runner-up-on = square-in-range (h .board) (h .transforms) Q (d .«runner_up») (A .hard .transforms) (A .hard .vertical) (a .runs-up .on-board) (a .tells .runner-up);
         runner-up-few = omega (arith, a .tells .runner-up-hits, A .hard .logical .few, hits-le (h .board) (h .logical) (getD (h .transforms) (Q .listed) 0) (Q .row) (Q .col));
       };
       floats = f .0;
-      second = on-flat-board (h .board) (h .transforms) (a .second) (d .second) (A .hard .transforms) (A .hard .periods) (a .clears .second .on-board) (a .second-named);
+      second = square-in-range (h .board) (h .transforms) (a .second) (d .second) (A .hard .transforms) (A .hard .vertical) (a .clears .second .on-board) (a .second-named);
       second-score = f .1;
       margin = f .2;
     }

@@ -10,11 +10,14 @@ use refusals::Admission;
 use refusals::ListName;
 use refusals::first_of;
 
-// Whether an origin given to match statistics is off the board.
-fn origin_bad(row: u32, col: u32) -> bool
-    ensures { λ r. ⌜ r ≡ originBad row col ⌝ }
+// Whether an origin given to match statistics is off a board with l horizontal patterns: it has 3 · l rows and 501 columns.
+fn origin_bad(l: usize, row: u32, col: u32) -> bool
+    ensures { λ r. ⌜ r ≡ originBad l row col ⌝ }
 {
-    500 < row || 500 < col
+    if l <= row as usize / 3 {
+        return true;
+    }
+    500 < col
 }
 
 // The early refusals of match statistics, which take an empty list and no room.
@@ -43,6 +46,10 @@ pub fn stats_admission(
         bits,
         confidences,
     );
-    let settings = settings_admission(7 < transform, tables_bad(h, v), origin_bad(row, col));
+    let settings = settings_admission(
+        7 < transform,
+        tables_bad(h, v),
+        origin_bad(h.len(), row, col),
+    );
     first_of(list, settings)
 }

@@ -18,7 +18,7 @@ use Rattle.room.specs.declared.Side.{Side}
 use Rattle.room.specs.Room.{PeriodsOk, rowLength, cellsAt, cellsEnd, groupsAt, used, isHorizontal, sideOf, Stands, Laid}
 use Rattle.groups.specs.Fill.{rowSum}
 use Rattle.cells.specs.Cells.{longClass, shortClass}
-use Rattle.room.specs.RoomLaws.{cells-in, side-stands, groups-in, groups-past, laid-ext, laid-clear, laid-groups, laid-cells}
+use Rattle.room.specs.RoomLaws.{board-periods, cells-in, side-stands, groups-in, groups-past, laid-ext, laid-clear, laid-groups, laid-cells}
 use Rattle.tables.specs.Stages.{row-groups, both}
 use Rattle.sums.specs.Sums.{Likelihoods, cellScore}
 use Rattle.sum_terms.specs.SumTerms.{placesZ}
@@ -45,7 +45,7 @@ module _ (B : Board) (E : EdgeList) (X : Likelihoods) (t : ℕ) (a₀ : List ℤ
   some = side-some B (R .board)
 
   pub periods-okZ : PeriodsOk both-periods
-  periods-okZ = record { some = (some true, some false); few = (R .board .h .few, R .board .v .few) }
+  periods-okZ = board-periods B (R .board)
 
   -- cleared: ready to fill
   module _ (end : ℕ) (ee : end ≡ used P 2) (a₁ : List ℤ) (e : a₁ ≡ cleared (pos 0) end a₀) where

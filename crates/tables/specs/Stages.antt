@@ -26,7 +26,7 @@ use Rattle.groups.specs.Fill.{FillReady, Filled, rowSum}
 use Rattle.groups.specs.FillLaws.{row-side}
 use Rattle.tables.specs.Side.{total, cellC, cellW, SideReady, SideBuilt}
 use Rattle.tables.specs.Built.{TablesReady, TablesBuilt}
-use Rattle.room.specs.RoomLaws.{cells-in, side-stands, groups-in, groups-past, laid-ext, laid-clear, laid-groups, laid-cells}
+use Rattle.room.specs.RoomLaws.{board-periods, cells-in, side-stands, groups-in, groups-past, laid-ext, laid-clear, laid-groups, laid-cells}
 
 -- ---- of any sum: the groups of both sides, filled in one row, are the groups of each side
 pub row-groups : {A : Type 0} (op : A → A → A) (z : A) (f : ℕ → A) (B : Board) (E : EdgeList) (t : ℕ) → 0 < periodOf B true → ((i : ℕ) → i < size E → seen E i < 2) → (s : Bool) (k : ℕ) → k < periodOf B s * 6
@@ -37,12 +37,6 @@ row-groups op z f B E t some bits s k h = row-side op z f B E t some bits s k (�
 pub both : {A : Type 0} (C : Bool → ℕ → A) (z : A) (s : Bool) (k : ℕ) → cond (is false s) (C false k) (cond s (C true k) z) ≡ C s k
 both C z true k = refl
 both C z false k = refl
-
-periods : (B : Board) (E : EdgeList) (t : ℕ) (c : List ℕ) (w : List Float) → TablesReady B E t c w → PeriodsOk (record { h = periodOf B true; v = periodOf B false })
-periods B E t c w R = record {
-  some = (side-some B (R .board) true, side-some B (R .board) false);
-  few = (R .board .h .few, R .board .v .few);
-}
 
 -- built at a side, whichever way its value is written
 built-at : (B : Board) (d d' : Side) → d ≡ d' → (c c' : List ℕ) (w w' : List Float) → SideBuilt B d c c' w w' → SideBuilt B d' c c' w w'
@@ -61,7 +55,7 @@ module _ (B : Board) (E : EdgeList) (t : ℕ) (c₀ : List ℕ) (w₀ : List Flo
   some = side-some B (R .board)
 
   pub periods-ok : PeriodsOk both-periods
-  periods-ok = periods B E t c₀ w₀ R
+  periods-ok = board-periods B (R .board)
 
   -- cleared: ready to fill
   module _ (end : ℕ) (ee : end ≡ used P 1) (c₁ : List ℕ) (w₁ : List Float) (ec : c₁ ≡ cleared 0 end c₀) (ew : w₁ ≡ cleared zeroF end w₀) where

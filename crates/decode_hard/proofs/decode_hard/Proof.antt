@@ -3,6 +3,7 @@ use mathlib.Core.Path.{_≡_, sym, _∙_}
 use native.Mathlib.Omega.{arith}
 use denote.Ref.{now}
 use lib.ListN.{length}
+use Rattle.room.specs.RoomLaws.{board-periods}
 use Rattle.board.specs.Hits.{edges, tables}
 use Rattle.admission.specs.Calls.{HardCall, hardCall}
 use Rattle.admission.specs.Accepted.{HardAccepted, hard-accepted}
@@ -55,7 +56,7 @@ hard-core-requires : tie.Need-hard-core-requires
 hard-core-requires c κs = accepted (c .before .before)
 
 used-by-tables-requires : tie.Need-used-by-tables-requires
-used-by-tables-requires c κs = let p = accepted (told c) .periods in record { some = (omega (arith, p .0), omega (arith, p .1)); few = (omega (arith, p .0), omega (arith, p .1)) }
+used-by-tables-requires c κs = board-periods _ (accepted (told c) .board)
 
 clear-u32-requires : tie.Need-clear-u32-requires
 clear-u32-requires c κs = let k = c .before .before in omega (arith, accepted (told k) .room .0, core k .hard-core .ensures .counts .len, c .before .used-by-tables .ensures)

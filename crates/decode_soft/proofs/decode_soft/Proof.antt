@@ -3,6 +3,7 @@ use mathlib.Core.Path.{_≡_, sym, _∙_}
 use native.Mathlib.Omega.{arith}
 use denote.Ref.{now}
 use lib.ListN.{length}
+use Rattle.room.specs.RoomLaws.{board-periods}
 use Rattle.board.specs.Hits.{edges, tables}
 use Rattle.likelihood.specs.Likelihood.{likelihoods}
 use Rattle.admission.specs.Calls.{SoftCall, softCall}
@@ -69,7 +70,7 @@ soft-core-requires : tie.Need-soft-core-requires
 soft-core-requires c κs = accepted (c .before .before .before)
 
 used-by-tables-requires : tie.Need-used-by-tables-requires
-used-by-tables-requires c κs = let p = accepted (told c) .hard .periods in record { some = (omega (arith, p .0), omega (arith, p .1)); few = (omega (arith, p .0), omega (arith, p .1)) }
+used-by-tables-requires c κs = board-periods _ (accepted (told c) .hard .board)
 
 clear-u32-requires : tie.Need-clear-u32-requires
 clear-u32-requires c κs = let k = c .before .before .before in omega (arith, accepted (told k) .hard .room .0, core k .soft-core .ensures .counts .len, c .before .before .used-by-tables .ensures)
@@ -81,9 +82,7 @@ clear-f32-requires c κs =
     omega (arith, accepted (told k) .hard .room .1, core k .soft-core .ensures .weights .len, u .used-by-tables .ensures)
 
 used-by-sums-requires : tie.Need-used-by-sums-requires
-used-by-sums-requires c κs =
-    let p = accepted (told (c .before)) .hard .periods in
-    record { some = (omega (arith, p .0), omega (arith, p .1)); few = (omega (arith, p .0), omega (arith, p .1)) }
+used-by-sums-requires c κs = board-periods _ (accepted (told (c .before)) .hard .board)
 
 clear-i64-requires : tie.Need-clear-i64-requires
 clear-i64-requires c κs =

@@ -1,7 +1,7 @@
 -- THE DOMAIN: the conditions on a call before any work is done, as plain facts, each with its number of document 01's 'Refusal numbers' and C-11's 16 and 17, in their order. The bounds are
 -- those of 'Numbers that bound the domain'. DomainLaws.antt proves that a call is accepted exactly when all are met, and else refused by the number of the first that is not.
 use mathlib.Core.Path.{_≡_}
-use mathlib.Core.Bool.{true, false}
+use mathlib.Core.Bool.{cond}
 use mathlib.Core.List.{List, [], _∷_}
 use Prim.Native.Nat.{ℕ, _*_, _%_, _≤_, _<_}
 use lib.ListN.{getD, length}
@@ -20,8 +20,7 @@ AtMost most xs = (i : ℕ) → i < length xs → getD xs i 0 ≤ most
 abbrev pub Between : ℕ → ℕ → Float → Type 0
 Between below above nan = ⊥
 Between below above (inf s) = ⊥
-Between below above (fin true m e) = m * up e ≤ below * down e
-Between below above (fin false m e) = m * up e ≤ above * down e
+Between below above (fin s m e) = m * up e ≤ cond s below above * down e
 
 -- C-13: "L is from 4 to 500 and not a multiple of 3", the length of a horizontal pattern table; that of the flat board is 167
 abbrev pub PoleLength : ℕ → Type 0
@@ -31,18 +30,15 @@ PoleLength L = (4 ≤ L) × (L ≤ 500) × (L % 3 ≡ 0 → ⊥)
 abbrev pub Lent : (ℕ → ℕ) → ℕ → ℕ → Type 0
 Lent asked L n = (asked 4 ≤ n) × (PoleLength L → asked L ≤ n)
 
--- the conditions on every call. `each P` says P of each list, of `least` edges or more; `long` is what the length of the horizontal table may be; `columns` is about the lengths of the likelihoods,
--- `settings` about limit, margin or origin
+-- the conditions on every call: `each P` says P of each list, of `least` edges or more; `long` is about the horizontal table's length, `columns` the likelihoods' lengths, `settings` limit, margin, origin
 unfoldable pub early : ((EdgeList → Type 0) → Type 0) → ℕ → List ℕ → (ℕ → Type 0) → Board → (room columns likelihoods settings : Type 0) → List Condition
 early each least transforms long board room columns likelihoods settings =
     (1, room)
     ∷ (2, each (λ E. (length (E .cols) ≡ size E) × (length (E .orientations) ≡ size E) × (length (E .bits) ≡ size E) × (length (E .confidences) ≡ size E)) × columns)
     ∷ (3, each (λ E. (least ≤ size E) × (size E ≤ 8192)))
     ∷ (4, each (λ E. (i : ℕ) → i < size E → (natAbs (getD (E .rows) i (pos 0)) ≤ 1000000) × (natAbs (getD (E .cols) i (pos 0)) ≤ 1000000)))
-    ∷ (16, each (λ E. AtMost 1 (E .orientations)))
-    ∷ (17, each (λ E. AtMost 1 (E .bits)))
-    ∷ (5, each (λ E. (i : ℕ) → i < length (E .confidences) → Between 0 1 (getD (E .confidences) i nan)))
-    ∷ (6, likelihoods)
+    ∷ (16, each (λ E. AtMost 1 (E .orientations))) ∷ (17, each (λ E. AtMost 1 (E .bits)))
+    ∷ (5, each (λ E. (i : ℕ) → i < length (E .confidences) → Between 0 1 (getD (E .confidences) i nan))) ∷ (6, likelihoods)
     ∷ (7, (1 ≤ length transforms) × (length transforms ≤ 8) × AtMost 7 transforms)
     ∷ (8, long (length (board .h)) × AtMost 7 (board .h) × (length (board .v) ≡ 167) × AtMost 7 (board .v))
     ∷ (9, settings) ∷ []

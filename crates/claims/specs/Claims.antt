@@ -3,7 +3,7 @@
 use mathlib.Core.Path.{_≡_, refl, sym, ap, ap₂, subst, _∙_}
 use mathlib.Core.Bool.{false}
 use mathlib.Core.List.{List, []}
-use Prim.Native.Nat.{ℕ, _≤_, _<_}
+use Prim.Native.Nat.{ℕ, _-_, _≤_, _<_}
 use native.Mathlib.Omega.{arith}
 use lib.ListN.{length}
 use lib.IntN.{pos}
@@ -38,7 +38,7 @@ use Rattle.answer.specs.declared.SoftAnswer.the-variants as soft
 use Rattle.answer.specs.declared.MatchStats.{MatchStats}
 use Rattle.answer.specs.declared.StatsAnswer.{StatsAnswer}
 use Rattle.answer.specs.declared.StatsAnswer.the-variants as stats
-use Rattle.verdict.specs.Verdict.{whenAccepted}
+use Rattle.verdict.specs.Verdict.{whenAccepted, decodedOf}
 use Rattle.soft_verdict.specs.SoftVerdict.{softWhenAccepted}
 use Rattle.demand.specs.Left.{left}
 use Rattle.demand.specs.Demand.{OnBoard, Same, Leads, Names, AgreesPhysical}
@@ -111,7 +111,7 @@ module _ {A : Type 0} (d zero : A) (n : ℕ) (a : Admission) (old : List A) wher
   -- "after every other call the used room is zero"
   left-emptied : a ≡ admission.Accepted → n ≤ length old → Emptied d zero n old (left zero n a old)
   unfolding left
-  left-emptied h room = rw h (let w = cleared-written d zero n old room in record { len = w .len; used = w .front; surplus = w .back })
+  left-emptied h room = rw h (let w = cleared-written d zero n old room in record { room = room; len = w .len; used = w .front; surplus = w .back })
 
 -- the same of what a call left, where n is m
 pub left-zero : {A : Type 0} (d zero : A) (n m : ℕ) (a : Admission) (old new : List A) → n ≡ m → a ≡ admission.Accepted → n ≤ length old → new ≡ left zero n a old → Emptied d zero m old new
@@ -174,6 +174,11 @@ module _ (call : HardCall) (before after : HardRoom) (answer : Answer) (done : H
   pub hard-old-fields : (found : Decoded) (e : answer ≡ Found found) → HardTold call (length (before .counts)) (length (before .weights)) (taken (told found e .0)) found
   hard-old-fields d e = let f = told d e in hard-ten-fields call (length (before .counts)) (length (before .weights)) (taken (f .0)) d (f .1)
 
+  -- and its margin is that of the two counts
+  pub hard-margin-of-the-two : (found : Decoded) → answer ≡ Found found → found .«margin_hits» ≡ found .hits - found .«runner_up_hits»
+  unfolding decodedOf
+  hard-margin-of-the-two d e = subst (λ (z : Decoded). z .«margin_hits» ≡ z .hits - z .«runner_up_hits») (hard-old-fields d e .decoded) refl
+
   -- DEMAND 2
   pub hard-by-the-rules : answer ≡ hardAnswer call (length (before .counts)) (length (before .weights))
   hard-by-the-rules = done .answer
@@ -201,7 +206,7 @@ module _ (call : HardCall) (before after : HardRoom) (answer : Answer) (done : H
   hard-most-agrees domain = let A = taken domain in agrees.most-agrees (call .board) (call .physical) (call .transforms) (A .board) (A .physical) (A .transforms .few) (A .some-physical)
 
   -- WHAT HARD DECODE PROMISES
-  pub hard-promise : HardPromise call before after answer
+  pub hard-promise : HardPromise (hardEarly call before) (tablesFor (length (call .board .h))) call before after answer
   hard-promise = record {
     demands = demands-met Refused Found answers (hardEarly call before) (hardLate call) (after ≡ before) _ (HardAnswered call) answer (hardCore call) (hardChecked call before) hard-accepts (hard-first call before)
         (λ x h. let e = hard-refused-early x h in (e .0, λ i. record { counts = e .1 i; weights = e .2 i })) core
@@ -224,6 +229,7 @@ module _ (call : HardCall) (before after : HardRoom) (answer : Answer) (done : H
     refused-exactly = hard-refused-exactly;
     answer-in-range = hard-answer-in-range;
     no-influence = hard-no-influence;
+    margin-of-the-two = hard-margin-of-the-two;
     by-the-rules = hard-by-the-rules;
   }
 
@@ -327,7 +333,7 @@ module _ (call : SoftCall) (before after : SoftRoom) (answer : SoftAnswer) (done
   soft-second-kept d e = let f = soft-told d e in soft-kept call (length (before .counts)) (length (before .weights)) (length (before .sums)) (admitted (f .0)) d (f .1)
 
   -- WHAT SOFT DECODE PROMISES
-  pub soft-promise : SoftPromise call before after answer
+  pub soft-promise : SoftPromise (softEarly call before) (tablesFor (length (call .hard .board .h))) (sumsFor (length (call .hard .board .h))) call before after answer
   soft-promise = record {
     demands = demands-met soft.Refused soft.Found soft-answers (softEarly call before) (softLate call) (after ≡ before) _ (SoftAnswered call) answer (softCore call) (softChecked call before) soft-accepts (soft-first call before)
         (λ x h. let e = soft-refused-early x h in (e .0, λ i. record { counts = e .1 i; weights = e .2 i; sums = e .3 i })) soft-core
@@ -393,7 +399,7 @@ module _ (list : EdgeList) (transform row col : ℕ) (board : Board) (answer : S
       go (admission.Refused x) q = let z : _≡_ {A = ℕ} 0 1 = cc in absurd (omega arith)
 
   -- WHAT MATCH STATISTICS PROMISE
-  pub stats-promise : StatsPromise list transform row col board answer
+  pub stats-promise : StatsPromise (statsEarly list transform row col board) list transform row col board answer
   unfolding AllMet
   stats-promise = record {
     demands = demands-met stats.Refused stats.Counted stats-answers (statsEarly list transform row col board) [] (Unit {0}) (Unit {0}) _ answer (stats.Counted (statsOf list transform row col board)) statsChecked stats-accepts

@@ -4,7 +4,7 @@ pub mod Promises
 pub mod DemandsLaws
 pub mod LateLaws
 pub mod Claims
-pub mod Flat
+pub mod FlatBoard
 pub mod NumbersToTry
 pub mod FoundLaws
 pub mod Ranges

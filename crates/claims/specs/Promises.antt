@@ -17,7 +17,7 @@ use mathlib.Core.Path.{_≡_}
 use mathlib.Core.Bool.{Bool, false}
 use mathlib.Core.Logic.{_⊎_}
 use mathlib.Core.List.{List, [], _++_}
-use Prim.Native.Nat.{ℕ, _≤_, _<_}
+use Prim.Native.Nat.{ℕ, _-_, _≤_, _<_}
 use lib.ListN.{getD, length}
 use lib.IntN.{pos}
 use lib.Ieee.{Float, nan, binary32, sub, div, ofInt}
@@ -31,7 +31,6 @@ use Rattle.refusals.specs.declared.ListName.{ListName}
 use Rattle.refusals.specs.declared.Admission.{Admission}
 use Rattle.refusals.specs.declared.Admission.the-variants as admission
 use Rattle.findings.specs.Places.{PlaceRight}
-use Rattle.room.specs.Room.{tablesFor, sumsFor}
 use Rattle.admission.specs.Calls.{HardCall, SoftCall, HardRoom, SoftRoom}
 use Rattle.admission.specs.Refusals.{statsAdmission, hardChecked, softChecked}
 use Rattle.admission.specs.Conditions.{Condition, AllMet, FirstFails}
@@ -71,8 +70,7 @@ abbrev pub NumberAndPlace : Type 0
 NumberAndPlace = (one other : Refusal) → one .number ≡ other .number → one .place ≡ other .place → one ≡ other
 
 -- an answer made by `refusing` or `finding`, under these early and late conditions; the room is `as-it-was` or `emptied`, and `says` is what a found answer says
-pub record Demands {Answer Told : Type 0} (refusing : Refusal → Answer) (finding : Told → Answer)
-    (early late : List Condition) (as-it-was emptied : Type 0) (says : Told → Type 0) (answer : Answer) : Type 0 where
+pub record Demands {Answer Told : Type 0} (refusing : Refusal → Answer) (finding : Told → Answer) (early late : List Condition) (as-it-was emptied : Type 0) (says : Told → Type 0) (answer : Answer) : Type 0 where
   -- it "refuses with the number document 01 gives": that of the first condition that is not met
   pub refused : (refusal : Refusal) → answer ≡ refusing refusal → FirstFails (early ++ late) (refusal .number)
   -- "After refusals 1 to 9 the lent room is untouched; after every other call the used room is zero."
@@ -82,8 +80,9 @@ pub record Demands {Answer Told : Type 0} (refusing : Refusal → Answer) (findi
   pub found : (told : Told) → answer ≡ finding told → AllMet (early ++ late) × says told
   pub finds : AllMet (early ++ late) → (told : Told) × (answer ≡ finding told)
 
--- a slice before and after a call that uses n places of it: they are zero, the surplus is as it was
+-- a slice before and after a call that uses n places of it: they exist and are zero, the surplus is as it was
 pub record Emptied {A : Type 0} (missing zero : A) (n : ℕ) (before after : List A) : Type 0 where
+  pub room : n ≤ length before
   pub len : length after ≡ length before
   pub used : (k : ℕ) → k < n → getD after k missing ≡ zero
   pub surplus : (k : ℕ) → n ≤ k → getD after k missing ≡ getD before k missing
@@ -94,42 +93,31 @@ pub record WinsByHits (B : Board) (E : EdgeList) (ts : List ℕ) (limit : Float)
   pub most-wins : noConfidence E ≡ false → (P : Placing) → WithinLimit B E ts limit P
       → ((Q : Placing) → OnBoard B ts Q → (Same Q P → ⊥) → hitsAt B E ts Q < hitsAt B E ts P) → Wins B E ts limit P
 
--- HARD DECODE: `answer` is what the call gave, with the room before and after it, under these early conditions and with so much of each slice used
-pub record HardPromised (early : List Condition) (used : ℕ) (call : HardCall) (before after : HardRoom) (answer : Answer) : Type 0 where
+-- HARD DECODE: `answer` is what the call gave, with the room before and after it. The early conditions are `hardEarly`, and tablesFor L places of each slice are used (`hard-promise`)
+pub record HardPromise (early : List Condition) (used : ℕ) (call : HardCall) (before after : HardRoom) (answer : Answer) : Type 0 where
   pub demands : Demands Refused Found early (hardLate call) (after ≡ before)
       (Emptied 0 0 used (before .counts) (after .counts) × Emptied nan zeroF used (before .weights) (after .weights)) (HardAnswered call) answer
   -- "answers exactly when": a placing that leads and agrees is found, and it is the one that the answer names
   pub finds-square : AllMet early → noConfidence (call .logical) ≡ false → (P : Placing)
       → Leads (call .board) (call .logical) (call .transforms) (call .error-limit) P → AgreesPhysical (call .board) (call .physical) (call .transforms) P
       → (found : Decoded) × (answer ≡ Found found) × Names (call .transforms) P (found .square)
-  -- what it is to win on the logical list, and to agree with the winner of the physical one, where no placing is over the limit
   pub logical-winner : AllMet early → WinsByHits (call .board) (call .logical) (call .transforms) (call .error-limit)
   pub physical-winner : AllMet early → WinsByHits (call .board) (call .physical) (call .transforms) oneF
 
-abbrev pub HardPromise : HardCall → HardRoom → HardRoom → Answer → Type 0
-HardPromise call before after = HardPromised (hardEarly call before) (tablesFor (length (call .board .h))) call before after
-
--- SOFT DECODE
-pub record SoftPromised (early : List Condition) (used used-sums : ℕ) (call : SoftCall) (before after : SoftRoom) (answer : SoftAnswer) : Type 0 where
+-- SOFT DECODE: `softEarly`, and sumsFor L places of the sums (`soft-promise`)
+pub record SoftPromise (early : List Condition) (used used-sums : ℕ) (call : SoftCall) (before after : SoftRoom) (answer : SoftAnswer) : Type 0 where
   pub demands : Demands soft.Refused soft.Found early (softLate call) (after ≡ before)
-      (Emptied 0 0 used (before .counts) (after .counts) × Emptied nan zeroF used (before .weights) (after .weights) × Emptied (pos 0) (pos 0) used-sums (before .sums) (after .sums))
-      (SoftAnswered call) answer
+      (Emptied 0 0 used (before .counts) (after .counts) × Emptied nan zeroF used (before .weights) (after .weights) × Emptied (pos 0) (pos 0) used-sums (before .sums) (after .sums)) (SoftAnswered call) answer
   -- "answers exactly when": its own best placing, where it clears the margin and leads, is found, and it is the one that the answer names
   pub finds-square : AllMet early → noConfidence (call .hard .physical) ≡ false → noConfidence (call .hard .logical) ≡ false → (P Q : Placing)
       → Clears call P Q → Leads (call .hard .board) (call .hard .logical) (call .hard .transforms) (call .hard .error-limit) P
       → (found : SoftDecoded) × (answer ≡ soft.Found found) × Names (call .hard .transforms) P (found .square)
   pub logical-winner : AllMet early → WinsByHits (call .hard .board) (call .hard .logical) (call .hard .transforms) (call .hard .error-limit)
 
-abbrev pub SoftPromise : SoftCall → SoftRoom → SoftRoom → SoftAnswer → Type 0
-SoftPromise call before after = SoftPromised (softEarly call before) (tablesFor (length (call .hard .board .h))) (sumsFor (length (call .hard .board .h))) call before after
-
--- MATCH STATISTICS, of a list at one square: no room, no late conditions, and the hits are counted edge by edge
-pub record StatsPromised (early : List Condition) (list : EdgeList) (transform row col : ℕ) (board : Board) (answer : StatsAnswer) : Type 0 where
+-- MATCH STATISTICS, of a list at one square: `statsEarly`, no late conditions, no room, and the hits are counted edge by edge (`stats-promise`)
+pub record StatsPromise (early : List Condition) (list : EdgeList) (transform row col : ℕ) (board : Board) (answer : StatsAnswer) : Type 0 where
   pub demands : Demands stats.Refused stats.Counted early [] (Unit {0}) (Unit {0})
       (λ counted. (counted .hits ≡ hits board list transform row col) × (counted .edges ≡ size list)) answer
-
-abbrev pub StatsPromise : EdgeList → (transform row col : ℕ) → Board → StatsAnswer → Type 0
-StatsPromise list transform row col board = StatsPromised (statsEarly list transform row col board) list transform row col board
 
 -- ==== PARTICULARS
 
@@ -178,6 +166,8 @@ pub record HardParticulars (call : HardCall) (before after : HardRoom) (answer :
   -- "What the room held before has no influence": the same call with room as long gives the same answer
   pub no-influence : (before' after' : HardRoom) (answer' : Answer) → HardGave call before' after' answer' → length (before' .counts) ≡ length (before .counts) → length (before' .weights) ≡ length (before .weights)
       → answer' ≡ answer
+  -- C-12: the margin is the winner's hits less the runner-up's, of exactly the two counts that the answer holds
+  pub margin-of-the-two : (found : Decoded) → answer ≡ Found found → found .«margin_hits» ≡ found .hits - found .«runner_up_hits»
   -- DEMAND 2: the answer is document 01's
   pub by-the-rules : answer ≡ hardAnswer call (length (before .counts)) (length (before .weights))
 

@@ -94,6 +94,7 @@ module _ (call : HardCall) (m n : ℕ) (A : HardAccepted call m n) (d : Decoded)
     pub winner : Candidate
     pub runner : RunnerUp
     pub selected : selection (call .board) (call .logical) (call .transforms) (call .error-limit) ≡ sel.Selected winner runner
+    pub decoded : decodedOf (getD (call .transforms) (winner .placing .listed) 0) winner runner (size (call .logical)) ≡ d
     pub told : tenOfHard d ≡ decoded01 (getD (call .transforms) (winner .placing .listed) 0) winner runner (size (call .logical))
 
   by-physical : (x : Candidate) (r : RunnerUp) → selection (call .board) (call .logical) (call .transforms) (call .error-limit) ≡ sel.Selected x r → (q : Selection)
@@ -107,6 +108,7 @@ module _ (call : HardCall) (m n : ℕ) (A : HardAccepted call m n) (d : Decoded)
         winner = x;
         runner = r;
         selected = e;
+        decoded = q;
         told = ap tenOfHard (sym q) ∙ ten-of-decoded t x r (size (call .logical)) (omega (arith, i .hits, A .logical .few)) (omega (arith, i .runner-up-hits, A .logical .few));
       }
 

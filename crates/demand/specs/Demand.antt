@@ -34,11 +34,11 @@ missesAt B E ts P = size E - hitsAt B E ts P
 abbrev pub WithinLimit : Board → EdgeList → List ℕ → Float → Placing → Type 0
 WithinLimit B E ts limit P = OnBoard B ts P × (overLimit (size E) limit (hitsAt B E ts P) ≡ false)
 
--- "is within the error limit, beats the hits of every other by more than its own misses"
+-- "is within the error limit, beats the hits of every other by more than its own misses", which are the edges that it does not hit
 pub record Leads (B : Board) (E : EdgeList) (ts : List ℕ) (limit : Float) (P : Placing) : Type 0 where
   pub on-board : OnBoard B ts P
   pub within : overLimit (size E) limit (hitsAt B E ts P) ≡ false
-  pub ahead : (Q : Placing) → OnBoard B ts Q → (Same Q P → ⊥) → hitsAt B E ts Q + missesAt B E ts P < hitsAt B E ts P
+  pub ahead : (Q : Placing) → OnBoard B ts Q → (Same Q P → ⊥) → hitsAt B E ts Q + (size E - hitsAt B E ts P) < hitsAt B E ts P
 
 -- "another placing with hits no third exceeds"
 pub record RunsUp (B : Board) (E : EdgeList) (ts : List ℕ) (P Q : Placing) : Type 0 where

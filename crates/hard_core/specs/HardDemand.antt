@@ -4,8 +4,7 @@ use Rattle.admission.specs.Calls.{HardCall}
 use Rattle.answer.specs.declared.Decoded.{Decoded}
 use Rattle.demand.specs.Demand.{Leads, RunsUp, AgreesPhysical, Tells}
 
--- "one placing of the logical list is within the error limit, beats the hits of every other by more than its own misses, and agrees with the winner of the
--- physical list; it gives that placing and a runner-up that is another placing with hits no third exceeds"
+-- "one placing of the logical list" leads "and agrees with the winner of the physical list; it gives that placing and a runner-up that is another placing with hits no third exceeds"
 pub record HardAnswered (call : HardCall) (d : Decoded) : Type 0 where
   pub square : Placing
   pub runner-up : Placing

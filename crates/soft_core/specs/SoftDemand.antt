@@ -45,8 +45,7 @@ marginOf B E X ts P Q = div binary32 (sub binary32 (total B E X ts P) (total B E
 abbrev pub RowMajorBefore : Placing → Placing → Type 0
 RowMajorBefore Q P = (Q .row < P .row) ⊎ ((Q .row ≡ P .row) × (Q .col < P .col))
 
--- P has first place by likelihood: no placing of the list has a greater f32 total; under its own transform no origin has a greater whole sum, and each that stands
--- before it row by row has a smaller one; and each placing of an earlier list position has a smaller total. One placing has it (`first-once` of SoftPlaces.antt)
+-- P has first place: none has a greater f32 total, or under its transform a greater whole sum; those before it row by row have smaller sums, and those of earlier list positions smaller totals (`first-once`)
 pub record FirstByLikelihood (B : Board) (E : EdgeList) (X : Likelihoods) (ts : List ℕ) (P : Placing) : Type 0 where
   pub on-board : OnBoard B ts P
   pub greatest-total : (Q : Placing) → OnBoard B ts Q → lt (total B E X ts P) (total B E X ts Q) ≡ false
@@ -54,8 +53,7 @@ pub record FirstByLikelihood (B : Board) (E : EdgeList) (X : Likelihoods) (ts : 
   pub row-major-first : (Q : Placing) → OnBoard B ts Q → Q .listed ≡ P .listed → RowMajorBefore Q P → ltZ (wholeSum B E X ts Q) (wholeSum B E X ts P) ≡ true
   pub earliest-listed : (Q : Placing) → OnBoard B ts Q → Q .listed < P .listed → lt (total B E X ts Q) (total B E X ts P) ≡ true
 
--- Q has second place after P: another placing, and no placing but P has a greater f32 total. All that have it have one total (`second-total`), which is all that the
--- margin takes of it; which of them the decoder keeps is in SecondPlace (BestPlacing.antt of soft)
+-- Q has second place after P: another placing, and no placing but P has a greater f32 total. Which one is told of several, all with one total (`second-total`), `SoftKept` says
 pub record SecondByLikelihood (B : Board) (E : EdgeList) (X : Likelihoods) (ts : List ℕ) (P Q : Placing) : Type 0 where
   pub on-board : OnBoard B ts Q
   pub other : Same Q P → ⊥

@@ -1,8 +1,8 @@
 // Windows cut from boards of our own: their tables, and lists of edges as a camera at a placing sees them.
 ghost use mathlib.Core.Path.{_≡_};
 ghost use Prim.Native.Nat.{_<_};
-ghost use lib.ListN.{length};
-ghost use Rattle.worked.specs.Given.{Made};
+ghost use lib.ListN.{length, take};
+ghost use Rattle.runs.specs.Made.{Made};
 use answer::StatsAnswer;
 
 // A number that looks random, below 2^31, after x.
@@ -18,19 +18,18 @@ fn pattern_of(x: u64) -> u8
 }
 
 // A table of patterns that look random.
-pub(crate) fn fill_patterns(table: &mut [u8], seed: u64)
-    requires { ⌜ length (now table) ≡ 167 ⌝ }
-    ensures { λ _. ⌜ Made (now (table .exit)) 167 ⌝ }
+pub fn fill_patterns(table: &mut [u8], seed: u64)
+    ensures { λ _. ⌜ Made (now (table .exit)) (length (now (table .entry))) (length (now (table .entry))) ⌝ }
 {
     let mut x = seed;
-    for i in 0..167 {
+    for i in 0..table.len() {
         x = next_random(x);
         table[i] = pattern_of(x);
     }
 }
 
 // A table with one bit set in each of the first n patterns.
-pub(crate) fn fill_ones(table: &mut [u8; 167], n: usize) {
+pub fn fill_ones(table: &mut [u8; 167], n: usize) {
     for i in 0..167 {
         table[i] = (i < n) as u8;
     }
@@ -38,8 +37,8 @@ pub(crate) fn fill_ones(table: &mut [u8; 167], n: usize) {
 
 // The bit that makes an edge a hit at a placing, by match statistics of that edge alone.
 fn true_bit<'a>(
-    h: &'a [u8; 167],
-    v: &'a [u8; 167],
+    h: &'a [u8],
+    v: &'a [u8],
     row: i32,
     col: i32,
     orientation: u8,
@@ -106,8 +105,8 @@ fn put_row<'a>(
     row: u8,
     squares: u8,
     orientation: u8,
-    h: &'a [u8; 167],
-    v: &'a [u8; 167],
+    h: &'a [u8],
+    v: &'a [u8],
     transform: u8,
     r: u32,
     c: u32,
@@ -131,14 +130,14 @@ fn put_row<'a>(
 }
 
 // The edges of a square window, seen at the placing: how many there are.
-pub(crate) fn put_window<'a>(
+pub fn put_window<'a>(
     rows: &mut [i32; 8193],
     cols: &mut [i32; 8193],
     orientations: &mut [u8; 8193],
     bits: &mut [u8; 8193],
     squares: u8,
-    h: &'a [u8; 167],
-    v: &'a [u8; 167],
+    h: &'a [u8],
+    v: &'a [u8],
     transform: u8,
     r: u32,
     c: u32,
@@ -180,7 +179,7 @@ pub(crate) fn put_window<'a>(
 }
 
 // The first n bits are turned, so that a clean window misses n edges.
-pub(crate) fn turn_bits(bits: &mut [u8; 8193], n: usize) {
+pub fn turn_bits(bits: &mut [u8; 8193], n: usize) {
     for i in 0..8193 {
         if i < n {
             bits[i] = (bits[i] == 0) as u8;
@@ -189,21 +188,27 @@ pub(crate) fn turn_bits(bits: &mut [u8; 8193], n: usize) {
 }
 
 // Eight values, one after the other and again.
-pub(crate) fn repeat(xs: &mut [f32; 8193], eight: &[f32; 8]) {
+pub fn repeat(xs: &mut [f32; 8193], eight: &[f32; 8]) {
     for i in 0..8193 {
         xs[i] = eight[i % 8];
     }
 }
 
 // The first n elements of a column; one function for each type.
-pub(crate) fn front_i32(xs: &[i32; 8193], n: usize) -> &[i32] {
+pub fn front_i32(xs: &[i32; 8193], n: usize) -> &[i32]
+    ensures { λ r. ⌜ now r ≡ take n (now (xs .entry)) ⌝ }
+{
     slices::part::front_i32(xs, n)
 }
 
-pub(crate) fn front_u8(xs: &[u8; 8193], n: usize) -> &[u8] {
+pub fn front_u8(xs: &[u8; 8193], n: usize) -> &[u8]
+    ensures { λ r. ⌜ now r ≡ take n (now (xs .entry)) ⌝ }
+{
     slices::part::front_u8(xs, n)
 }
 
-pub(crate) fn front_f32(xs: &[f32; 8193], n: usize) -> &[f32] {
+pub fn front_f32(xs: &[f32; 8193], n: usize) -> &[f32]
+    ensures { λ r. ⌜ now r ≡ take n (now (xs .entry)) ⌝ }
+{
     slices::part::front_f32(xs, n)
 }

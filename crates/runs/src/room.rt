@@ -1,31 +1,31 @@
-// What a call left in the lent room, which held 7 before and is four places longer than it need be.
+// What a call left in the lent room, which held 7 before.
 use console::print::bits_of;
 use console::print::print_form;
 
 // How many places of the u32 room hold x.
-fn places_u32(room: &[u32; 3010], x: u32) -> u32 {
-    let mut n = 0;
-    for i in 0..3010 {
+fn places_u32(room: &[u32], x: u32) -> u32 {
+    let mut n: u32 = 0;
+    for i in 0..room.len() {
         if room[i] == x {
-            n += 1;
+            n = std::num::wrapping_add_u32(n, 1);
         }
     }
     n
 }
 
 // How many places of the f32 room hold x, by its bits.
-fn places_f32(room: &[f32; 3010], x: f32) -> u32 {
-    let mut n = 0;
-    for i in 0..3010 {
+fn places_f32(room: &[f32], x: f32) -> u32 {
+    let mut n: u32 = 0;
+    for i in 0..room.len() {
         if bits_of(room[i]) == bits_of(x) {
-            n += 1;
+            n = std::num::wrapping_add_u32(n, 1);
         }
     }
     n
 }
 
 // How many places of the u32 and f32 room hold 0, and how many still 7.
-pub(crate) fn print_room(counts: &[u32; 3010], weights: &[f32; 3010]) {
+pub fn print_room(counts: &[u32], weights: &[f32]) {
     let wholes = [
         places_u32(counts, 0),
         places_u32(counts, 7),
@@ -41,18 +41,18 @@ pub(crate) fn print_room(counts: &[u32; 3010], weights: &[f32; 3010]) {
 }
 
 // How many places of the i64 room hold x.
-fn places_i64(room: &[i64; 5014], x: i64) -> u32 {
-    let mut n = 0;
-    for i in 0..5014 {
+fn places_i64(room: &[i64], x: i64) -> u32 {
+    let mut n: u32 = 0;
+    for i in 0..room.len() {
         if room[i] == x {
-            n += 1;
+            n = std::num::wrapping_add_u32(n, 1);
         }
     }
     n
 }
 
 // The same of the i64 room, after the other two.
-pub(crate) fn print_sums(sums: &[i64; 5014]) {
+pub fn print_sums(sums: &[i64]) {
     let wholes = [places_i64(sums, 0), places_i64(sums, 7)];
     let none = [0.0f32; 1];
     print_form(b"; % i64 hold 0, % hold 7", &wholes, &none);

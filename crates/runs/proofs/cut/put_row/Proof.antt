@@ -1,8 +1,8 @@
 -- `put_row`: the column stays below the number of squares.
 use Prim.Native.Nat.{_≤_, _-_}
 use borrow.Author.Needs.{needs}
-use Rattle.worked.proofs.cut.put_row.Statement.{statement}
-use Rattle.worked.proofs.cut.put_row.Tie as tie
+use Rattle.runs.proofs.cut.put_row.Statement.{statement}
+use Rattle.runs.proofs.cut.put_row.Tie as tie
 
 abbrev Inv-loop : tie.InvT-loop
 Inv-loop rows₀ cols₀ orientations₀ bits₀ n row squares orientation h v transform r c count₀ col₀ rows cols orientations bits count col = col ≤ squares

@@ -8,8 +8,8 @@ use mir.Syntax.{w64}
 use mir.Val.{Fits}
 use Rattle.laws.specs.Signed.{read, fit-at, read-at}
 use Rattle.likelihood.specs.Signs.{read-size, minus-read, cast-size}
-use Rattle.worked.proofs.print.print_whole.Statement.{statement}
-use Rattle.worked.proofs.print.print_whole.Tie as tie
+use Rattle.runs.proofs.print.print_whole.Statement.{statement}
+use Rattle.runs.proofs.print.print_whole.Tie as tie
 
 slice-aggregate-print : tie.Need-slice-aggregate-print
 slice-aggregate-print c = search needs

@@ -19,14 +19,14 @@ use refusals::Refusal;
 use slices::page::blank;
 
 // Line k of a text, counted from 0.
-pub(crate) fn print_line(lines: &[u8], k: u32) {
+pub fn print_line(lines: &[u8], k: u32) {
     let mut page = blank();
     let n = put_line(&mut page, 0, lines, k);
     say(&page, n);
 }
 
 // n in decimal digits, with its sign.
-pub(crate) fn print_whole(n: i64)
+pub fn print_whole(n: i64)
     requires { ⌜ natAbs n ≤ 2 ^ 53 ⌝ }
 {
     if n < 0 {
@@ -130,7 +130,7 @@ fn print_refused(refusal: Refusal) {
 }
 
 // All that hard decode answers; a refusal is its number and its place alone.
-pub(crate) fn print_answer(a: Answer) {
+pub fn print_answer(a: Answer) {
     match a {
         Answer::Found(d) => print_found(d),
         Answer::Refused(r) => print_refused(r),
@@ -138,7 +138,7 @@ pub(crate) fn print_answer(a: Answer) {
 }
 
 // The same of soft decode.
-pub(crate) fn print_soft_answer(a: SoftAnswer) {
+pub fn print_soft_answer(a: SoftAnswer) {
     match a {
         SoftAnswer::Found(d) => print_soft_found(d),
         SoftAnswer::Refused(r) => print_refused(r),
@@ -146,7 +146,7 @@ pub(crate) fn print_soft_answer(a: SoftAnswer) {
 }
 
 // What the checks say of a call: the number of its refusal and its place, or 0 where it is accepted.
-pub(crate) fn print_admission(a: Admission) {
+pub fn print_admission(a: Admission) {
     match a {
         Admission::Accepted => print_number(0),
         Admission::Refused(r) => print_number_and_place(r),
@@ -154,7 +154,7 @@ pub(crate) fn print_admission(a: Admission) {
 }
 
 // What match statistics answer.
-pub(crate) fn print_stats(s: StatsAnswer) {
+pub fn print_stats(s: StatsAnswer) {
     match s {
         StatsAnswer::Counted(m) => {
             let wholes = [m.edges, m.hits];

@@ -1,19 +1,21 @@
 -- `fill_patterns`: below i every entry is a pattern.
+use mathlib.Core.Path.{_≡_, refl}
 use Prim.Native.Nat.{_≤_, _-_}
 use native.Mathlib.Omega.{arith}
+use lib.ListN.{length}
 use borrow.Author.Needs.{needs}
-use Rattle.worked.specs.Given.{Made, made-more}
-use Rattle.worked.proofs.cut.fill_patterns.Statement.{statement}
-use Rattle.worked.proofs.cut.fill_patterns.Tie as tie
+use Rattle.runs.specs.Made.{Made, made-more}
+use Rattle.runs.proofs.cut.fill_patterns.Statement.{statement}
+use Rattle.runs.proofs.cut.fill_patterns.Tie as tie
 
 abbrev Inv-loop : tie.InvT-loop
-Inv-loop table₀ seed x₀ i₀ table x i = (i ≤ 167) × Made table i
+Inv-loop table₀ seed x₀ i₀ i-end table x i = (i ≤ i-end) × (i-end ≡ length table₀) × Made table (length table₀) i
 
 abbrev μ-loop : tie.MeasureT-loop
-μ-loop table₀ seed x₀ i₀ table x i = 167 - i
+μ-loop table₀ seed x₀ i₀ i-end table x i = i-end - i
 
 loop-holds : tie.Need-loop-holds Inv-loop μ-loop
-loop-holds c = (omega arith, record { size = c .before .pre; small = λ i h. absurd (omega arith) })
+loop-holds c = (omega arith, refl, record { size = refl; small = λ i h. absurd (omega arith) })
 
 next-random-requires : tie.Need-next-random-requires Inv-loop μ-loop
 next-random-requires c κs = search needs
@@ -31,13 +33,14 @@ loop-less : tie.Need-loop-less Inv-loop μ-loop
 loop-less c = search needs
 
 loop-again : tie.Need-loop-again Inv-loop μ-loop
-loop-again c = let l = c .before .before .before .loop in (omega arith, made-more (l .table) (l .i) (c .pattern-of .result) (l .inv .1) (omega arith) (c .pattern-of .ensures))
+loop-again c =
+    let l = c .before .before .before .loop in (omega arith, refl, made-more (l .table) _ (l .i) (c .pattern-of .result) (l .inv .2) (c .before .before .loop-test .taken) (c .pattern-of .ensures))
 
 same-length : tie.Need-same-length Inv-loop μ-loop
 same-length c = search needs
 
 returns : tie.Need-returns Inv-loop μ-loop
-returns c = let m = c .before .loop .inv .1 in record { size = m .size; small = λ k h. m .small k (omega arith) }
+returns c = let m = c .before .loop .inv .2 in record { size = m .size; small = λ k h. m .small k (omega arith) }
 
 pub fill-patterns-spec : {M : Type 1} → statement M
 fill-patterns-spec =

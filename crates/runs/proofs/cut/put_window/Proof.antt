@@ -1,8 +1,8 @@
 -- `put_window`: the row stays below the number of squares.
 use Prim.Native.Nat.{_≤_, _-_}
 use borrow.Author.Needs.{needs}
-use Rattle.worked.proofs.cut.put_window.Statement.{statement}
-use Rattle.worked.proofs.cut.put_window.Tie as tie
+use Rattle.runs.proofs.cut.put_window.Statement.{statement}
+use Rattle.runs.proofs.cut.put_window.Tie as tie
 
 abbrev Inv-loop : tie.InvT-loop
 Inv-loop rows₀ cols₀ orientations₀ bits₀ squares h v transform r c count₀ row₀ rows cols orientations bits count row = row ≤ squares

@@ -2,9 +2,11 @@
 //! own, and so it can call the steps that the decoders keep to themselves: `BoardRect` hands them out. Nothing here decides
 //! anything; each function calls a step of the given files and hands back what it said.
 
-use super::{DecodeOutcome, HardRunnerUp, SoftLlConfig};
+use super::tables::{transform_observations, ClassRange, ClassTables};
+use super::{CodeGeometry, DecodeOutcome, HardRunnerUp, SoftLlConfig};
 use crate::code_maps::PuzzleBoardObservedEdge;
 use calib_targets_core::GridTransform;
+use plain::Cells;
 
 pub(crate) fn decode_fixed_board() {}
 pub(crate) fn decode_fixed_board_soft() {}
@@ -31,5 +33,36 @@ impl BoardRect {
     /// An edge's two likelihoods.
     pub(crate) fn likelihoods(confidence: f32, cfg: &SoftLlConfig) -> (f32, f32) {
         super::ll_pair(confidence, cfg.kappa, cfg.per_bit_floor)
+    }
+
+    /// The class tables of a list under one transform, every class, over a pole's horizontal patterns and the map's vertical ones.
+    pub(crate) fn tables(
+        h: &[u8],
+        list: &[PuzzleBoardObservedEdge],
+        transform: &GridTransform,
+        cfg: &SoftLlConfig,
+    ) -> Cells {
+        Self::built(&CodeGeometry::pole(h), list, transform, cfg)
+    }
+
+    /// The same over both of the map's own tables.
+    pub(crate) fn flat_tables(list: &[PuzzleBoardObservedEdge], transform: &GridTransform, cfg: &SoftLlConfig) -> Cells {
+        Self::built(&CodeGeometry::master(), list, transform, cfg)
+    }
+
+    fn built(
+        geometry: &CodeGeometry<'_>,
+        list: &[PuzzleBoardObservedEdge],
+        transform: &GridTransform,
+        cfg: &SoftLlConfig,
+    ) -> Cells {
+        let mut tables = ClassTables::new(geometry, true);
+        let transformed = transform_observations(list, transform);
+        tables.build(geometry, &transformed, &ClassRange::full(geometry), Some(cfg));
+        Cells {
+            counts: [tables.h_count, tables.v_count].concat(),
+            weights: [tables.h_weight, tables.v_weight].concat(),
+            sums: [tables.h_ll, tables.v_ll].concat(),
+        }
     }
 }

@@ -20,7 +20,7 @@ use calib_targets_core::{GridTransform, LatticeKind};
 use code_maps::{EdgeOrientation, PuzzleBoardObservedEdge};
 use detector::consensus::EdgeConsensus;
 use detector::decode::{BoardRect, DecodeOutcome, HardRunnerUp, SoftLlConfig};
-use plain::{Case, Edge, Found, Selected, Soft, Square, Stats, EITHER, MATRICES};
+use plain::{Case, Cells, Edge, Found, Selected, Soft, Square, Stats, EITHER, MATRICES};
 
 fn edge(e: &Edge) -> PuzzleBoardObservedEdge {
     PuzzleBoardObservedEdge {
@@ -235,6 +235,18 @@ impl Ready {
             runner_hits: next.matched,
             runner: runner(&next),
         })
+    }
+
+    /// The cells of the physical list's class tables under a transform, over a pole's horizontal table.
+    pub fn cells(&self, h: &[u8], t: u8) -> Cells {
+        calib_targets_core::set_likelihood(self.soft.likelihood);
+        BoardRect::tables(h, &self.physical, &transform(t), &config(&self.soft))
+    }
+
+    /// The same over both of the map's own tables.
+    pub fn flat_cells(&self, t: u8) -> Cells {
+        calib_targets_core::set_likelihood(self.soft.likelihood);
+        BoardRect::flat_tables(&self.physical, &transform(t), &config(&self.soft))
     }
 
     /// Match statistics of the physical list.

@@ -3,7 +3,7 @@
 use crate::{true_bit, votes, Case, Edge, Likelihood, Random, Soft, Square};
 
 /// One of these.
-fn pick<T: Copy>(r: &mut Random, from: &[T]) -> T {
+pub(crate) fn pick<T: Copy>(r: &mut Random, from: &[T]) -> T {
     from[r.below(from.len() as u64) as usize]
 }
 
@@ -13,7 +13,7 @@ pub fn placing(r: &mut Random) -> Square {
 
 /// Transform lists in search order: the four rotations, all eight, one alone, any, and one that comes twice. The true one is mostly listed.
 /// A light list is mostly of one or two.
-fn transforms(r: &mut Random, truth: u32, light: bool) -> Vec<u8> {
+pub(crate) fn transforms(r: &mut Random, truth: u32, light: bool) -> Vec<u8> {
     if light && !r.once_in(3) {
         let mut list = vec![truth as u8, r.below(8) as u8];
         list.rotate_left(r.below(2) as usize);
@@ -51,7 +51,7 @@ fn confidence(r: &mut Random, style: u64) -> f32 {
 }
 
 /// What the soft scorer is given: mostly the Rust's own numbers, else scattered likelihoods of every size.
-fn soft(r: &mut Random) -> Soft {
+pub(crate) fn soft(r: &mut Random) -> Soft {
     let seed = r.next() as u32;
     let scale = pick(r, &[1.0, 0.25, 6.0, 65536.0, 1e-6, 1e-7]);
     let margin = pick(r, &[0.02, 0.02, 0.02, 0.0, 0.0, 0.0, 0.1, 1e-4, 1.0]);
@@ -63,7 +63,7 @@ fn soft(r: &mut Random) -> Soft {
 }
 
 /// The error limit; now and then exactly the rate of some number of misses.
-fn limit(r: &mut Random, edges: usize) -> f32 {
+pub(crate) fn limit(r: &mut Random, edges: usize) -> f32 {
     let any = r.unit();
     let rate = r.below(1 + edges as u64 / 4) as f32 / edges.max(1) as f32;
     pick(r, &[0.3, 0.3, 0.3, 0.4, 0.1, 0.0, 1.0, 1.0, rate, any])
@@ -91,8 +91,13 @@ fn corner(r: &mut Random) -> i32 {
     }
 }
 
-/// The edges of a window as a camera at the placing sees them: some left out, some bits wrong.
+/// The edges of a window as a camera at the placing sees them.
 pub fn window(r: &mut Random, map: usize, at: &Square, squares: i32) -> Vec<Edge> {
+    seen(r, squares, |e| true_bit(map, e, at))
+}
+
+/// The edges of a window whose true bits these are: some left out, some bits wrong.
+pub fn seen(r: &mut Random, squares: i32, bit: impl Fn(&Edge) -> u8) -> Vec<Edge> {
     let style = r.below(6);
     let wrong = pick(r, &[0, 0, 0, 10, 50, 100, 200]);
     let missing = pick(r, &[0, 0, 100, 400]);
@@ -106,7 +111,7 @@ pub fn window(r: &mut Random, map: usize, at: &Square, squares: i32) -> Vec<Edge
                 }
                 let e = Edge { row: row0 + row, col: col0 + col, orientation, bit: 0, confidence: confidence(r, style) };
                 let flip = u8::from(r.below(1000) < wrong);
-                edges.push(Edge { bit: true_bit(map, &e, at) ^ flip, ..e });
+                edges.push(Edge { bit: bit(&e) ^ flip, ..e });
             }
         }
     }

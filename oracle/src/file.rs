@@ -4,8 +4,12 @@
 //! - 0: two pattern tables, horizontal then vertical, each a length and its entries, for all calls that follow.
 //! - 1 hard decode, 2 soft decode, 3 match statistics of the physical list, 4 hard selection on the logical list before the gate:
 //!   a call (see `Call`), then the answer's 17 words.
+//!
+//! A file of cells, which the program `poletables` reads, is of such words too. First the number of entries. Then each: two pattern tables, the columns of a list, its
+//! likelihoods of a match and of a mismatch (each a length and its entries), a transform, and the cells of its class tables, horizontal then vertical: all
+//! counts, all weights, and all sums. A sum is two words, of which the higher has the sign as its highest bit.
 
-use crate::{Case, Edge, Found, Selected, Square, Stats};
+use crate::{Case, Cells, Edge, Found, Selected, Square, Stats};
 
 pub const TABLES: u32 = 0;
 pub const HARD: u32 = 1;
@@ -235,12 +239,40 @@ impl File {
         self.words.extend(column);
     }
 
-    pub fn tables(&mut self, h: &[u8], v: &[u8]) {
-        self.entries += 1;
-        self.words.push(TABLES);
+    fn list(&mut self, list: &Columns) {
+        for column in [&list.rows, &list.cols, &list.orientations, &list.bits, &list.confidences] {
+            self.column(column);
+        }
+    }
+
+    fn patterns(&mut self, h: &[u8], v: &[u8]) {
         for table in [h, v] {
             let entries: Vec<u32> = table.iter().map(|&p| p as u32).collect();
             self.column(&entries);
+        }
+    }
+
+    pub fn tables(&mut self, h: &[u8], v: &[u8]) {
+        self.entries += 1;
+        self.words.push(TABLES);
+        self.patterns(h, v);
+    }
+
+    /// An entry of a file of cells.
+    pub fn cells(&mut self, h: &[u8], v: &[u8], edges: &[Edge], likelihoods: &[(f32, f32)], transform: u8, cells: &Cells) {
+        self.entries += 1;
+        self.patterns(h, v);
+        self.list(&Columns::of(edges));
+        for likelihood in [|p: &(f32, f32)| p.0.to_bits(), |p: &(f32, f32)| p.1.to_bits()] {
+            let column: Vec<u32> = likelihoods.iter().map(likelihood).collect();
+            self.column(&column);
+        }
+        self.words.push(transform as u32);
+        self.words.extend(&cells.counts);
+        self.words.extend(cells.weights.iter().map(|w| w.to_bits()));
+        for &sum in &cells.sums {
+            let size = sum.unsigned_abs();
+            self.words.extend([u32::from(sum < 0) << 31 | (size >> 32) as u32, size as u32]);
         }
     }
 
@@ -249,9 +281,7 @@ impl File {
         self.words.push(call.kind);
         self.words.extend(call.room);
         for list in [&call.logical, &call.physical] {
-            for column in [&list.rows, &list.cols, &list.orientations, &list.bits, &list.confidences] {
-                self.column(column);
-            }
+            self.list(list);
         }
         for column in [&call.matches, &call.mismatches, &call.transforms] {
             self.column(column);

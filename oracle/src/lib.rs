@@ -4,7 +4,9 @@
 //! (`EITHER` where the Rust's own steps do not tell 13 from 15). `Ready` is for timing: a case of maps 0 in the given files' own types.
 
 pub mod cases;
+pub mod count;
 pub mod file;
+pub mod poles;
 
 pub use m0::{list_likelihoods, Ready};
 pub use plain::*;
@@ -70,6 +72,16 @@ pub fn selection(case: &Case) -> Result<Selected, u32> {
 /// Match statistics of the physical list at a placing.
 pub fn stats(case: &Case, at: &Square) -> Stats {
     with_maps!(case.map, m => m::Ready::new(case).stats(at))
+}
+
+/// The cells of the physical list's class tables under a transform, over a pole's horizontal table and the vertical one of the case's maps.
+pub fn cells(case: &Case, h: &[u8], transform: u8) -> Cells {
+    with_maps!(case.map, m => m::Ready::new(case).cells(h, transform))
+}
+
+/// The same over both tables of the case's maps: the flat board.
+pub fn flat_cells(case: &Case, transform: u8) -> Cells {
+    with_maps!(case.map, m => m::Ready::new(case).flat_cells(transform))
 }
 
 /// Match and mismatch likelihood of each physical edge.

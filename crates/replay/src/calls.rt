@@ -2,14 +2,6 @@
 use crate::answers::words_of;
 use crate::answers::words_of_selection;
 use crate::answers::words_of_stats;
-use crate::columns::FIFTH;
-use crate::columns::FIRST;
-use crate::columns::FOURTH;
-use crate::columns::SECOND;
-use crate::columns::SEVENTH;
-use crate::columns::SIXTH;
-use crate::columns::Sizes;
-use crate::columns::THIRD;
 use crate::selection::select;
 use slices::part::part_f32;
 use slices::part::part_i32;
@@ -17,6 +9,14 @@ use slices::part::part_u8;
 use slices::part::room_f32;
 use slices::part::room_i64;
 use slices::part::room_u32;
+use wordfile::columns::FIFTH;
+use wordfile::columns::FIRST;
+use wordfile::columns::FOURTH;
+use wordfile::columns::SECOND;
+use wordfile::columns::SEVENTH;
+use wordfile::columns::SIXTH;
+use wordfile::columns::Sizes;
+use wordfile::columns::THIRD;
 
 // How much room a call is lent.
 pub struct Room {
@@ -59,8 +59,8 @@ fn hard_call(
     bytes: &[u8],
     floats: &[f32],
 ) -> [u32; 17] {
-    let mut counts = [7u32; 3010];
-    let mut weights = [7.0f32; 3010];
+    let mut counts = [7u32; 6007];
+    let mut weights = [7.0f32; 6007];
     let answer = decode_hard::decode_hard(
         part_i32(wholes, FIRST, l.rows),
         part_i32(wholes, SECOND, l.cols),
@@ -94,9 +94,9 @@ fn soft_call(
     bytes: &[u8],
     floats: &[f32],
 ) -> [u32; 17] {
-    let mut counts = [7u32; 3010];
-    let mut weights = [7.0f32; 3010];
-    let mut sums = [7i64; 5014];
+    let mut counts = [7u32; 6007];
+    let mut weights = [7.0f32; 6007];
+    let mut sums = [7i64; 10009];
     let answer = decode_soft::decode_soft(
         part_i32(wholes, FIRST, l.rows),
         part_i32(wholes, SECOND, l.cols),
@@ -155,8 +155,8 @@ fn selection_call(
     bytes: &[u8],
     floats: &[f32],
 ) -> [u32; 17] {
-    let mut counts = [7u32; 3010];
-    let mut weights = [7.0f32; 3010];
+    let mut counts = [7u32; 6007];
+    let mut weights = [7.0f32; 6007];
     let transforms = part_u8(bytes, FIFTH, n.transforms);
     let answer = select(
         part_i32(wholes, FIRST, l.rows),

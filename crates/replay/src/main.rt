@@ -1,7 +1,5 @@
 // Runs stored cases through the public library and compares every word of every answer. Each argument is a file of cases and answers (its form is in oracle/src/file.rs).
 // Of each it writes how many cases there are by kind and by refusal number, every difference, and how many there were. What it writes is held to the file `stdout`.
-mod words; // words of a file, as numbers, coordinates and floats
-mod columns; // columns of words
 mod answers; // an answer as seventeen words
 mod selection; // selection before the gate
 mod calls; // one call of the library

@@ -4,24 +4,23 @@ use crate::calls::Lengths;
 use crate::calls::Room;
 use crate::calls::Settings;
 use crate::calls::call;
-use crate::columns::FIFTH;
-use crate::columns::FIRST;
-use crate::columns::FOURTH;
-use crate::columns::SECOND;
-use crate::columns::SEVENTH;
-use crate::columns::SIXTH;
-use crate::columns::THIRD;
-use crate::columns::read_answer;
-use crate::columns::read_f32;
-use crate::columns::read_list;
-use crate::columns::read_u8;
 use crate::tally::compare;
 use crate::tally::show;
-use crate::words::Cursor;
-use crate::words::float;
-use crate::words::next_word;
-use crate::words::octet;
-use console::print::print;
+use wordfile::columns::FIFTH;
+use wordfile::columns::FIRST;
+use wordfile::columns::FOURTH;
+use wordfile::columns::SECOND;
+use wordfile::columns::SEVENTH;
+use wordfile::columns::SIXTH;
+use wordfile::columns::THIRD;
+use wordfile::columns::read_f32;
+use wordfile::columns::read_list;
+use wordfile::columns::read_u8;
+use wordfile::named::open_named;
+use wordfile::words::Cursor;
+use wordfile::words::float;
+use wordfile::words::next_word;
+use wordfile::words::octet;
 
 // Where the file stands, and the lengths of the two tables that it gave last.
 pub struct Place {
@@ -72,6 +71,24 @@ fn read_settings(buf: &mut [u8; 65536], c: Cursor) -> Set {
     };
     let next = col.next;
     Set { settings, next }
+}
+
+// The seventeen words of an answer, and where the next word stands.
+pub struct Expected {
+    pub words: [u32; 17],
+    pub next: Cursor,
+}
+
+// An answer.
+fn read_answer(buf: &mut [u8; 65536], c: Cursor) -> Expected {
+    let mut words = [0u32; 17];
+    let mut next = c;
+    for i in 0..17 {
+        let w = next_word(buf, next);
+        next = w.next;
+        words[i] = w.value;
+    }
+    Expected { words, next }
 }
 
 // A call: it is read, made, and its answer compared with the stored one.
@@ -183,14 +200,8 @@ fn run(fd: i32) {
 
 // The file that argument i names.
 pub(crate) fn run_file(i: usize) {
-    let mut path = io::buffer();
-    let length = os::arg(i, &mut path);
-    print(b"== ");
-    print(&path[..length]);
-    print(b"\n");
-    let fd = os::open_read(&path[..length]);
+    let fd = open_named(i);
     if fd < 0 {
-        os::fail(&path[..length]);
         return;
     }
     run(fd);

@@ -14,21 +14,7 @@ use Rattle.laws.specs.WeightLaws.{confidence}
 use Rattle.board.specs.Hits.{EdgeList, edges, tables}
 use Rattle.board.specs.Domain.{ListOk, Patterns}
 use Rattle.tables.specs.Built.{TablesReady}
-
--- 167 entries, the first n of them three-bit patterns
-pub record Made (ps : List ℕ) (n : ℕ) : Type 0 where
-  pub size : length ps ≡ 167
-  pub small : (i : ℕ) → i < n → getD ps i 0 < 8
-
-module _ (ps : List ℕ) (n x : ℕ) (m : Made ps n) (h : n < 167) (s : x < 8) where
-  -- the entry at i after pattern x was put at n
-  at : (i : ℕ) → (i ≡ n) ⊎ (i < n) → getD (set ps n x) i 0 < 8
-  at i (inl e) = rw (e, getD-set-same ps n x 0 (omega (arith, m .size))) s
-  at i (inr l) = rw (getD-set-other ps n i x 0 (λ e. omega arith)) (m .small i l)
-
-  -- one pattern more
-  pub made-more : Made (set ps n x) (n + 1)
-  made-more = record { size = length-set ps n x ∙ m .size; small = λ i l. at i (eq-or-lt-of-le (omega arith)) }
+use Rattle.runs.specs.Made.{Made}
 
 -- the list: six edges, their confidences 0.5, 0.3, 1, 0.1, 0.7 and 0.2 to the nearest f32
 abbrev pub given : EdgeList
@@ -61,7 +47,7 @@ given-ok = record {
       six _ (confidence (ofBits binary32 1056964608) tt tt) (confidence (ofBits binary32 1050253722) tt tt) (confidence (ofBits binary32 1065353216) tt tt) (confidence (ofBits binary32 1036831949) tt tt) (confidence (ofBits binary32 1060320051) tt tt) (confidence (ofBits binary32 1045220557) tt tt);
 }
 
-patterns : (ps : List ℕ) → Made ps 167 → Patterns ps
+patterns : (ps : List ℕ) → Made ps 167 167 → Patterns ps
 patterns ps m = record {
   some = omega (arith, m .size);
   few = omega (arith, m .size);
@@ -73,7 +59,7 @@ patterns ps m = record {
     third e = let z : _≡_ {A = ℕ} 2 0 = e in omega arith
 
 -- `build_tables` may be called
-pub ready : (h v : List ℕ) (t : ℕ) (c : List ℕ) (w : List Float) → Made h 167 → Made v 167 → t < 8 → length c ≡ 3006 → length w ≡ 3006 → TablesReady (tables h v) given t c w
+pub ready : (h v : List ℕ) (t : ℕ) (c : List ℕ) (w : List Float) → Made h 167 167 → Made v 167 167 → t < 8 → length c ≡ 3006 → length w ≡ 3006 → TablesReady (tables h v) given t c w
 ready h v t c w mh mv ht hc hw = record {
   list = given-ok;
   board = record { h = patterns h mh; v = patterns v mv };

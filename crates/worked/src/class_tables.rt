@@ -5,11 +5,11 @@ ghost use Prim.Native.Nat.{_<_, _≤_};
 ghost use lib.ListN.{length};
 ghost use Rattle.board.specs.Hits.{edges, tables};
 ghost use Rattle.tables.specs.Built.{TablesReady};
-use crate::cut::fill_patterns;
 use console::print::bits_of;
 use console::print::print;
 use console::print::print_form;
 use console::print::print_long;
+use runs::cut::fill_patterns;
 
 // The next checksum: the one before times 31, plus x.
 fn stir(sum: u64, x: u32) -> u64

@@ -1,10 +1,10 @@
 // Runs the functions of `likelihood` on document 01's numbers and on the numbers at their edges.
 ghost use Prim.Native.Nat.{_≤_, _^_};
 ghost use lib.IntN.{natAbs};
-use crate::print::print_line;
-use crate::print::print_whole;
 use console::print::print;
 use console::print::print_float;
+use runs::print::print_line;
+use runs::print::print_whole;
 
 // What the likelihood x is quantised to.
 fn print_quantised(x: f32) {

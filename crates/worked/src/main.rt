@@ -1,8 +1,5 @@
 // Runs of the library: document 01's numbers and the numbers at their edges, each refusal, and windows of a board. Each section is headed by its name. What
 // it writes is held to the file `stdout`.
-mod print; // answers and signed numbers as text
-mod cut; // boards of our own, and windows cut from them
-mod room; // what a call left in the lent room
 mod likelihoods; // a likelihood as a whole number, and a sum back to a float
 mod refused; // refusals 1 to 9, 16 and 17, alone and by pairs
 mod which_edge; // the edge that a refusal is about

@@ -1,14 +1,14 @@
 // Tries each refusal from 1 to 9, 16 and 17 alone, each pair of neighbours (those of 4, 16 and 17 in `which_edge`), the limits of every range, and NaN, infinities and -0
 // in each float place. A case is a good call with one or two faults, by number; what hard decode, soft decode and match statistics say of it is written in a line.
-use crate::cut::front_f32;
-use crate::cut::front_i32;
-use crate::cut::front_u8;
-use crate::print::print_admission;
-use crate::print::print_line;
-use crate::print::print_stats;
 use answer::StatsAnswer;
 use console::print::print;
 use refusals::Admission;
+use runs::cut::front_f32;
+use runs::cut::front_i32;
+use runs::cut::front_u8;
+use runs::print::print_admission;
+use runs::print::print_line;
+use runs::print::print_stats;
 
 // Whether fault k is one of the two of a case.
 fn on(a: u32, b: u32, k: u32) -> bool {
@@ -170,7 +170,7 @@ fn lengths_of(a: u32, b: u32) -> Lengths {
         pconfidences: pick(on(a, b, 34), 1, physical),
         matches: pick(on(a, b, 35), 1, physical),
         transforms: pick(on(a, b, 71), 0, pick(on(a, b, 72), 9, 8)),
-        h: pick(on(a, b, 82), 166, 167),
+        h: pick(on(a, b, 82), 168, 167),
         v: pick(on(a, b, 83), 168, 167),
         counts: pick(on(a, b, 10), 3005, 3006),
         weights: pick(on(a, b, 11), 3005, 3006),
@@ -336,7 +336,7 @@ fn edges() {
 // Tables, and origins for match statistics.
 fn boards() {
     show_each(
-        b"horizontal pattern 8\nvertical pattern 8\nhorizontal table 166\nvertical table 168",
+        b"horizontal pattern 8\nvertical pattern 8\nhorizontal table 168\nvertical table 168",
         80,
         4,
     );

@@ -1,13 +1,13 @@
 // Which edge a refusal is about: one bad edge of each kind at the first, a middle and the last place of each list; two bad edges of one kind; and two kinds in two
 // lists. Lists have five edges. What hard decode, soft decode and match statistics of the logical list say is written in a line. Positions count from 0.
-use crate::print::print_admission;
-use crate::print::print_stats;
 use answer::StatsAnswer;
 use console::form::put_line;
 use console::form::put_wholes;
 use console::page::say;
 use console::print::print;
 use refusals::Admission;
+use runs::print::print_admission;
+use runs::print::print_stats;
 use slices::page::blank;
 use slices::page::put;
 

@@ -1,17 +1,17 @@
 // Hard decode run on lists of our own: a clean window under each transform, lists that must be refused, and the limits of a list's length. Both lists are the same
 // one, each confidence is 1 and the limit is 1, where a line does not say otherwise. The lent room holds 7 before each call and is four places longer than it need be.
-use crate::cut::fill_ones;
-use crate::cut::fill_patterns;
-use crate::cut::front_f32;
-use crate::cut::front_i32;
-use crate::cut::front_u8;
-use crate::cut::put_window;
-use crate::cut::repeat;
-use crate::cut::turn_bits;
-use crate::print::print_answer;
-use crate::room::print_room;
 use console::print::print;
 use console::print::print_form;
+use runs::cut::fill_ones;
+use runs::cut::fill_patterns;
+use runs::cut::front_f32;
+use runs::cut::front_i32;
+use runs::cut::front_u8;
+use runs::cut::put_window;
+use runs::cut::repeat;
+use runs::cut::turn_bits;
+use runs::print::print_answer;
+use runs::room::print_room;
 
 // Hard decode of the first n edges, with bits and confidences of their own for the physical list, over the first `listed` transforms.
 fn show<'a>(

@@ -89,6 +89,15 @@ pub struct Stats {
     pub mean: f32,
 }
 
+/// The cells of a list's class tables under one transform, horizontal then vertical, each side row by row: how many edges hit, their confidences added, and
+/// the log likelihoods of hits and misses as whole numbers of 2^-24.
+#[derive(Clone, Debug, PartialEq)]
+pub struct Cells {
+    pub counts: Vec<u32>,
+    pub weights: Vec<f32>,
+    pub sums: Vec<i64>,
+}
+
 /// Refusal 13 or 15, where the Rust's own steps do not tell which.
 pub const EITHER: u32 = 1315;
 

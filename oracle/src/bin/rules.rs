@@ -1,10 +1,11 @@
-//! rules FILE WRONG: cases of our own for refusals 1 to 9, 16 and 17, whose answers are document 01's and request C-11's and not the Rust's; and a file
+//! rules FILE WRONG: cases of our own for refusals 1 to 9, 16 and 17, whose answers are document 01's and requests C-11's and C-13's and not the Rust's; and a file
 //! whose answers are wrong on purpose, by which `replay` shows that it reports every word that differs.
 //!
 //! rules FILE: further cases of that kind, which are not stored; `oracle/compare` makes and replays them each time.
 
+use oracle::count::Board;
 use oracle::file::{self, Call, Columns, File, Words};
-use oracle::{Case, Edge, Likelihood, Soft, Square};
+use oracle::{poles, Case, Edge, Likelihood, Soft, Square};
 
 const NAN: u32 = 0x7fc0_0000;
 const INFINITY: u32 = 0x7f80_0000;
@@ -317,10 +318,74 @@ fn wrong_tables(file: &mut File, case: &Case) {
     let longer = |t: &[u8]| [t, &[1]].concat();
     let mut eight = v.clone();
     eight[166] = 8;
-    for (h, v) in [(&h[..166], &v[..]), (&h[..], &v[..166]), (&longer(&h)[..], &v[..]), (&h[..], &eight[..]), (&[][..], &v[..])] {
+    for (h, v) in [(&h[..], &v[..166]), (&longer(&h)[..], &v[..]), (&h[..], &eight[..]), (&[][..], &v[..])] {
         file.tables(h, v);
         for kind in KINDS {
             file.call(&call(kind, case), &file::refused(8));
+        }
+    }
+}
+
+/// The ways in which the room of a kind of call can be one place too short, of the places that it needs.
+fn one_too_few(kind: u32) -> &'static [usize] {
+    match kind {
+        file::STATS => &[],
+        file::SOFT => &[0, 1, 2],
+        _ => &[0, 1],
+    }
+}
+
+/// Request C-13, tables that are taken: each kind of call in room that is just enough (its answer by the count), in room that is one place too short, and the same with
+/// pattern 8 in the table's last place. Match statistics at the last row and column, and at a row and a column past them.
+fn pole_tables(file: &mut File, case: &Case) {
+    let (flat, v) = oracle::patterns(0);
+    for length in [4, 5, 166, 169, 500] {
+        let board = Board { h: (0..length).map(|i| flat[i % 167]).collect(), v: v.clone() };
+        let last = Square { transform: 1, row: board.rows() as i32 - 1, col: 500 };
+        let mut eight = board.h.clone();
+        eight[length - 1] = 8;
+        file.tables(&board.h, &v);
+        for kind in KINDS {
+            let (call, answer) = poles::counted(kind, &board, case, &last);
+            file.call(&call, &answer);
+            for &at in one_too_few(kind) {
+                let mut short = call.clone();
+                short.room[at] -= 1;
+                file.call(&short, &file::refused(1));
+            }
+        }
+        for at in [[1, last.row as u32 + 1, 0], [1, 0, 501]] {
+            let mut past = call(file::STATS, case);
+            past.at = at;
+            file.call(&past, &file::refused(9));
+        }
+        file.tables(&eight, &v);
+        for kind in KINDS {
+            let (mut call, _) = poles::counted(kind, &board, case, &last);
+            file.call(&call, &file::refused(8));
+            if kind != file::STATS {
+                call.room[1] -= 1;
+                file.call(&call, &file::refused(1));
+            }
+        }
+    }
+}
+
+/// Request C-13, lengths that no pole has: refused with 8 in the room of the smallest pole, and with 1 in less.
+fn no_poles(file: &mut File, case: &Case) {
+    let (flat, v) = oracle::patterns(0);
+    for length in [0, 1, 2, 3, 6, 165, 168, 498, 501, 502, 999] {
+        let h: Vec<u8> = (0..length).map(|i| flat[i % 167]).collect();
+        file.tables(&h, &v);
+        for kind in KINDS {
+            let mut call = call(kind, case);
+            call.room = poles::room(4);
+            file.call(&call, &file::refused(8));
+            for &at in one_too_few(kind) {
+                let mut short = call.clone();
+                short.room[at] -= 1;
+                file.call(&short, &file::refused(1));
+            }
         }
     }
 }
@@ -467,6 +532,8 @@ fn main() {
     at_the_ends(&mut rules, &view(6));
     too_long(&mut rules, &case);
     wrong_tables(&mut rules, &case);
+    pole_tables(&mut rules, &case);
+    no_poles(&mut rules, &case);
     rules.write(&words[1]).expect("the file");
     let mut bent = File::default();
     bent.tables(&h, &v);

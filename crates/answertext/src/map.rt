@@ -59,8 +59,8 @@ fn begins(text: &[u8], length: usize) -> bool {
     is_name(text, 0, n, front(&page, n))
 }
 
-// Whether a text begins as a picture does, of a board of some length.
-fn is_picture(text: &[u8]) -> bool {
+// The same of some length.
+fn begins_any(text: &[u8]) -> bool {
     for length in 4..501usize {
         if begins(text, length) {
             return true;
@@ -73,7 +73,7 @@ fn is_picture(text: &[u8]) -> bool {
 fn is_drawn(fd: i32) -> bool {
     let mut first = io::buffer();
     let k = io::read_full(fd, &mut first);
-    k == 0 || is_picture(&first)
+    k == 0 || begins_any(&first)
 }
 
 // The message of a file that the picture would take the place of.

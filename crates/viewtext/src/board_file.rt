@@ -94,14 +94,12 @@ fn expected(tables: u32) -> u32
 // The board with the table that a word is, filled from it; at fault where the word has no table's length, where a byte of it is no digit from 0 to 7, or where more
 // stands on its line.
 fn with_table(s: &[u8], w: Word, board: Board, tables: &mut [u8; 667]) -> Board
+    requires { ⌜ w .from ≤ w .to ⌝ }
     ensures { λ r. ⌜ (Kept (board .tables) (board .length) → Kept (r .tables) (r .length)) ⌝ }
     ensures { λ _. ⌜ (Patterns (now (tables .entry)) → Patterns (now (tables .exit))) ⌝ }
 {
     let from = w.from;
     let to = w.to;
-    if from > to {
-        return board;
-    }
     let n = to - from;
     let second = board.tables == 1;
     if !is_length(n, second) {

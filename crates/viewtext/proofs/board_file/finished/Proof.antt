@@ -1,3 +1,4 @@
+-- `finished`: a board that is not at fault has two tables.
 use native.Mathlib.Omega.{arith}
 use borrow.Author.Needs.{needs}
 use Rattle.viewtext.proofs.board_file.finished.Statement.{statement}

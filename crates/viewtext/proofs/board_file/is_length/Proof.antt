@@ -1,3 +1,4 @@
+-- `is_length`: a case for each table.
 use Rattle.viewtext.specs.Board.{isLength}
 use borrow.Author.Needs.{needs}
 use Rattle.viewtext.proofs.board_file.is_length.Statement.{statement}

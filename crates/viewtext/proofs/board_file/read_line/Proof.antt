@@ -1,3 +1,4 @@
+-- `read_line`: a fault keeps the tables that there are.
 use Rattle.viewtext.specs.Board.{kept-same}
 use borrow.Author.Needs.{needs}
 use Rattle.viewtext.proofs.board_file.read_line.Statement.{statement}

@@ -1,3 +1,4 @@
+-- `start_of`: a case for each table.
 use borrow.Author.Needs.{needs}
 use Rattle.viewtext.specs.Board.{startOf}
 use Rattle.viewtext.proofs.board_file.start_of.Statement.{statement}

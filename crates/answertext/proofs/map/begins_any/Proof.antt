@@ -1,8 +1,8 @@
--- `is_picture`: every length once.
+-- `begins_any`: every length once.
 use Prim.Native.Nat.{_-_, _≤_}
 use borrow.Author.Needs.{needs}
-use Rattle.answertext.proofs.map.is_picture.Statement.{statement}
-use Rattle.answertext.proofs.map.is_picture.Tie as tie
+use Rattle.answertext.proofs.map.begins_any.Statement.{statement}
+use Rattle.answertext.proofs.map.begins_any.Tie as tie
 
 abbrev Inv-loop : tie.InvT-loop
 Inv-loop text length₀ length = length ≤ 501
@@ -31,8 +31,8 @@ loop-again c = search needs
 returns-2 : tie.Need-returns-2 Inv-loop μ-loop
 returns-2 c = search needs
 
-pub is-picture-spec : {M : Type 1} → statement M
-is-picture-spec =
+pub begins-any-spec : {M : Type 1} → statement M
+begins-any-spec =
     tie.close
     (tie.spec
     Inv-loop

@@ -11,7 +11,7 @@ use laws::Periods;
 use refusals::Admission;
 
 // Which square the camera faces by its two edge lists, or a refusal, for all inputs. After the early refusals (1 to 9, 16 and 17) the lent room is untouched; after every other call
-// what was used of it is zero: 3,006 u32 and 3,006 f32.
+// what was used of it is zero: 9L + 1,503 u32 and as many f32, where the horizontal table has L patterns (3,006 on the flat board).
 pub fn decode_hard<'a>(
     lrows: &[i32],
     lcols: &[i32],

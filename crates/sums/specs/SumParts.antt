@@ -1,11 +1,10 @@
 -- What the parts of `build_sums` ask and give: groups of likelihoods, terms, runs, families and sides, as for counts, with two rows of groups.
 use mathlib.Core.Path.{_≡_}
-use mathlib.Core.Bool.{Bool, true, false, not, _&&_, _||_, cond}
-use mathlib.Core.List.{List, [], _∷_}
+use mathlib.Core.Bool.{Bool, false}
+use mathlib.Core.List.{List}
 use Prim.Native.Nat.{ℕ, zero, suc, _+_, _*_, _/_, _%_, _^_, _≤_, _<_}
-use lib.ListN.{getD, length}
+use lib.ListN.{length}
 use lib.IntN.{ℤ, pos, natAbs, _+ℤ_}
-use Rattle.laws.specs.Words.{one, eqZ}
 use Rattle.laws.specs.Zone.{Zone}
 use Rattle.board.specs.Hits.{EdgeList, Board}
 use Rattle.board.specs.Sides.{tableOf, periodOf}
@@ -13,7 +12,6 @@ use Rattle.board.specs.Domain.{EdgesOk, BoardOk}
 use Rattle.room.specs.declared.Side.{Side}
 use Rattle.room.specs.Room.{PeriodsOk, rowLength, isHorizontal, strideOf, acrossOf}
 use Rattle.groups.specs.Fill.{rowSum}
-use Rattle.terms.specs.Terms.{termSum}
 use Rattle.cells.specs.Cells.{longClass, shortClass, cellSum, family}
 use Rattle.cells.specs.Credit.{cellPattern, FamilyPlaces}
 use Rattle.tables.specs.Runs.{RunReadyOf, RunCellsOf}

@@ -45,6 +45,7 @@ SumsFilled L M E X t base n a a' = Zone (pos 0) (rowsSum L M E X t n) base (2 * 
 abbrev pub takesZ : ℤ → ℤ → Type 0
 takesZ x y = natAbs (x +ℤ y) < 2 ^ 63
 
+-- the places of n classes are there, and each cell has room for its term
 abbrev pub RunReadyZ : List (List ℤ) → List ℕ → ℕ → ℕ → ℕ → ℕ → List ℤ → Type 0
 RunReadyZ = RunReadyOf (pos 0) takesZ
 

@@ -1,3 +1,4 @@
+-- Three terms, one for each short class.
 use borrow.Author.Needs.{needs}
 use Rattle.unit_terms.proofs.fold_value_row.Statement.{statement}
 use Rattle.unit_terms.proofs.fold_value_row.Tie as tie

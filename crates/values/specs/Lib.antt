@@ -1,2 +1,3 @@
+pub mod OriginLaws
 pub mod Values
 pub mod ValuesLaws

@@ -4,7 +4,7 @@ use mathlib.Core.List.{List}
 use Prim.Native.Nat.{ℕ, _+_, _*_, _/_, _%_, _^_}
 use lib.Dec.{eqb}
 use lib.ListN.{getD, length}
-use Rattle.laws.specs.Words.{count, firstBest, above, second, origins}
+use Rattle.laws.specs.Words.{count, firstBest, above, second, Grid, origins}
 use Rattle.grid.specs.RowMajor.{rowMajor}
 use Rattle.values.specs.declared.table.ValueMax.{ValueMax}
 
@@ -60,3 +60,10 @@ valueOf xs = valueAround xs (valueBest xs)
 -- the row-major first origin over the pairs of cells of greatest value, as its key
 abbrev pub firstOrigin : ℕ → ℕ → List ℕ → List ℕ → ValueMax → ValueMax → ℕ
 firstOrigin L M hs vs a b = rowMajor (origins L M) (length vs) (tiedValue hs (a .top)) (tiedValue vs (b .top)) (length hs)
+
+-- the value of the origin with the key k, on the grid G: the values of its two cells, added; and that of two best cells
+abbrev pub pairValue : Grid → List ℕ → List ℕ → ℕ → ℕ
+pairValue G hs vs k = vAt hs (G .hOf k) + vAt vs (G .vOf k)
+
+abbrev pub bestValue : ValueMax → ValueMax → ℕ
+bestValue a b = a .top + b .top

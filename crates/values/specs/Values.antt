@@ -4,8 +4,9 @@ use mathlib.Core.List.{List}
 use Prim.Native.Nat.{ℕ, _+_, _*_, _/_, _%_, _^_}
 use lib.Dec.{eqb}
 use lib.ListN.{getD, length}
-use Rattle.laws.specs.Words.{count, firstBest, above, second, Grid, origins}
+use Rattle.laws.specs.Words.{count, firstBest, above, second, Grid, origins, zeroF}
 use Rattle.grid.specs.RowMajor.{rowMajor}
+use Rattle.best.specs.declared.lex.LexMax.{LexMax}
 use Rattle.values.specs.declared.table.ValueMax.{ValueMax}
 
 -- what one hit adds to a value
@@ -67,3 +68,7 @@ pairValue G hs vs k = vAt hs (G .hOf k) + vAt vs (G .vOf k)
 
 abbrev pub bestValue : ValueMax → ValueMax → ℕ
 bestValue a b = a .top + b .top
+
+-- what a table says by hits alone, as document 01's runner-up asks it: a weight is no part of that
+abbrev pub byHits : ValueMax → LexMax
+byHits a = record { cell = a .cell; count = hitsOf (a .top); weight = zeroF; tied = a .held; optimal = a .tied; second = a .second; under = a .under }

@@ -1,9 +1,10 @@
 // One table of values: its first best cell, how many cells are as good, and its second-best cell by hits.
 ghost use mathlib.Core.Path.{_≡_};
-ghost use Prim.Native.Nat.{_<_};
+ghost use Prim.Native.Nat.{_≤_, _<_};
 ghost use lib.ListN.{length};
-ghost use Rattle.values.specs.Values.{hitsOf, valueBest, valueAround, valueOf};
+ghost use Rattle.values.specs.Values.{hitsOf, valueBest, valueAround, valueOf, byHits};
 ghost use Rattle.values.specs.ValuesLaws.{Top};
+use best::lex::LexMax;
 
 // What one hit adds to a value: 2^38, more than all weights of a list together.
 const ONE_HIT: u64 = 274877906944;
@@ -94,4 +95,22 @@ pub fn value_max(values: &[u64]) -> ValueMax
     ensures { λ r. ⌜ r ≡ valueOf (now (values .entry)) ⌝ }
 {
     value_around(values, value_best(values))
+}
+
+// What a table says by hits alone, as document 01's runner-up asks it. Its weight is not asked, and stands as 0.
+pub fn by_hits(a: ValueMax) -> LexMax
+    requires { ⌜ (hitsOf (a .top) ≤ 8192) × (a .under ≤ 8192) ⌝ }
+    ensures { λ r. ⌜ r ≡ byHits a ⌝ }
+{
+    let count = hits_of(a.top) as u32;
+    let under = a.under as u32;
+    LexMax {
+        cell: a.cell,
+        count,
+        weight: 0.0,
+        tied: a.held,
+        optimal: a.tied,
+        second: a.second,
+        under,
+    }
 }

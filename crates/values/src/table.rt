@@ -2,7 +2,7 @@
 ghost use mathlib.Core.Path.{_≡_};
 ghost use Prim.Native.Nat.{_≤_, _<_};
 ghost use lib.ListN.{length};
-ghost use Rattle.values.specs.Values.{hitsOf, valueBest, valueAround, valueOf, byHits};
+ghost use Rattle.values.specs.Values.{hitsOf, weightOf, valueBest, valueAround, valueOf, byHits};
 ghost use Rattle.values.specs.ValuesLaws.{Top};
 use best::lex::LexMax;
 
@@ -24,6 +24,13 @@ pub fn hits_of(value: u64) -> u64
     ensures { λ r. ⌜ r ≡ hitsOf value ⌝ }
 {
     value / ONE_HIT
+}
+
+// The weight of a value, in units.
+pub fn weight_of(value: u64) -> u64
+    ensures { λ r. ⌜ r ≡ weightOf value ⌝ }
+{
+    value % ONE_HIT
 }
 
 // The first cell of greatest value.

@@ -34,3 +34,13 @@ pub fn clear_i64(room: &mut [i64], n: usize)
         room[k] = 0;
     }
 }
+
+// Sets the first n places of a lent u64 slice to 0; the surplus stays as it was.
+pub fn clear_u64(room: &mut [u64], n: usize)
+    requires { ⌜ n ≤ length (now room) ⌝ }
+    ensures { λ _. ⌜ now (room .exit) ≡ cleared 0 n (now (room .entry)) ⌝ }
+{
+    for at in 0..n {
+        room[at] = 0;
+    }
+}

@@ -15,8 +15,8 @@ use Rattle.room.specs.Room.{PeriodsOk, rowLength, isHorizontal, strideOf, acros
 use Rattle.groups.specs.Fill.{rowSum}
 use Rattle.terms.specs.Terms.{termSum}
 use Rattle.cells.specs.Cells.{longClass, shortClass, cellSum, family}
-use Rattle.cells.specs.Spread.{Spread}
-use Rattle.cells.specs.Credit.{runPlace, runTerm, RunPlaces, cellPattern, FamilyPlaces}
+use Rattle.cells.specs.Credit.{cellPattern, FamilyPlaces}
+use Rattle.tables.specs.Runs.{RunReadyOf, RunCellsOf}
 use Rattle.sum_terms.specs.SumTerms.{placesZ, termZ, Twelve}
 use Rattle.sums.specs.Sums.{Likelihoods, matchAt, mismatchAt, LikelihoodsOk}
 
@@ -43,14 +43,16 @@ abbrev pub SumsFilled : ℕ → ℕ → EdgeList → Likelihoods → ℕ → ℕ
 SumsFilled L M E X t base n a a' = Zone (pos 0) (rowsSum L M E X t n) base (2 * rowLength L M) a a'
 
 -- ---- a run of classes
-pub record RunReadyZ (terms : List (List ℤ)) (part : List ℕ) (n at stride across : ℕ) (a : List ℤ) : Type 0 where
-  pub places : RunPlaces part n at stride across
-  pub inside : (j : ℕ) → j < n * 3 → runPlace at stride across j < length a
-  pub fits : (j : ℕ) → j < n * 3 → natAbs (getD a (runPlace at stride across j) (pos 0) +ℤ runTerm (pos 0) terms part j) < 2 ^ 63
+-- a cell takes what keeps it below 2^63 in size
+abbrev pub takesZ : ℤ → ℤ → Type 0
+takesZ x y = natAbs (x +ℤ y) < 2 ^ 63
+
+abbrev pub RunReadyZ : List (List ℤ) → List ℕ → ℕ → ℕ → ℕ → ℕ → List ℤ → Type 0
+RunReadyZ = RunReadyOf (pos 0) takesZ
 
 -- the first q cells have their term added, and nothing else changed
 abbrev pub RunCellsZ : List (List ℤ) → List ℕ → ℕ → ℕ → ℕ → ℕ → List ℤ → List ℤ → Type 0
-RunCellsZ terms part at stride across q a a' = Spread (pos 0) _+ℤ_ (runPlace at stride across) (runTerm (pos 0) terms part) q a a'
+RunCellsZ = RunCellsOf (pos 0) _+ℤ_
 
 -- a run of n classes credited, three cells each
 abbrev pub RunCreditedZ : List (List ℤ) → List ℕ → ℕ → ℕ → ℕ → ℕ → List ℤ → List ℤ → Type 0

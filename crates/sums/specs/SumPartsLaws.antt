@@ -28,14 +28,14 @@ use Rattle.groups.specs.Fill.{placeAt, rowSum}
 use Rattle.terms.specs.Terms.{agrees, termSum}
 use Rattle.cells.specs.Cells.{longClass, shortClass, family}
 use Rattle.tables.specs.CellsLaws.{cell-none, cell-more, zone-family}
-use Rattle.cells.specs.Spread.{spread-none}
-use Rattle.cells.specs.Credit.{runPlace, entry, runTerm, cellPattern}
-use Rattle.cells.specs.LayoutLaws.{stand, short-below}
-use Rattle.cells.specs.RunLaws.{in-run, cell-place, cell-term, cell-fresh, cell-added, pattern-small, first-places, first-inside, first-holds, second-place, second-places, second-inside, second-fresh, second-holds, family-zone}
+use Rattle.cells.specs.Credit.{entry, cellPattern}
+use Rattle.cells.specs.LayoutLaws.{short-below}
+use Rattle.cells.specs.RunLaws.{pattern-small}
+use Rattle.tables.specs.Runs.{first-run, second-run, both-runs}
 use Rattle.tables.specs.SideLaws.{same-groups}
 use Rattle.sums.specs.Sums.{Likelihoods, matchAt, mismatchAt}
 use Rattle.sum_terms.specs.SumTerms.{placesZ, termZ, someSum, TermsZ}
-use Rattle.sums.specs.SumParts.{valueAt, rowsSum, SumsFillReady, SumsFilled, RunReadyZ, RunCellsZ, RunCreditedZ, gainZ, FamilyReadyZ, FamilyCreditedZ, familyZ, cellZ, SideReadyZ, SideCellsZ}
+use Rattle.sums.specs.SumParts.{valueAt, rowsSum, SumsFillReady, SumsFilled, takesZ, RunReadyZ, RunCreditedZ, gainZ, FamilyReadyZ, FamilyCreditedZ, familyZ, cellZ, SideReadyZ, SideCellsZ}
 use Rattle.sum_terms.specs.SumTermsLaws.{no-termZ, same-termZ, terms-atZ}
 use Rattle.sums.specs.SumsLaws.{value-small}
 
@@ -145,31 +145,6 @@ module _ (L M : ℕ) (E : EdgeList) (X : Likelihoods) (t base : ℕ) (a : List �
         pub sums-more : (a''' : List ℤ) → a''' ≡ set a'' (base + p + G) (getD a'' (base + p + G) (pos 0) +ℤ mismatchAt X i) → SumsFilled L M E X t base (i + 1) a a'''
         sums-more a''' f = zone-ext (pos 0) _ _ base (2 * G) a a''' part-2 (row-in 1 one-in a a'' (base + p + G) at-1 half (R .room) a''' f)
 
--- ---- a run, cell by cell
-module _ (terms : List (List ℤ)) (part : List ℕ) (n at stride across : ℕ) (a : List ℤ) (R : RunReadyZ terms part n at stride across a) where
-  pub run-noneZ : RunCellsZ terms part at stride across 0 a a
-  run-noneZ = spread-none (pos 0) _+ℤ_ (runPlace at stride across) _ a
-
-  -- the cell at place k, of short class j of class i, is the q-th
-  module _ (i j q k : ℕ) (x : ℤ) (hi : i < n) (hj : j < 3) (eq : q ≡ i * 3 + j) (ek : k ≡ at + (i * stride + j * across)) (ex : x ≡ entry (pos 0) terms (getD part i 0) j)
-      (a' : List ℤ) (r : RunCellsZ terms part at stride across q a a') where
-    q-in : q < n * 3
-    q-in = in-run part n at stride across (R .places) i j q k hi hj eq ek
-
-    said : x ≡ runTerm (pos 0) terms part q
-    said = cell-term part n at stride across (R .places) i j q k hi hj eq ek (pos 0) terms x ex
-
-    -- it has room for its term
-    pub run-roomZ : (k < length a') × (natAbs (getD a' k (pos 0) +ℤ x) < 2 ^ 63)
-    run-roomZ =
-        let b : runPlace at stride across q < length a' = omega (arith, R .inside q q-in, r .len) in
-        let f : natAbs (getD a' (runPlace at stride across q) (pos 0) +ℤ runTerm (pos 0) terms part q) < 2 ^ 63 = rw (r .rest (runPlace at stride across q) (cell-fresh part n at stride across (R .places) i j q k hi hj eq ek)) (R .fits q q-in) in
-        rw (cell-place part n at stride across (R .places) i j q k hi hj eq ek, said) (b, f)
-
-    -- and has it added
-    pub run-moreZ : (q' : ℕ) → q' ≡ q + 1 → (a'' : List ℤ) → a'' ≡ set a' k (getD a' k (pos 0) +ℤ x) → RunCellsZ terms part at stride across q' a a''
-    run-moreZ q' e a'' p = rw e (cell-added part n at stride across (R .places) i j q k hi hj eq ek (pos 0) _+ℤ_ _ a a' a'' x r (R .inside q q-in) said p)
-
 -- ---- a family, where its terms stand in a table
 module _ (B : Board) (d : Side) (also f : ℕ) (a : List ℤ) (R : FamilyReadyZ B d also f a) (t : List (List ℤ)) (T : TermsZ (placesZ (d .groups + f * 6) a) (placesZ (also + f * 6) a) t) where
   abbrev s : Bool
@@ -194,29 +169,16 @@ module _ (B : Board) (d : Side) (also f : ℕ) (a : List ℤ) (R : FamilyReadyZ 
   gains k h =
       terms-atZ (placesZ (from + f * 6) a) (placesZ (also + f * 6) a) t (cellPattern B s f k) (shortClass B s k) T (pattern-small B d f (R .places) (longClass B s k + f)) (short-below B (side-some B (R .places .board)) k s h)
 
-  abbrev Room : ℕ → ℤ → Type 0
-  Room k x = natAbs (getD a k (pos 0) +ℤ x) < 2 ^ 63
-
   pub first-readyZ : (n : ℕ) → n ≡ n₁ → RunReadyZ t (drop f ps) n cells (d .stride) (d .across) a
-  first-readyZ n e = rw e (record {
-    places = first-places B d f (R .places);
-    inside = first-inside B d f (R .places) (length a) (R .room);
-    fits = first-holds B d f (R .places) (pos 0) t gain gains Room (R .fits);
-  })
+  first-readyZ = first-run (pos 0) _+ℤ_ takesZ B d f (R .places) a (R .room) t gain gains (R .fits)
 
   -- the second run, after the first
   module _ (a₁ : List ℤ) (r₁ : RunCreditedZ t (drop f ps) n₁ cells (d .stride) (d .across) a a₁) where
     pub second-readyZ : (at : ℕ) → at ≡ cells + n₁ * d .stride → RunReadyZ t (drop 0 ps) f at (d .stride) (d .across) a₁
-    second-readyZ at e = rw e (record {
-      places = second-places B d f (R .places);
-      inside = second-inside B d f (R .places) (length a₁) (omega (arith, R .room, r₁ .len));
-      fits = λ j h.
-          rw (second-place B d f (R .places), r₁ .rest (cells + stand B s (n₁ * 3 + j)) (second-fresh B d f (R .places) j h))
-          (second-holds B d f (R .places) (pos 0) t gain gains Room (R .fits) j h);
-    })
+    second-readyZ = second-run (pos 0) _+ℤ_ takesZ B d f (R .places) a (R .room) t gain gains (R .fits) a₁ r₁
 
     pub family-creditedZ : (a₂ : List ℤ) → RunCreditedZ t (drop 0 ps) f (cells + n₁ * d .stride) (d .stride) (d .across) a₁ a₂ → FamilyCreditedZ B d also f a a₂
-    family-creditedZ a₂ r₂ = family-zone B d f (R .places) (pos 0) t gain gains (pos 0) _+ℤ_ (λ x. x) a a₁ a₂ r₁ r₂
+    family-creditedZ = both-runs (pos 0) _+ℤ_ takesZ B d f (R .places) a (R .room) t gain gains (R .fits) a₁ r₁
 
 -- ---- a family whose twelve sums are all 0: nothing is stored
 pub family-emptyZ : (B : Board) (d : Side) (also f : ℕ) (a : List ℤ) → someSum 6 (placesZ (d .groups + f * 6) a) (placesZ (also + f * 6) a) ≡ false → FamilyCreditedZ B d also f a a

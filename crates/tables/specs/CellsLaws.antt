@@ -246,13 +246,17 @@ module _ (B : Board) (E : EdgeList) (t : ℕ) (some : (s : Bool) → 0 < periodO
   cell-count true k = cell-side true (k / 3) (k % 3)
   cell-count false k = cell-side false (k / periodOf B false) (k % periodOf B false)
 
--- ---- all groups of a side have no more edges than the list
-pub total-edges : (B : Board) (E : EdgeList) (t : ℕ) (s : Bool) (n : ℕ) → total (groupCount B E t s) n ≤ size E
+-- ---- all groups of a side hold no more than the list, whatever number edge i adds
+pub total-numbers : (B : Board) (E : EdgeList) (t : ℕ) (x : ℕ → ℕ) (s : Bool) (n : ℕ) → total (groupSum _+_ 0 x B E t s) n ≤ fold _+_ 0 (size E) all x
 unfolding total
-total-edges B E t s n =
+total-numbers B E t x s n =
     le-trans
-    (le-of-eq (regroup _+_ 0 add-zero add-assoc add-comm (n * 6) (size E) (onSide E t s) (groupAt B E t s) all one))
-    (count-le (λ i. onSide E t s i && (ltb (groupAt B E t s i) (n * 6) && true)) (size E))
+    (le-of-eq (regroup _+_ 0 add-zero add-assoc add-comm (n * 6) (size E) (onSide E t s) (groupAt B E t s) all x))
+    (sum-some (λ i. onSide E t s i && (ltb (groupAt B E t s i) (n * 6) && true)) x (size E))
+
+-- so no more edges
+pub total-edges : (B : Board) (E : EdgeList) (t : ℕ) (s : Bool) (n : ℕ) → total (groupCount B E t s) n ≤ size E
+total-edges B E t s n = le-trans (total-numbers B E t one s n) (count-le all (size E))
 
 -- and a group's weight is at most its count
 pub group-upto : (B : Board) (E : EdgeList) (t : ℕ) → size E ≤ 2 ^ 24 → ((i : ℕ) → i < size E → Weight (confidenceAt E i) 1) → (s : Bool) (k : ℕ) → Upto (groupWeight B E t s k) (groupCount B E t s k)

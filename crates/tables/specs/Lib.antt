@@ -1,5 +1,6 @@
 pub mod CellsLaws
 pub mod Built
+pub mod Runs
 pub mod Side
 pub mod SideLaws
 pub mod Stages

@@ -8,6 +8,7 @@ use native.Mathlib.Omega.{arith}
 use lib.Ieee.{Float, nan, binary32, add}
 use Rattle.laws.specs.Words.{fold, all, one, zeroF, cleared}
 use Rattle.laws.specs.Cleared.{cleared-written}
+use Rattle.laws.specs.Counting.{count-le}
 use Rattle.laws.specs.DoubleCounting.{fold-ext}
 use Rattle.laws.specs.WeightLaws.{upto-weight}
 use Rattle.laws.specs.Written.{Written}
@@ -17,11 +18,11 @@ use Rattle.board.specs.Sides.{is, tableOf, periodOf}
 use Rattle.board.specs.HitsLaws.{side-some}
 use Rattle.laws.specs.declared.Periods.{Periods}
 use Rattle.room.specs.declared.Side.{Side}
-use Rattle.groups.specs.Groups.{member, confidenceAt, groupCount, groupWeight}
+use Rattle.groups.specs.Groups.{member, groupSum, confidenceAt, groupCount, groupWeight}
 use Rattle.room.specs.Room.{PeriodsOk, rowLength, cellsAt, cellsEnd, used, isHorizontal, sideOf, Stands, Laid}
 use Rattle.terms.specs.Terms.{placesN, placesF}
-use Rattle.cells.specs.Cells.{longClass, shortClass, cellCount, cellWeight}
-use Rattle.tables.specs.CellsLaws.{same-cell, cell-count, total-edges, group-upto}
+use Rattle.cells.specs.Cells.{longClass, shortClass, cellSum, familyC, cellCount, cellWeight}
+use Rattle.tables.specs.CellsLaws.{same-cell, cell-count, total-numbers, group-upto}
 use Rattle.groups.specs.Fill.{FillReady, Filled, rowSum}
 use Rattle.groups.specs.FillLaws.{row-side}
 use Rattle.tables.specs.Side.{total, cellC, cellW, SideReady, SideBuilt}
@@ -32,6 +33,43 @@ use Rattle.room.specs.RoomLaws.{board-periods, cells-in, side-stands, groups-in
 pub row-groups : {A : Type 0} (op : A → A → A) (z : A) (f : ℕ → A) (B : Board) (E : EdgeList) (t : ℕ) → 0 < periodOf B true → ((i : ℕ) → i < size E → seen E i < 2) → (s : Bool) (k : ℕ) → k < periodOf B s * 6
     → rowSum op z f (periodOf B true) (periodOf B false) E t (size E) (cond s 0 (periodOf B true * 6) + k) ≡ fold op z (size E) (member B E t s k) f
 row-groups op z f B E t some bits s k h = row-side op z f B E t some bits s k (λ e. subst (λ (x : Bool). k < periodOf B x * 6) e h)
+
+-- filled from clear room: one row of groups stands, and no cells
+pub filled : {A : Type 0} (d z : A) (op : A → A → A) (f : ℕ → A) (B : Board) (E : EdgeList) (t : ℕ) → 0 < periodOf B true → ((i : ℕ) → i < size E → seen E i < 2) → (a₀ a₁ a₂ : List A)
+    → Written d (λ k. z) a₀ a₁ (used (periodOf B) 1)
+    → Zone d (rowSum op z f (periodOf B true) (periodOf B false) E t (size E)) (cellsEnd (periodOf B)) (rowLength (periodOf B true) (periodOf B false)) a₁ a₂
+    → Laid d (periodOf B) 1 (λ s k. z) (λ i. groupSum op z f B E t) a₀ a₂
+filled d z op f B E t some bits a₀ a₁ a₂ u z' =
+    laid-groups d (periodOf B) 1 (λ s k. z) (λ i s k. z) (λ i. groupSum op z f B E t) (rowSum op z f (periodOf B true) (periodOf B false) E t (size E)) a₀ a₁ a₂
+    (laid-clear d (periodOf B) 1 z a₀ a₁ u)
+    (rw (one-mul (rowLength (periodOf B true) (periodOf B false))) z')
+    (λ i l s k h. ap (rowSum op z f (periodOf B true) (periodOf B false) E t (size E)) (only i l s k) ∙ row-groups op z f B E t some bits s k h)
+  where
+    only : (i : ℕ) → i < 1 → (s : Bool) (k : ℕ) → i * rowLength (periodOf B true) (periodOf B false) + (cond s 0 (periodOf B true * 6) + k) ≡ cond s 0 (periodOf B true * 6) + k
+    only zero l s k = ap (λ x. x + (cond s 0 (periodOf B true * 6) + k)) (zero-mul (rowLength (periodOf B true) (periodOf B false))) ∙ zero-add (cond s 0 (periodOf B true * 6) + k)
+    only (suc i) l s k = absurd (omega arith)
+
+-- ---- a side whose groups stand, of counts and of whatever adds up as they do, where edge i adds x i
+module _ (B : Board) (E : EdgeList) (t : ℕ) (x : ℕ → ℕ) (d : Side) (S : Stands (periodOf B) d) (C : Bool → ℕ → ℕ) (a₀ a : List ℕ) (l : Laid 0 (periodOf B) 1 C (λ i. groupSum _+_ 0 x B E t) a₀ a) where
+  abbrev onH : Bool
+  onH = isHorizontal d
+
+  pub grouped : (k : ℕ) → k < periodOf B onH * 6 → placesN (d .groups) a k ≡ groupSum _+_ 0 x B E t onH k
+  grouped k h = ap (λ y. placesN y a k) (S .groups) ∙ l .groups 0 (omega arith) onH k h
+
+  -- its groups hold no more than the list
+  pub grouped-few : total (placesN (d .groups) a) (periodOf B onH) ≤ fold _+_ 0 (size E) all x
+  unfolding total
+  grouped-few = le-trans (le-of-eq (fold-ext _+_ 0 (periodOf B onH * 6) all all (placesN (d .groups) a) (groupSum _+_ 0 x B E t onH) (λ k l. refl) grouped)) (total-numbers B E t x onH (periodOf B onH))
+
+  -- built: its cells stand too, and hold Q, if that is what the families add up to
+  pub side-numbers : (Q : ℕ → ℕ) → ((k : ℕ) → cellSum _+_ 0 (familyC (groupSum _+_ 0 x B E t onH)) (tableOf B onH) (periodOf B onH) (longClass B onH k) (shortClass B onH k) ≡ Q k)
+      → (a' : List ℕ) → Zone 0 (cellC B d a (periodOf B onH)) (d .cells) (3 * periodOf B onH) a a' → Laid 0 (periodOf B) 1 (λ s k. cond (is onH s) (Q k) (C s k)) (λ i. groupSum _+_ 0 x B E t) a₀ a'
+  side-numbers Q e a' b =
+      laid-cells 0 (periodOf B) 1 onH C (λ i. groupSum _+_ 0 x B E t) Q a₀ a a' l
+      (zone-ext 0 _ _ (cellsAt (periodOf B) onH) (3 * periodOf B onH) a a'
+      (λ k h. same-cell _+_ 0 false (placesN (d .groups) a) (groupSum _+_ 0 x B E t onH) (λ b. placesN (d .groups) a) (λ b. groupSum _+_ 0 x B E t onH) (periodOf B onH) grouped (λ b. grouped) (tableOf B onH) (longClass B onH k) (shortClass B onH k) ∙ e k)
+      (subst (λ y. Zone 0 (cellC B d a (periodOf B onH)) y (3 * periodOf B onH) a a') (S .cells) b))
 
 -- the horizontal cells, then the vertical ones: the cells of each side
 pub both : {A : Type 0} (C : Bool → ℕ → A) (z : A) (s : Bool) (k : ℕ) → cond (is false s) (C false k) (cond s (C true k) z) ≡ C s k
@@ -77,24 +115,11 @@ module _ (B : Board) (E : EdgeList) (t : ℕ) (c₀ : List ℕ) (w₀ : List Flo
 
     -- filled: the groups stand, and no cells
     module _ (c₂ : List ℕ) (w₂ : List Float) (F : Filled (P true) (P false) E t (cellsEnd P) (size E) c₁ c₂ w₁ w₂) where
-      filled : {A : Type 0} (d z : A) (op : A → A → A) (f : ℕ → A) (a₀ a₁ a₂ : List A) → Written d (λ k. z) a₀ a₁ (used P 1)
-          → Zone d (rowSum op z f (P true) (P false) E t (size E)) (cellsEnd P) (rowLength (P true) (P false)) a₁ a₂
-          → Laid d P 1 (λ s k. z) (λ i s k. fold op z (size E) (member B E t s k) f) a₀ a₂
-      filled d z op f a₀ a₁ a₂ u z' =
-          laid-groups d P 1 (λ s k. z) (λ i s k. z) (λ i s k. fold op z (size E) (member B E t s k) f) (rowSum op z f (P true) (P false) E t (size E)) a₀ a₁ a₂
-          (laid-clear d P 1 z a₀ a₁ u)
-          (rw (one-mul (rowLength (P true) (P false))) z')
-          (λ i l s k h. ap (rowSum op z f (P true) (P false) E t (size E)) (only i l s k) ∙ row-groups op z f B E t (some true) (R .list .bit) s k h)
-        where
-          only : (i : ℕ) → i < 1 → (s : Bool) (k : ℕ) → i * rowLength (P true) (P false) + (cond s 0 (P true * 6) + k) ≡ cond s 0 (P true * 6) + k
-          only zero l s k = ap (λ x. x + (cond s 0 (P true * 6) + k)) (zero-mul (rowLength (P true) (P false))) ∙ zero-add (cond s 0 (P true * 6) + k)
-          only (suc i) l s k = absurd (omega arith)
-
       pub filled-counts : Laid 0 P 1 (λ s k. 0) (λ i. groupCount B E t) c₀ c₂
-      filled-counts = filled 0 0 _+_ one c₀ c₁ c₂ uc (F .counts)
+      filled-counts = filled 0 0 _+_ one B E t (some true) (R .list .bit) c₀ c₁ c₂ uc (F .counts)
 
       pub filled-weights : Laid nan P 1 (λ s k. zeroF) (λ i. groupWeight B E t) w₀ w₂
-      filled-weights = filled nan zeroF (add binary32) (confidenceAt E) w₀ w₁ w₂ uw (F .weights)
+      filled-weights = filled nan zeroF (add binary32) (confidenceAt E) B E t (some true) (R .list .bit) w₀ w₁ w₂ uw (F .weights)
 
   -- a side whose groups stand
   module _ (d : Side) (S : Stands P d) (C : Bool → ℕ → ℕ) (W : Bool → ℕ → Float) (c : List ℕ) (w : List Float)
@@ -106,14 +131,13 @@ module _ (B : Board) (E : EdgeList) (t : ℕ) (c₀ : List ℕ) (w₀ : List Flo
     g = d .groups
 
     groupedC : (k : ℕ) → k < P s * 6 → placesN g c k ≡ groupCount B E t s k
-    groupedC k h = ap (λ x. placesN x c k) (S .groups) ∙ lc .groups 0 (omega arith) s k h
+    groupedC = grouped B E t one d S C c₀ c lc
 
     groupedW : (k : ℕ) → k < P s * 6 → placesF g w k ≡ groupWeight B E t s k
     groupedW k h = ap (λ x. placesF x w k) (S .groups) ∙ lw .groups 0 (omega arith) s k h
 
     few : total (placesN g c) (P s) ≤ 8192
-    unfolding total
-    few = le-trans (le-of-eq (fold-ext _+_ 0 (P s * 6) all all (placesN g c) (groupCount B E t s) (λ k l. refl) groupedC)) (le-trans (total-edges B E t s (P s)) (R .list .few))
+    few = omega (arith, grouped-few B E t one d S C c₀ c lc, count-le all (size E), R .list .few)
 
     -- ready to be built, if its cells are clear
     pub side-ready : ((k : ℕ) → C s k ≡ 0) → ((k : ℕ) → W s k ≡ zeroF) → SideReady B d c w
@@ -131,11 +155,7 @@ module _ (B : Board) (E : EdgeList) (t : ℕ) (c₀ : List ℕ) (w₀ : List Flo
     -- built: the side's cells stand too
     module _ (c' : List ℕ) (w' : List Float) (b : SideBuilt B d c c' w w') where
       pub side-counts : Laid 0 P 1 (λ s' k. cond (is s s') (cellCount B E t s k) (C s' k)) (λ i. groupCount B E t) c₀ c'
-      side-counts =
-          laid-cells 0 P 1 s C (λ i. groupCount B E t) (cellCount B E t s) c₀ c c' lc
-          (zone-ext 0 _ _ (cellsAt P s) (3 * P s) c c'
-          (λ k h. same-cell _+_ 0 false (placesN g c) (groupCount B E t s) (λ b. placesN g c) (λ b. groupCount B E t s) (P s) groupedC (λ b. groupedC) (tableOf B s) (longClass B s k) (shortClass B s k) ∙ cell-count B E t some (R .list .bit) s k)
-          (subst (λ x. Zone 0 (cellC B d c (P s)) x (3 * P s) c c') (S .cells) (b .counts)))
+      side-counts = side-numbers B E t one d S C c₀ c lc (cellCount B E t s) (cell-count B E t some (R .list .bit) s) c' (b .counts)
 
       pub side-weights : Laid nan P 1 (λ s' k. cond (is s s') (cellWeight B E t s k) (W s' k)) (λ i. groupWeight B E t) w₀ w'
       unfolding cellWeight

@@ -42,10 +42,10 @@ module _ (c : ℕ → ℕ) (w : ℕ → Float) (p s j : ℕ) where
   pub term-yes : (b : ℕ) → (c j ≡ 0 → ⊥) → b ≡ bitAt p ((s + j / 2) % 3) → b ≡ j % 2 → Taken
   term-yes b h e k = taken (rw (ne-eqb (c j) 0 h, eq-eqb (bitAt p ((s + j / 2) % 3)) (j % 2) (sym e ∙ k)))
 
--- a count so far, and one group more, is at most that of all six
-pub few-so-far : (c : ℕ → ℕ) (p s j : ℕ) → j < 6 → fold _+_ 0 6 all c ≤ 8192 → termC j c p s + c j ≤ 8192
+-- what there is so far, and one group more, is at most all six together
+pub so-far : (c : ℕ → ℕ) (p s j : ℕ) → j < 6 → termC j c p s + c j ≤ fold _+_ 0 6 all c
 unfolding termSum
-few-so-far c p s j h k =
+so-far c p s j h =
     let a : fold _+_ 0 j (adds false c p s) c ≤ fold _+_ 0 j all c = sum-some (adds false c p s) c j in
     let b : fold _+_ 0 (j + 1) all c ≤ fold _+_ 0 6 all c = sum-mono all c (j + 1) 6 (omega arith) in
     let d : fold _+_ 0 (j + 1) all c ≡ fold _+_ 0 j all c + c j = fold-hit _+_ 0 all c j refl in

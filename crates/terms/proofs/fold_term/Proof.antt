@@ -5,7 +5,7 @@ use native.Mathlib.Omega.{arith}
 use lib.Ieee.{add, binary32}
 use Rattle.laws.specs.Words.{fold}
 use Rattle.terms.specs.Terms.{termSum, termC, termW, term, placesN, placesF}
-use Rattle.terms.specs.TermsLaws.{few-so-far, term-empty, term-no, term-yes}
+use Rattle.terms.specs.TermsLaws.{so-far, term-empty, term-no, term-yes}
 use Rattle.terms.proofs.fold_term.Statement.{statement}
 use Rattle.terms.proofs.fold_term.Tie as tie
 
@@ -45,7 +45,7 @@ add-count c =
     let st = c .before .before .before .before .before .before .before .before in
     let a = st .args in
     let l = c .before .before .before .before .before .loop in
-    omega (arith, l .inv .1, few-so-far (placesN (a .from) (a .counts .now)) (a .pattern) (a .s) (l .j) (omega arith) (st .pre .0 .few))
+    omega (arith, l .inv .1, so-far (placesN (a .from) (a .counts .now)) (a .pattern) (a .s) (l .j) (omega arith), st .pre .0 .few)
 
 mul-weight : tie.Need-mul-weight Inv-loop μ-loop
 mul-weight c = omega arith

@@ -12,8 +12,8 @@ use Rattle.laws.specs.Residues.{below-3}
 use Rattle.laws.specs.Signed.{read}
 use Rattle.cells.specs.Credit.{entry}
 use Rattle.cells.specs.RunLaws.{run-place}
-use Rattle.sums.specs.SumParts.{RunCellsZ}
-use Rattle.sums.specs.SumPartsLaws.{run-noneZ, run-roomZ, run-moreZ}
+use Rattle.tables.specs.Runs.{run-none, run-room, run-more}
+use Rattle.sums.specs.SumParts.{takesZ, RunCellsZ}
 use Rattle.sums.proofs.sums.credit_sum_run.Statement.{statement}
 use Rattle.sums.proofs.sums.credit_sum_run.Tie as tie
 
@@ -24,7 +24,7 @@ abbrev μ-loop : tie.MeasureT-loop
 μ-loop sums₀ part n at stride across terms i₀ sums i = n - i
 
 loop-holds : tie.Need-loop-holds Inv-loop μ-loop
-loop-holds c = (omega arith, run-noneZ _ _ _ _ _ _ _ (c .before .pre))
+loop-holds c = (omega arith, run-none (pos 0) _+ℤ_ takesZ _ _ _ _ _ _ _ (c .before .pre))
 
 shared-slice-read-pattern : tie.Need-shared-slice-read-pattern Inv-loop μ-loop
 shared-slice-read-pattern c = omega arith
@@ -57,10 +57,10 @@ module _ (c : tie.In-loop Inv-loop μ-loop) where
   module _ (back : (j : ℕ) → j < 3 → kept j ≡ termOf j) where
     -- the first cell's room, and the run with it
     room₀ : (cell < length (c .before .loop .sums)) × (natAbs (getD (c .before .loop .sums) cell (pos 0) +ℤ kept 0) < 2 ^ 63)
-    room₀ = run-roomZ _ _ _ _ _ _ _ (st .pre) i 0 (i * 3) cell (kept 0) (c .loop-test .taken) (lit< tt) (omega arith) (omega arith) (back 0 (lit< tt)) _ (c .before .loop .inv .1)
+    room₀ = run-room (pos 0) _+ℤ_ takesZ _ _ _ _ _ _ _ (st .pre) i 0 (i * 3) cell (kept 0) (c .loop-test .taken) (lit< tt) (omega arith) (omega arith) (back 0 (lit< tt)) _ (c .before .loop .inv .1)
 
     more₀ : (a : List ℤ) → a ≡ set (c .before .loop .sums) cell (getD (c .before .loop .sums) cell (pos 0) +ℤ kept 0) → RunCellsZ (st .args .t2) (now (st .args .part)) (st .args .at) (st .args .stride) (st .args .across) (i * 3 + 1) (now (st .args .sums)) a
-    more₀ a p = run-moreZ _ _ _ _ _ _ _ (st .pre) i 0 (i * 3) cell (kept 0) (c .loop-test .taken) (lit< tt) (omega arith) (omega arith) (back 0 (lit< tt)) _ (c .before .loop .inv .1) (i * 3 + 1) refl a p
+    more₀ a p = run-more (pos 0) _+ℤ_ takesZ _ _ _ _ _ _ _ (st .pre) i 0 (i * 3) cell (kept 0) (c .loop-test .taken) (lit< tt) (omega arith) (omega arith) (back 0 (lit< tt)) _ (c .before .loop .inv .1) (i * 3 + 1) refl a p
 
     -- the second
     module _ (a₁ : List ℤ) (p₁ : a₁ ≡ set (c .before .loop .sums) cell (getD (c .before .loop .sums) cell (pos 0) +ℤ kept 0)) where
@@ -68,10 +68,10 @@ module _ (c : tie.In-loop Inv-loop μ-loop) where
       cell₁ = cell + st .args .across
 
       room₁ : (cell₁ < length a₁) × (natAbs (getD a₁ cell₁ (pos 0) +ℤ kept 1) < 2 ^ 63)
-      room₁ = run-roomZ _ _ _ _ _ _ _ (st .pre) i 1 (i * 3 + 1) cell₁ (kept 1) (c .loop-test .taken) (lit< tt) (omega arith) (omega arith) (back 1 (lit< tt)) _ (more₀ a₁ p₁)
+      room₁ = run-room (pos 0) _+ℤ_ takesZ _ _ _ _ _ _ _ (st .pre) i 1 (i * 3 + 1) cell₁ (kept 1) (c .loop-test .taken) (lit< tt) (omega arith) (omega arith) (back 1 (lit< tt)) _ (more₀ a₁ p₁)
 
       more₁ : (a : List ℤ) → a ≡ set a₁ cell₁ (getD a₁ cell₁ (pos 0) +ℤ kept 1) → RunCellsZ (st .args .t2) (now (st .args .part)) (st .args .at) (st .args .stride) (st .args .across) (i * 3 + 2) (now (st .args .sums)) a
-      more₁ a p = run-moreZ _ _ _ _ _ _ _ (st .pre) i 1 (i * 3 + 1) cell₁ (kept 1) (c .loop-test .taken) (lit< tt) (omega arith) (omega arith) (back 1 (lit< tt)) _ (more₀ a₁ p₁) (i * 3 + 2) (omega arith) a p
+      more₁ a p = run-more (pos 0) _+ℤ_ takesZ _ _ _ _ _ _ _ (st .pre) i 1 (i * 3 + 1) cell₁ (kept 1) (c .loop-test .taken) (lit< tt) (omega arith) (omega arith) (back 1 (lit< tt)) _ (more₀ a₁ p₁) (i * 3 + 2) (omega arith) a p
 
       -- the third
       module _ (a₂ : List ℤ) (p₂ : a₂ ≡ set a₁ cell₁ (getD a₁ cell₁ (pos 0) +ℤ kept 1)) where
@@ -79,10 +79,10 @@ module _ (c : tie.In-loop Inv-loop μ-loop) where
         cell₂ = cell + 2 * st .args .across
 
         room₂ : (cell₂ < length a₂) × (natAbs (getD a₂ cell₂ (pos 0) +ℤ kept 2) < 2 ^ 63)
-        room₂ = run-roomZ _ _ _ _ _ _ _ (st .pre) i 2 (i * 3 + 2) cell₂ (kept 2) (c .loop-test .taken) (lit< tt) (omega arith) (omega arith) (back 2 (lit< tt)) _ (more₁ a₂ p₂)
+        room₂ = run-room (pos 0) _+ℤ_ takesZ _ _ _ _ _ _ _ (st .pre) i 2 (i * 3 + 2) cell₂ (kept 2) (c .loop-test .taken) (lit< tt) (omega arith) (omega arith) (back 2 (lit< tt)) _ (more₁ a₂ p₂)
 
         more₂ : (a : List ℤ) → a ≡ set a₂ cell₂ (getD a₂ cell₂ (pos 0) +ℤ kept 2) → RunCellsZ (st .args .t2) (now (st .args .part)) (st .args .at) (st .args .stride) (st .args .across) ((i + 1) * 3) (now (st .args .sums)) a
-        more₂ a p = run-moreZ _ _ _ _ _ _ _ (st .pre) i 2 (i * 3 + 2) cell₂ (kept 2) (c .loop-test .taken) (lit< tt) (omega arith) (omega arith) (back 2 (lit< tt)) _ (more₁ a₂ p₂) ((i + 1) * 3) (omega arith) a p
+        more₂ a p = run-more (pos 0) _+ℤ_ takesZ _ _ _ _ _ _ _ (st .pre) i 2 (i * 3 + 2) cell₂ (kept 2) (c .loop-test .taken) (lit< tt) (omega arith) (omega arith) (back 2 (lit< tt)) _ (more₁ a₂ p₂) ((i + 1) * 3) (omega arith) a p
 
 -- the terms are kept as they are
 backs : (c : tie.After-c Inv-loop μ-loop) (j : ℕ) → j < 3 → kept (c .before .before .before .before .before) j ≡ termOf (c .before .before .before .before .before) j

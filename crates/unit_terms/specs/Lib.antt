@@ -1,0 +1,4 @@
+pub mod UnitTerms
+pub mod UnitTermsLaws
+pub mod Values
+pub mod ValuesLaws

@@ -1,0 +1,14 @@
+-- Request C-15: hits and weight of edges in one number.
+use Prim.Native.Nat.{ℕ, _+_, _^_}
+use lib.IntN.{natAbs}
+use lib.Ieee.{Float}
+use Rattle.likelihood.specs.Likelihood.{quantised}
+
+-- a confidence in units of 2^-24: the nearest whole number of them, halves away from zero; -0 is 0
+unfoldable pub unitOf : Float → ℕ
+unitOf x = natAbs (quantised x)
+
+-- what an edge of that confidence is worth: a hit, which counts for 2^38, and its units. A list has at most 2^13 edges of at most 2^24 units, so that all units of a
+-- list are below what one hit counts for, and the order of sums of values is the order by hits and then by weight
+unfoldable pub valueOf : Float → ℕ
+valueOf x = 2 ^ 38 + unitOf x

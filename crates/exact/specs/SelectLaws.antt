@@ -12,7 +12,6 @@ use lib.Ieee.{Float, nan}
 use borrow.Author.Tests.{eq-eqb, ne-eqb}
 use Rattle.laws.specs.Words.{fold, all, Weight, origins}
 use Rattle.laws.specs.Fold.{fold-zero, fold-hit}
-use Rattle.laws.specs.Counting.{count-le}
 use Rattle.laws.specs.Part.{view}
 use Rattle.laws.specs.Cleared.{SameBeyond}
 use Rattle.refusals.specs.Numbers.{numbered}
@@ -20,6 +19,7 @@ use Rattle.refusals.specs.Numbers as why
 use Rattle.board.specs.Hits.{EdgeList, Board, size, hit, hits}
 use Rattle.board.specs.Sides.{periodOf}
 use Rattle.board.specs.Domain.{ListOk, BoardOk}
+use Rattle.board.specs.HitsLaws.{hits-le}
 use Rattle.room.specs.Room.{used, tablesRoom}
 use Rattle.cells.specs.Cells.{cellCount}
 use Rattle.unit_terms.specs.Values.{unitOf, valueOf}
@@ -33,6 +33,7 @@ use Rattle.grid.specs.BoardGrid.{period-h, period-v, grid}
 use Rattle.values.specs.Values.{hitsOf, weightOf, vAt, nAt}
 use Rattle.exact_scan.specs.Exact.{ValueTables, valueTables, ValuesOk, emptyExact, foldExact, exactScanned, finished, SoundExact}
 use Rattle.exact_scan.specs.FirstLaws.{exact-count, First, kept-first, value-hits, hitsBy, valueBy, keyOf}
+use Rattle.exact_scan.specs.declared.kept.ExactCandidate.{ExactCandidate}
 use Rattle.exact_scan.specs.declared.kept.ExactScan.{ExactScan}
 use Rattle.exact_scan.specs.declared.kept.ExactSelection.{ExactSelection}
 use Rattle.exact_scan.specs.declared.kept.ExactSelection.the-variants.{Refused}
@@ -105,10 +106,6 @@ module _ (B : Board) (E : EdgeList) (t : ℕ) (board : BoardOk B) (list : ListOk
   origin-hits k =
       ap₂ _+_ (hits-in true (origins L M .hOf k) (h-cell k) ∙ sym (count-at B E t true (origins L M .hOf k) (h-cell k))) (hits-in false (origins L M .vOf k) (v-cell k) ∙ sym (count-at B E t false (origins L M .vOf k) (v-cell k)))
       ∙ sym (key-hits B E t board k)
-
-  pub hits-few : (r c : ℕ) → hits B E t r c ≤ size E
-  unfolding hits
-  hits-few r c = count-le (hit B E t r c) (size E)
 
   -- so the weights of two cells are together less than a hit
   adds-at : (x y n w : ℕ) → x + y ≡ n * 2 ^ 38 + w → hitsOf x + hitsOf y ≡ n → w ≤ 2 ^ 37 → weightOf x + weightOf y < 274877906944
@@ -206,6 +203,36 @@ module _ (B : Board) (E : EdgeList) (ts : List ℕ) (a : List ℕ) where
     room = value-rooms-more B E ts a R n a' a'' (d .room) b;
   }
 
+-- ---- the kept placing, of all list positions
+module _ (B : Board) (E : EdgeList) (ts : List ℕ) (board : BoardOk B) (list : ListOk E) (some : 0 < length ts) where
+  -- the tables of list position p
+  abbrev pub tab : ℕ → ValueTables
+  tab p = valueTablesOf B E (getD ts p 0)
+
+  -- what is kept of all positions
+  abbrev pub kept : ExactCandidate
+  kept = exactScanOf B E ts (length ts) .best
+
+  pub scan-first : First (periodOf B true) (periodOf B false) (λ p. getD ts p 0) tab (length ts) kept
+  unfolding exactScanOf
+  scan-first = go (length ts) some
+    where
+      go : (n : ℕ) → 0 < n → First (periodOf B true) (periodOf B false) (λ p. getD ts p 0) tab n (exactScanned (periodOf B true) (periodOf B false) (λ p. getD ts p 0) tab n .best)
+      go zero l = absurd (omega arith)
+      go (suc n) l = kept-first (periodOf B true) (periodOf B false) (λ p. getD ts p 0) tab (period-h B board) (period-v B board) n (λ i m. tables-ok B E (getD ts i 0) board list)
+
+  -- its hits, by its value
+  pub kept-hits : let k = keyOf (periodOf B false) kept in hitsOf (kept .value) ≡ hits B E (getD ts (kept .placing .listed) 0) (k / (3 * periodOf B false)) (k % (3 * periodOf B false))
+  kept-hits =
+      let t = getD ts (kept .placing .listed) 0 in
+      let k = keyOf (periodOf B false) kept in
+      sym (ap hitsOf (scan-first .own .at)) ∙ value-hits (periodOf B true) (periodOf B false) (period-h B board) (period-v B board) (valueTablesOf B E t) (tables-ok B E t board list) k ∙ origin-hits B E t board list k
+
+  -- as many positions as were listed
+  pub kept-count : exactScanOf B E ts (length ts) .positions .count ≡ length ts
+  unfolding exactScanOf
+  kept-count = exact-count (periodOf B true) (periodOf B false) (λ p. getD ts p 0) tab (length ts)
+
 -- ---- the two ends of a selection
 module _ (B : Board) (E : EdgeList) (ts : List ℕ) (limit : Float) (a : List ℕ) where
   -- no confidence: refused, and the room is as it was
@@ -220,46 +247,14 @@ module _ (B : Board) (E : EdgeList) (ts : List ℕ) (limit : Float) (a : List �
       let n = ne-eqb (unitsTo (E .confidences) (length (E .confidences))) 0 h in
       record { answer = rw n (e ∙ ap (finished (size E) limit) (d .answer)); room = rw n (d .room) }
 
-  -- the kept placing, of all list positions
-  pub scan-first : ExactSelectReady B E ts a → First (periodOf B true) (periodOf B false) (λ p. getD ts p 0) (λ p. valueTablesOf B E (getD ts p 0)) (length ts) (exactScanOf B E ts (length ts) .best)
-  unfolding exactScanOf
-  scan-first R = go (length ts) (R .transforms .0)
-    where
-      go : (n : ℕ) → 0 < n → First (periodOf B true) (periodOf B false) (λ p. getD ts p 0) (λ p. valueTablesOf B E (getD ts p 0)) n (exactScanned (periodOf B true) (periodOf B false) (λ p. getD ts p 0) (λ p. valueTablesOf B E (getD ts p 0)) n .best)
-      go zero l = absurd (omega arith)
-      go (suc n) l = kept-first (periodOf B true) (periodOf B false) (λ p. getD ts p 0) (λ p. valueTablesOf B E (getD ts p 0)) (period-h B (R .board)) (period-v B (R .board)) n (λ i m. tables-ok B E (getD ts i 0) (R .board) (R .list))
-
   -- the scan may be finished
   pub scan-sound : ExactSelectReady B E ts a → (a' : List ℕ) (s : ExactScan) → ExactScanDone B E ts (length ts) a a' s → SoundExact (size E) s
-  unfolding exactScanOf
   scan-sound R a' s d = subst (λ (x : ExactScan). SoundExact (size E) x) (sym (d .answer)) (record {
-    few = omega (arith, count, R .transforms .1);
-    listed = omega (arith, count, F .in-list);
-    hits = omega (arith, kept-hits);
+    few = omega (arith, kept-count B E ts (R .board) (R .list) (R .transforms .0), R .transforms .1);
+    listed = omega (arith, kept-count B E ts (R .board) (R .list) (R .transforms .0), scan-first B E ts (R .board) (R .list) (R .transforms .0) .in-list);
+    hits = omega (arith, kept-hits B E ts (R .board) (R .list) (R .transforms .0), hits-le B E (getD ts (exactScanOf B E ts (length ts) .best .placing .listed) 0) (keyOf (periodOf B false) (exactScanOf B E ts (length ts) .best) / (3 * periodOf B false)) (keyOf (periodOf B false) (exactScanOf B E ts (length ts) .best) % (3 * periodOf B false)));
     small = R .list .few;
   })
-    where
-      best : ℕ
-      best = exactScanOf B E ts (length ts) .best .value
-
-      F : First (periodOf B true) (periodOf B false) (λ p. getD ts p 0) (λ p. valueTablesOf B E (getD ts p 0)) (length ts) (exactScanOf B E ts (length ts) .best)
-      F = scan-first R
-
-      count : exactScanOf B E ts (length ts) .positions .count ≡ length ts
-      count = exact-count (periodOf B true) (periodOf B false) (λ p. getD ts p 0) (λ p. valueTablesOf B E (getD ts p 0)) (length ts)
-
-      kept-hits : hitsOf best ≤ size E
-      kept-hits =
-          let i = exactScanOf B E ts (length ts) .best .placing .listed in
-          let k = keyOf (periodOf B false) (exactScanOf B E ts (length ts) .best) in
-          let t = getD ts i 0 in
-          omega (
-            arith,
-            ap hitsOf (F .own .at),
-            value-hits (periodOf B true) (periodOf B false) (period-h B (R .board)) (period-v B (R .board)) (valueTablesOf B E t) (tables-ok B E t (R .board) (R .list)) k,
-            origin-hits B E t (R .board) (R .list) k,
-            hits-few B E t (R .board) (R .list) (k / (3 * periodOf B false)) (k % (3 * periodOf B false)),
-          )
 
   -- whatever it comes to, the surplus of the room is what it was
   pub exact-beyond : (R : ExactSelectReady B E ts a) (a' : List ℕ) (r : ExactSelection) → ExactDone B E ts limit a a' r → SameBeyond 0 (used (periodOf B) 1) a a'

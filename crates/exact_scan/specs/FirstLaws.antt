@@ -9,7 +9,7 @@ use native.Mathlib.Nat.{mod-lt, div-lt-iff-lt-mul, div-add-mod'}
 use native.Mathlib.Omega.{arith}
 use lib.ListN.{length, getD}
 use lib.Ieee.{Float}
-use Rattle.laws.specs.Tests.{compared, split}
+use Rattle.laws.specs.Tests.{compared, not-so, split}
 use Rattle.laws.specs.Words.{Grid, origins}
 use Rattle.laws.specs.GridLaws.{Laws}
 use Rattle.best.specs.CellTables.{Period}
@@ -17,13 +17,13 @@ use Rattle.grid.specs.BoardGrid.{grid}
 use Rattle.scan.specs.Scan.{noSummary, runnerUp}
 use Rattle.scan.specs.ScanLaws.{pushed-count, pushed-summary}
 use Rattle.scan.specs.declared.scan.TransformSummary.{TransformSummary}
-use Rattle.scan.specs.declared.scan.HardScan.{HardScan}
+use Rattle.scan.specs.declared.scan.RunnerUp.{RunnerUp}
 use Rattle.folding.specs.Transform.{bestHits, pairsTied, runnerUpWithin, summaryOf}
 use Rattle.folding.specs.declared.transform.Ranked.{Ranked}
 use Rattle.hard.specs.OneList.{keyAt, originNumber}
 use Rattle.hard.specs.Placings.{MostOther}
 use Rattle.hard.specs.SummedLaws.{Summed, Said, BestPair, summed-by}
-use Rattle.hard.specs.RunnerUpLaws.{others-bounded, other-attains, runner-up-named}
+use Rattle.hard.specs.RunnerUpLaws.{runner-up-inside, others-bounded, other-attains, runner-up-named, own-origin}
 use Rattle.values.specs.Values.{hitsOf, weightOf, vAt, nAt, valueBest, valueOf, pairValue, bestValue, byHits}
 use Rattle.values.specs.ValuesLaws.{more-hits, best-top, cell-in, second-inside, second-other, second-most}
 use Rattle.values.specs.OriginLaws.{first-under, first-is, first-has, greatest, first-least}
@@ -210,3 +210,21 @@ module _ (L M : ℕ) (ts : ℕ → ℕ) (tab : ℕ → ValueTables) where
         reached = other-attains L M n ts hit B O N tie ss at-position sums (c .placing .listed) (keyOf M c) (F .in-list) (λ t. F .own .origin);
         most = others-bounded L M n ts hit B O N tie ss at-position sums (c .placing .listed) (keyOf M c) (F .in-list) (λ t. F .own .origin);
       }
+
+      abbrev r : RunnerUp
+      r = runnerUp ss (c .placing .listed) n
+
+      -- it names a list position and an origin on the board
+      pub runner-up-place : (i : ℕ) × (k : ℕ) × (i < n) × (k < originNumber L M) × (ts i ≡ r .transform) × (r .row ≡ k / (3 * M)) × (r .col ≡ k % (3 * M))
+      runner-up-place = runner-up-named L M n ts hit B O N tie ss at-position sums (c .placing .listed) (keyOf M c) (F .in-list) (λ t. F .own .origin)
+
+      -- and, with fewer hits than the winner, another placing that has its hits
+      pub runner-up-own : r .hits < hit (c .placing .listed) (keyOf M c)
+          → (i : ℕ) × (i < n) × (ts i ≡ r .transform) × (keyAt M (r .row) (r .col) < originNumber L M) × ((i ≡ c .placing .listed) × (keyAt M (r .row) (r .col) ≡ keyOf M c) → ⊥) × (hit i (keyAt M (r .row) (r .col)) ≡ r .hits)
+      runner-up-own l = own-origin L M n ts hit B O N tie ss at-position sums (c .placing .listed) (keyOf M c) (F .in-list) (λ t. F .own .origin) (not-so (tie (c .placing .listed)) behind)
+        where
+          behind : tie (c .placing .listed) ≡ true → ⊥
+          behind t =
+              let s = sums (c .placing .listed) (F .in-list) in
+              let top : hit (c .placing .listed) (keyOf M c) ≡ B (c .placing .listed) = ap (hit (c .placing .listed)) (F .own .origin) ∙ s .at in
+              omega (arith, l, top, s .tied t, runner-up-inside L M n ts hit B O N tie ss at-position sums (c .placing .listed) (keyOf M c) (F .in-list) (λ d. F .own .origin))

@@ -1,11 +1,10 @@
 -- What the parts of `build_sums` ask and give: groups of likelihoods, terms, runs, families and sides, as for counts, with two rows of groups.
 use mathlib.Core.Path.{_≡_}
-use mathlib.Core.Bool.{Bool, true, false, not, _&&_, _||_, cond}
-use mathlib.Core.List.{List, [], _∷_}
+use mathlib.Core.Bool.{Bool, false}
+use mathlib.Core.List.{List}
 use Prim.Native.Nat.{ℕ, zero, suc, _+_, _*_, _/_, _%_, _^_, _≤_, _<_}
-use lib.ListN.{getD, length}
+use lib.ListN.{length}
 use lib.IntN.{ℤ, pos, natAbs, _+ℤ_}
-use Rattle.laws.specs.Words.{one, eqZ}
 use Rattle.laws.specs.Zone.{Zone}
 use Rattle.board.specs.Hits.{EdgeList, Board}
 use Rattle.board.specs.Sides.{tableOf, periodOf}
@@ -13,7 +12,6 @@ use Rattle.board.specs.Domain.{EdgesOk, BoardOk}
 use Rattle.room.specs.declared.Side.{Side}
 use Rattle.room.specs.Room.{PeriodsOk, rowLength, isHorizontal, strideOf, acrossOf}
 use Rattle.groups.specs.Fill.{rowSum}
-use Rattle.terms.specs.Terms.{termSum}
 use Rattle.cells.specs.Cells.{longClass, shortClass, cellSum, family}
 use Rattle.cells.specs.Credit.{cellPattern, FamilyPlaces}
 use Rattle.tables.specs.Runs.{RunReadyOf, RunCellsOf}
@@ -47,6 +45,7 @@ SumsFilled L M E X t base n a a' = Zone (pos 0) (rowsSum L M E X t n) base (2 * 
 abbrev pub takesZ : ℤ → ℤ → Type 0
 takesZ x y = natAbs (x +ℤ y) < 2 ^ 63
 
+-- the places of n classes are there, and each cell has room for its term
 abbrev pub RunReadyZ : List (List ℤ) → List ℕ → ℕ → ℕ → ℕ → ℕ → List ℤ → Type 0
 RunReadyZ = RunReadyOf (pos 0) takesZ
 

@@ -1,22 +1,18 @@
 -- Laws of the parts of `build_sums`: an edge more in the groups, a cell more of a run, two runs that make a family, a family more of a side.
-use mathlib.Core.Path.{_≡_, refl, sym, ap, ap₂, subst, _∙_}
-use mathlib.Core.Bool.{Bool, true, false, not, _&&_, _||_, cond, true≢false}
+use mathlib.Core.Path.{_≡_, sym, ap, ap₂, _∙_}
+use mathlib.Core.Bool.{Bool, true, false, cond}
 use mathlib.Core.List.{List}
-use mathlib.Core.Logic.{_⊎_, inl, inr, ⊎-elim}
-use Prim.Native.Nat.{ℕ, zero, suc, _+_, _*_, _-_, _/_, _%_, _^_, _≤_, _<_}
+use mathlib.Core.Logic.{_⊎_, inl, inr}
+use Prim.Native.Nat.{ℕ, _+_, _*_, _-_, _/_, _%_, _^_, _≤_, _<_}
 use native.Mathlib.Nat.{div-lt-iff-lt-mul, div-add-mod'}
-use native.Mathlib.Numerals.{add-one}
 use native.Mathlib.Omega.{arith}
 use lib.Arith.{digits-div, digits-mod, digits-lt}
 use lib.Dec.{eqb, ltb}
 use lib.IntN.{ℤ, pos, natAbs, _+ℤ_, +ℤ-idr}
 use lib.ListN.{getD, length, set, drop}
 use borrow.Author.Tests.{lt-ltb, le-ltb, eq-eqb, ne-eqb}
-use Rattle.laws.specs.Tests.{and-true, and-comm, or-false, apart, split}
-use Rattle.laws.specs.Words.{fold, all, eqZ}
+use Rattle.laws.specs.Tests.{apart}
 use Rattle.laws.specs.Fold.{fold-zero, fold-hit, fold-miss}
-use Rattle.laws.specs.DoubleCounting.{fold-ext}
-use Rattle.laws.specs.Whole.{eqZ-true, eq-eqZ, ne-eqZ}
 use Rattle.laws.specs.Zone.{Zone, zone-none, zone-ext, zone-set}
 use Rattle.board.specs.Hits.{EdgeList, Board, size}
 use Rattle.board.specs.Sides.{tableOf, periodOf}
@@ -25,7 +21,6 @@ use Rattle.likelihood.specs.SumLaws.{cell-size}
 use Rattle.room.specs.declared.Side.{Side}
 use Rattle.room.specs.Room.{rowLength, isHorizontal}
 use Rattle.groups.specs.Fill.{placeAt, rowSum}
-use Rattle.terms.specs.Terms.{agrees, termSum}
 use Rattle.cells.specs.Cells.{longClass, shortClass, family}
 use Rattle.tables.specs.CellsLaws.{cell-none, cell-more, zone-family}
 use Rattle.cells.specs.Credit.{entry, cellPattern}
@@ -34,7 +29,7 @@ use Rattle.cells.specs.RunLaws.{pattern-small}
 use Rattle.tables.specs.Runs.{first-run, second-run, both-runs}
 use Rattle.tables.specs.SideLaws.{same-groups}
 use Rattle.sums.specs.Sums.{Likelihoods, matchAt, mismatchAt}
-use Rattle.sum_terms.specs.SumTerms.{placesZ, termZ, someSum, TermsZ}
+use Rattle.sum_terms.specs.SumTerms.{placesZ, someSum, TermsZ}
 use Rattle.sums.specs.SumParts.{valueAt, rowsSum, SumsFillReady, SumsFilled, takesZ, RunReadyZ, RunCreditedZ, gainZ, FamilyReadyZ, FamilyCreditedZ, familyZ, cellZ, SideReadyZ, SideCellsZ}
 use Rattle.sum_terms.specs.SumTermsLaws.{no-termZ, same-termZ, terms-atZ}
 use Rattle.sums.specs.SumsLaws.{value-small}

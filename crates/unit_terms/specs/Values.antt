@@ -1,10 +1,10 @@
--- Request C-15: hits and weight of edges in one number.
+-- Request C-15: the units of a confidence, and hits and weight of edges in one number.
 use Prim.Native.Nat.{ℕ, _+_, _^_}
 use lib.IntN.{natAbs}
 use lib.Ieee.{Float}
 use Rattle.likelihood.specs.Likelihood.{quantised}
 
--- a confidence in units of 2^-24: the nearest whole number of them, halves away from zero; -0 is 0
+-- "each confidence becomes a whole number of 2^-24 units, halves away from zero"; -0 is 0
 unfoldable pub unitOf : Float → ℕ
 unitOf x = natAbs (quantised x)
 

@@ -1,11 +1,11 @@
 -- A confidence may be quantised, is no negative number of units, and of at most 2^24.
-use mathlib.Core.Path.{_≡_, refl, sym, ap, _∙_}
+use mathlib.Core.Path.{_≡_, refl}
 use mathlib.Core.Bool.{true, false}
 use Prim.Native.Nat.{ℕ, zero, suc, _+_, _*_, _^_, _≤_}
 use native.Mathlib.Nat.{zero-mul}
 use native.Mathlib.Omega.{arith}
 use lib.IntN.{ℤ, pos, negℤ, natAbs}
-use lib.Ieee.{Float, nan, inf, fin, up, down}
+use lib.Ieee.{Float, fin, up, down}
 use lib.Ieee.Fits.{down-pos}
 use Rattle.laws.specs.Words.{Weight}
 use Rattle.likelihood.specs.Likelihood.{acceptable, halfUp, quantised}

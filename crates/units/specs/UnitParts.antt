@@ -35,6 +35,7 @@ UnitsFilled L M E t base n a a' = Zone 0 (rowSum _+_ 0 (valueAt E) L M E t n) ba
 abbrev pub takesU : ℕ → ℕ → Type 0
 takesU x y = x + y < 2 ^ 64
 
+-- the places of n classes are there, and each cell has room for its term
 abbrev pub RunReadyU : List (List ℕ) → List ℕ → ℕ → ℕ → ℕ → ℕ → List ℕ → Type 0
 RunReadyU = RunReadyOf 0 takesU
 

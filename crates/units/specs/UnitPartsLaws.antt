@@ -2,7 +2,7 @@
 use mathlib.Core.Path.{_≡_, refl, sym, ap, _∙_}
 use mathlib.Core.Bool.{Bool, false}
 use mathlib.Core.List.{List}
-use Prim.Native.Nat.{ℕ, _+_, _*_, _-_, _^_, _≤_, _<_}
+use Prim.Native.Nat.{ℕ, _+_, _*_, _-_, _^_, _<_}
 use native.Mathlib.Nat.{add-zero}
 use native.Mathlib.Omega.{arith}
 use lib.Dec.{eqb}
@@ -10,7 +10,7 @@ use lib.ListN.{getD, length, set, drop}
 use borrow.Author.Tests.{eq-eqb}
 use Rattle.laws.specs.Words.{fold, all}
 use Rattle.laws.specs.Fold.{fold-zero, fold-hit}
-use Rattle.laws.specs.Zone.{Zone, zone-none}
+use Rattle.laws.specs.Zone.{zone-none}
 use Rattle.board.specs.Hits.{EdgeList, Board, size}
 use Rattle.board.specs.Sides.{tableOf, periodOf}
 use Rattle.board.specs.HitsLaws.{side-some}

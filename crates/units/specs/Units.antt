@@ -1,5 +1,5 @@
--- Request C-15: hits and weight of a cell in one number, exact. "Each confidence becomes a whole number of 2^-24, halves away from zero"; a placing's weight is the sum of
--- these over its hits. A cell's value is the sum of its hits' values, so it is hits · 2^38 + weight (`value-splits`).
+-- Request C-15: "each confidence becomes a whole number of 2^-24 units, halves away from zero, and weights are whole sums." Hits and weight of a cell stand in one number:
+-- its value, the sum of its hits' values, is hits · 2^38 + weight (`value-splits`).
 use mathlib.Core.Bool.{Bool, _&&_}
 use mathlib.Core.List.{List}
 use Prim.Native.Nat.{ℕ, _+_, _*_, _/_, _%_, _≤_, _<_}

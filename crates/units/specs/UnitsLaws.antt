@@ -1,22 +1,20 @@
 -- Laws of values: how large their sums are, hits and weight in them, and the cell's value against the edges.
-use mathlib.Core.Path.{_≡_, refl, sym, ap, ap₂, _∙_}
+use mathlib.Core.Path.{_≡_, refl, sym, ap₂, _∙_}
 use mathlib.Core.Bool.{Bool, true, false, cond, _&&_}
 use Prim.Native.Nat.{ℕ, zero, suc, _+_, _*_, _/_, _%_, _^_, _≤_, _<_, zero-le}
 use native.Mathlib.Nat.{add-zero, add-assoc, add-comm}
 use native.Mathlib.Omega.{arith}
 use Rattle.laws.specs.Tests.{and-comm, and-ext}
-use Rattle.laws.specs.Words.{put, fold, all, count}
+use Rattle.laws.specs.Words.{put, fold, count}
 use Rattle.laws.specs.Counting.{count-le}
 use Rattle.laws.specs.DoubleCounting.{fold-ext, fold-split}
 use Rattle.board.specs.Hits.{EdgeList, Board, size, seen, look, horizontal, hit}
 use Rattle.board.specs.Sides.{onSide, tableOf, periodOf}
 use Rattle.board.specs.Domain.{ListOk}
 use Rattle.board.specs.HitsLaws.{hit-class}
-use Rattle.groups.specs.Groups.{confidenceAt, groupSum}
-use Rattle.unit_terms.specs.Values.{unitOf, valueOf}
+use Rattle.groups.specs.Groups.{confidenceAt, groupSum, groupCount}
 use Rattle.unit_terms.specs.ValuesLaws.{unit-small, value-is}
 use Rattle.cells.specs.Cells.{longClass, shortClass, cellSum, family, familyOf, familyC}
-use Rattle.groups.specs.Groups.{groupCount}
 use Rattle.tables.specs.CellsLaws.{cell-same, term-all, group-none, class-by-edges}
 use Rattle.units.specs.Units.{unitAt, valueAt, sideSum, cellValue, groupValue}
 

@@ -150,5 +150,6 @@ pub fn build_units<'a>(
         units,
     );
     build_unit_side(h, v, horizontal, units);
-    build_unit_side(h, v, room::vertical(periods), units);
+    let vertical = room::vertical(periods);
+    build_unit_side(h, v, vertical, units);
 }

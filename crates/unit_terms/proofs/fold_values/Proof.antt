@@ -1,3 +1,4 @@
+-- After each turn one row more is written, that of its pattern.
 use mathlib.Core.List.{[]}
 use Prim.Native.Nat.{_-_, _≤_}
 use native.Mathlib.Omega.{arith}

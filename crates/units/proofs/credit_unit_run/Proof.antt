@@ -1,3 +1,4 @@
+-- After i turns the cells of the first i classes have their terms added. A turn adds three terms, each at a place that no earlier turn reached.
 use mathlib.Core.Path.{_≡_, refl, subst}
 use mathlib.Core.List.{List}
 use Prim.Native.Nat.{ℕ, _+_, _*_, _-_, _^_, _≤_, _<_}

@@ -20,7 +20,7 @@ use Rattle.hard.specs.Placings.{Sole, MostOther}
 use Rattle.hard.specs.OneList.{originNumber, keyAt}
 use Rattle.hard.specs.SelectTheorems.{hitsAtKey}
 use Rattle.answer.specs.declared.Square.{Square}
-use Rattle.demand.specs.Demand.{OnBoard, Same, Leads, RunsUp, Names}
+use Rattle.demand.specs.Demand.{OnBoard, Same, Leads, RunsUp, RunnerUpExists, Names}
 
 -- ---- one list has one leading placing
 -- two placings are the same one, or not
@@ -129,3 +129,11 @@ module _ (B : Board) (board : BoardOk B) where
         other = ne;
         no-third = λ R v nr. omega (arith, hits-key R v, m .most (R .listed) (keyOf R) (v .in-list) (key-below R v) (λ t. nr (key-same R P v o t)));
       }
+
+      -- and there is one
+      pub most-exists : (P : Placing) (r : ℕ) → OnBoard B ts P → MostOther (length ts) (originNumber (periodOf B true) (periodOf B false)) (size E) limit (hitsAtKey B E ts) (P .listed) (keyOf P) r → RunnerUpExists B E ts P r
+      most-exists P r o m =
+          let w = m .reached in
+          let Q = placing (w .0) (w .1) in
+          let other : Same Q P → ⊥ = λ s. let k = same-key Q P s in w .4 (k .0, sym (key-back (w .0) (w .1)) ∙ k .1) in
+          record { one = Q; runs-up = most-runs-up P Q r o (placing-on (w .0) (w .1) (w .2) (w .3)) other (w .5) m; with-hits = w .5 }

@@ -20,7 +20,7 @@ use Rattle.scan.specs.declared.scan.Candidate.{Candidate}
 use Rattle.scan.specs.declared.scan.RunnerUp.{RunnerUp}
 use Rattle.hard.specs.declared.select.Selection.the-variants.{Selected}
 use Rattle.demand.specs.Demand.{OnBoard, Same, Leads, RunsUp, RunnerUpExists}
-use Rattle.demand.specs.DemandLaws.{placing, placing-on, key-back, same-key, hits-key, sole-leads, most-runs-up}
+use Rattle.demand.specs.DemandLaws.{same-key, hits-key, sole-leads, most-runs-up, most-exists}
 
 -- the placing of a runner-up at list position p
 abbrev pub runnerAt : ℕ → RunnerUp → Placing
@@ -35,13 +35,7 @@ module _ (B : Board) (E : EdgeList) (ts : List ℕ) (limit : Float) (board : Boa
 
   -- A RUNNER-UP ALWAYS EXISTS: whatever was selected, passed by the gate or not, another placing has the hits that are reported, and no third has more
   pub runner-up-exists : RunnerUpExists B E ts (x .placing) (r .hits)
-  runner-up-exists =
-      let m = selected-most-other B E ts limit board list few x r e in
-      let w = m .reached in
-      let Q = placing B board (w .0) (w .1) in
-      let o = placing-on B board ts (w .0) (w .1) (w .2) (w .3) in
-      let other : Same Q (x .placing) → ⊥ = λ s. let k = same-key B board ts Q (x .placing) s in w .4 (k .0, sym (key-back B board ts (w .0) (w .1)) ∙ k .1) in
-      record { one = Q; runs-up = most-runs-up B board ts E limit (x .placing) Q (r .hits) winner-on o other (w .5) m; with-hits = w .5 }
+  runner-up-exists = most-exists B board ts E limit (x .placing) (r .hits) winner-on (selected-most-other B E ts limit board list few x r e)
 
   -- ---- where it passes the gate
   module _ (g : passed (size E) (x .hits) (r .hits) ≡ true) where

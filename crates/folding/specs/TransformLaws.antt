@@ -2,16 +2,13 @@
 use mathlib.Core.Path.{_≡_, refl, sym, ap, _∙_}
 use mathlib.Core.Bool.{Bool, true, false, cond}
 use mathlib.Core.List.{List}
-use mathlib.Core.Logic.{_⊎_, inl, inr}
 use Prim.Native.Nat.{ℕ, zero, suc, _+_, _*_, _≤_, _<_}
 use native.Mathlib.Omega.{arith}
 use native.Mathlib.Numerals.{add-one}
 use lib.Dec.{T, ltb}
-use lib.ListN.{length, getD, set, length-set, length-replicate}
-use lib.Seq.{getD-set-same, getD-set-other}
+use lib.ListN.{length, getD}
 use lib.Ieee.{Float}
 use borrow.Author.Tests.{lt-ltb, le-ltb}
-use Rattle.laws.specs.Tests.{split}
 use Rattle.laws.specs.Words.{count, origins}
 use Rattle.laws.specs.Counting.{count-le}
 use Rattle.laws.specs.Weights.{weightlike}
@@ -21,6 +18,7 @@ use Rattle.best.specs.LexLaws.{cell-in, best-optimal, second-inside}
 use Rattle.grid.specs.BoardGrid.{grid, none-small}
 use Rattle.grid.specs.RowMajorLaws.{major-none, major-only}
 use Rattle.scan.specs.Scan.{overLimit, replaced, noSummary, emptyScan, pushed}
+use Rattle.scan.specs.ScanLaws.{pushed-count, pushed-summary}
 use Rattle.direct.specs.Direct.{tried}
 use Rattle.folding.specs.Transform.{BestOk, firstOf, bestOrigin, bestHits, bestCandidate, pairsTied, runnerUpWithin, summaryOf, transformSummary, offeredBy, foldTransform, selected, separationProductCap}
 use Rattle.best.specs.declared.lex.LexMax.{LexMax}
@@ -182,40 +180,20 @@ module _ (L M edges : ℕ) (confidence limit : Float) where
   unfolding selected
   selected-none ts tab = refl
 
-  -- the count is the number of list positions
-  pub selected-count : (ts : ℕ → ℕ) (tab : ℕ → CellTables) (n : ℕ) → selected L M edges confidence limit ts tab n .count ≡ n
-  unfolding selected foldTransform pushed emptyScan
-  selected-count ts tab zero = refl
-  selected-count ts tab (suc n) = rw (selected-count ts tab n) (add-one n)
-
   -- what is kept after one list position more
   abbrev pub keptAt : (ℕ → CellTables) → ℕ → Kept → Kept
   keptAt tab p kept = offeredBy L M edges confidence limit p (tab p) (lexOf (tab p .hc) (tab p .hw)) (lexOf (tab p .vc) (tab p .vw)) (bestOrigin (origins L M) (tab p)) kept
+
+  -- the count is the number of list positions
+  pub selected-count : (ts : ℕ → ℕ) (tab : ℕ → CellTables) (n : ℕ) → selected L M edges confidence limit ts tab n .count ≡ n
+  unfolding selected foldTransform pushed
+  selected-count ts tab = pushed-count (selected L M edges confidence limit ts tab) (λ p. transformSummary L M (ts p) (tab p)) refl (λ n. refl)
 
   pub selected-best : (ts : ℕ → ℕ) (tab : ℕ → CellTables) (n : ℕ) → selected L M edges confidence limit ts tab (suc n) .best ≡ keptAt tab n (selected L M edges confidence limit ts tab n .best)
   unfolding selected foldTransform pushed
   selected-best ts tab n = rw (selected-count ts tab n)
 
-  -- ---- each position's summary stays where it was stored
-  summaries-eight : (ts : ℕ → ℕ) (tab : ℕ → CellTables) (n : ℕ) → length (selected L M edges confidence limit ts tab n .summaries) ≡ 8
-  unfolding selected foldTransform pushed emptyScan
-  summaries-eight ts tab zero = length-replicate 8 noSummary
-  summaries-eight ts tab (suc n) = length-set (selected L M edges confidence limit ts tab n .summaries) (selected L M edges confidence limit ts tab n .count) (transformSummary L M (ts n) (tab n)) ∙ summaries-eight ts tab n
-
+  -- each position's summary stays where it was stored
   pub summary-at : (ts : ℕ → ℕ) (tab : ℕ → CellTables) (n p : ℕ) → p < n → n ≤ 8 → getD (selected L M edges confidence limit ts tab n .summaries) p noSummary ≡ transformSummary L M (ts p) (tab p)
   unfolding selected foldTransform pushed
-  summary-at ts tab zero p l h = absurd (omega arith)
-  summary-at ts tab (suc n) p l h = rw (selected-count ts tab n) (go (λ k. summary-at ts tab n p k (omega arith)) (split p n l))
-    where
-      old : List TransformSummary
-      old = selected L M edges confidence limit ts tab n .summaries
-
-      new : TransformSummary
-      new = transformSummary L M (ts n) (tab n)
-
-      go : (p < n → getD old p noSummary ≡ transformSummary L M (ts p) (tab p)) → (p ≡ n) ⊎ (p < n) → getD (set old n new) p noSummary ≡ transformSummary L M (ts p) (tab p)
-      go ih (inl e) = rw e (getD-set-same old n new noSummary (omega (arith, summaries-eight ts tab n)))
-      go ih (inr k) = getD-set-other old n p new noSummary (apart p n k) ∙ ih k
-        where
-          apart : (i j : ℕ) → i < j → i ≡ j → ⊥
-          apart i j k e = omega arith
+  summary-at ts tab = pushed-summary (selected L M edges confidence limit ts tab) (λ p. transformSummary L M (ts p) (tab p)) refl (λ n. refl)

@@ -64,7 +64,7 @@ fn best_origin(
 }
 
 // The runner-up inside a transform whose best origin is `first`, from what its horizontal table a and its vertical table b say.
-fn runner_up_within(a: LexMax, b: LexMax, first: usize, periods: Periods) -> Ranked
+pub fn runner_up_within(a: LexMax, b: LexMax, first: usize, periods: Periods) -> Ranked
     requires { ⌜ Period (periods .h) × Period (periods .v) × BestOk (periods .h) (periods .v) a b ⌝ }
     ensures { λ r. ⌜ r ≡ runnerUpWithin (periods .h) (periods .v) a b first ⌝ }
 {
@@ -99,7 +99,7 @@ fn competitor(origin: Ranked, period: usize, transform: u8) -> RunnerUp
 }
 
 // The summary of a transform from its best origin and the runner-up within it.
-fn summary(first: Ranked, other: Ranked, period: usize, transform: u8) -> TransformSummary
+pub fn summary(first: Ranked, other: Ranked, period: usize, transform: u8) -> TransformSummary
     requires { ⌜ Period period × (first .key ≤ 2250000) × (other .key ≤ 2250000) ⌝ }
     ensures { λ r. ⌜ r ≡ summaryOf period first other transform ⌝ }
 {

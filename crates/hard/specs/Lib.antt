@@ -4,6 +4,7 @@ pub mod Placings
 pub mod PlacingsLaws
 pub mod RateLaws
 pub mod Ready
+pub mod RunnerUpLaws
 pub mod Select
 pub mod SelectLaws
 pub mod SelectTheorems

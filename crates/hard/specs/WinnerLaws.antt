@@ -16,13 +16,13 @@ use Rattle.best.specs.CellTables.{CellTables, Period, TablesOk}
 use Rattle.best.specs.Lex.{lexOf}
 use Rattle.figures.specs.Gate.{passed}
 use Rattle.scan.specs.Scan.{overLimit, noSummary, runnerUp, chosen, chosenBy}
-use Rattle.scan.specs.ScanLaws.{runner-up-own, runner-up-other, runner-up-is}
 use Rattle.direct.specs.Direct.{originCandidate}
-use Rattle.folding.specs.Transform.{bestOrigin, bestHits, bestCandidate, pairsTied, runnerUpWithin, competitorOf, summaryOf, transformSummary, selected, separationProductCap}
+use Rattle.folding.specs.Transform.{bestOrigin, bestHits, bestCandidate, pairsTied, runnerUpWithin, summaryOf, transformSummary, selected, separationProductCap}
 use Rattle.folding.specs.TransformLaws.{best-under, selected-count, summary-at}
 use Rattle.folding.specs.KeptLaws.{MostOf, Offers, Listed, kept-most, offers-place}
 use Rattle.hard.specs.RateLaws.{fewer-over, more-within}
 use Rattle.hard.specs.SummedLaws.{Summed, summed, many-tied}
+use Rattle.hard.specs.RunnerUpLaws.{runner-up-inside, others-bounded, other-attains, runner-up-named, own-origin}
 use Rattle.hard.specs.Placings.{NoneWithin, Sole, MostOther}
 use Rattle.hard.specs.OneList.{hitsOf, keyAt, originNumber, choice, InRange}
 use Rattle.best.specs.declared.lex.LexMax.{LexMax}
@@ -158,65 +158,26 @@ module _ (L M edges : ℕ) (confidence limit : Float) (ts : ℕ → ℕ) (tab : 
       abbrev r : RunnerUp
       r = runnerUp ss w n
 
-      at-position : (i : ℕ) → i < n → getD ss i noSummary ≡ transformSummary L M (ts i) (tab i)
+      at-position : (i : ℕ) → i < n → getD ss i noSummary ≡ summaryOf M (record { hits = B i; key = O i }) (N i) (ts i)
+      unfolding transformSummary
       at-position i l = summary-at L M edges confidence limit ts tab n i l few
 
+      -- no other placing has more hits than the runner-up, and one has as many
       own : N w .hits ≤ r .hits
-      unfolding transformSummary summaryOf competitorOf
-      own = rw (at-position w (W .in-list)) at (runner-up-own ss w n)
+      own = runner-up-inside L M n ts hit B O N tie ss at-position sums w key (W .in-list) (W .first)
 
-      other : (i : ℕ) → i < n → (i ≡ w → ⊥) → B i ≤ r .hits
-      unfolding transformSummary summaryOf competitorOf
-      other i l ne = rw (at-position i l) at (runner-up-other ss w n i l ne)
-
-      -- what it is: the runner-up inside the winner's transform, or another position's best
-      is : (r ≡ transformSummary L M (ts w) (tab w) .within) ⊎ ((i : ℕ) × (i < n) × (i ≡ w → ⊥) × (r ≡ transformSummary L M (ts i) (tab i) .best))
-      is = ⊎-elim
-          (λ e. inl (e ∙ ap (λ (x : TransformSummary). x .within) (at-position w (W .in-list))))
-          (λ u. inr (u .0, u .1, u .2, u .3 ∙ ap (λ (x : TransformSummary). x .best) (at-position (u .0) (u .1))))
-          (runner-up-is ss w n)
-
-      -- no other placing has more hits
       bounded : (i j : ℕ) → i < n → j < none → ((i ≡ w) × (j ≡ key) → ⊥) → hit i j ≤ r .hits
-      bounded i j hi hj ne = go (decided i w) (cases (tie w))
-        where
-          s : Summed none (hit w) (B w) (O w) (N w) (tie w)
-          s = sums w (W .in-list)
+      bounded = others-bounded L M n ts hit B O N tie ss at-position sums w key (W .in-list) (W .first)
 
-          go : (i ≡ w) ⊎ (i ≡ w → ⊥) → (tie w ≡ true) ⊎ (tie w ≡ false) → hit i j ≤ r .hits
-          go (inl e) (inl t) = rw e (omega (arith, s .most j, s .tied t, own))
-          go (inl e) (inr t) = rw e (omega (arith, s .others j hj (λ d. ne (e, d ∙ sym (W .first t))), own))
-          go (inr d) t = omega (arith, sums i hi .most j, other i hi d)
-
-      -- and one has as many
       attained : (i : ℕ) × (j : ℕ) × (i < n) × (j < none) × ((i ≡ w) × (j ≡ key) → ⊥) × (hit i j ≡ r .hits)
-      unfolding transformSummary summaryOf competitorOf
-      attained = ⊎-elim inside (λ u. let t = sums (u .0) (u .1) in (u .0, O (u .0), u .1, t .inside, (λ x. u .2 (x .0)), t .at ∙ sym (ap (λ (x : RunnerUp). x .hits) (u .3)))) is
-        where
-          s : Summed none (hit w) (B w) (O w) (N w) (tie w)
-          s = sums w (W .in-list)
-
-          inside : r ≡ transformSummary L M (ts w) (tab w) .within → (i : ℕ) × (j : ℕ) × (i < n) × (j < none) × ((i ≡ w) × (j ≡ key) → ⊥) × (hit i j ≡ r .hits)
-          inside e = go (decided key (O w)) (cases (tie w))
-            where
-              hits : N w .hits ≡ r .hits
-              hits = sym (ap (λ (x : RunnerUp). x .hits) e)
-
-              go : (key ≡ O w) ⊎ (key ≡ O w → ⊥) → (tie w ≡ true) ⊎ (tie w ≡ false) → (i : ℕ) × (j : ℕ) × (i < n) × (j < none) × ((i ≡ w) × (j ≡ key) → ⊥) × (hit i j ≡ r .hits)
-              go (inl o) t = let u = s .had in (w, u .0, W .in-list, u .1, (λ x. u .2 (x .1 ∙ o)), u .3 ∙ hits)
-              go (inr d) (inl t) = (w, O w, W .in-list, s .inside, (λ x. d (sym (x .1))), s .at ∙ sym (s .tied t) ∙ hits)
-              go (inr d) (inr t) = absurd (d (W .first t))
+      attained = other-attains L M n ts hit B O N tie ss at-position sums w key (W .in-list) (W .first)
 
       pub runner-up-most : MostOther n none edges limit hit w key (r .hits)
       runner-up-most = record { reached = attained; most = bounded }
 
       -- it stands at a list position, on the board
       named : (i : ℕ) × (k : ℕ) × (i < n) × (k < none) × (ts i ≡ r .transform) × (r .row ≡ k / (3 * M)) × (r .col ≡ k % (3 * M))
-      unfolding transformSummary summaryOf competitorOf
-      named = ⊎-elim
-          (λ e. rw e (w, N w .key, W .in-list, sums w (W .in-list) .key-in, refl, refl, refl))
-          (λ u. rw (u .3) (u .0, O (u .0), u .1, sums (u .0) (u .1) .inside, refl, refl, refl))
-          is
+      named = runner-up-named L M n ts hit B O N tie ss at-position sums w key (W .in-list) (W .first)
 
       pub in-range : InRange L M edges confidence limit ts tab n c r
       in-range =
@@ -273,25 +234,7 @@ module _ (L M edges : ℕ) (confidence limit : Float) (ts : ℕ → ℕ) (tab : 
       -- so the runner-up is named by an origin of its own
       pub place-named : passed edges (c .hits) (r .hits) ≡ true
           → (i : ℕ) × (i < n) × (ts i ≡ r .transform) × (keyAt M (r .row) (r .col) < none) × ((i ≡ w) × (keyAt M (r .row) (r .col) ≡ key) → ⊥) × (hit i (keyAt M (r .row) (r .col)) ≡ r .hits)
-      unfolding transformSummary summaryOf competitorOf
-      place-named e = ⊎-elim inside outside is
-        where
-          Named : RunnerUp → Type 0
-          Named x = (i : ℕ) × (i < n) × (ts i ≡ x .transform) × (keyAt M (x .row) (x .col) < none) × ((i ≡ w) × (keyAt M (x .row) (x .col) ≡ key) → ⊥) × (hit i (keyAt M (x .row) (x .col)) ≡ x .hits)
-
-          inside : r ≡ transformSummary L M (ts w) (tab w) .within → Named r
-          inside d =
-              let t = alone e in
-              let u = sums w (W .in-list) .named t in
-              let b = key-back (N w .key) in
-              rw d (w, W .in-list, refl, rw b (u .0), (λ x. u .1 (sym b ∙ x .1 ∙ W .first t)), rw b (u .2))
-
-          outside : (i : ℕ) × (i < n) × (i ≡ w → ⊥) × (r ≡ transformSummary L M (ts i) (tab i) .best) → Named r
-          outside v =
-              let i = v .0 in
-              let s = sums i (v .1) in
-              let b = key-back (O i) in
-              rw (v .3) (i, v .1, refl, rw b (s .inside), (λ x. v .2 (x .0)), rw b (s .at))
+      place-named e = own-origin L M n ts hit B O N tie ss at-position sums w key (W .in-list) (W .first) (alone e)
 
     -- ---- what the choice is
     abbrev pub Chose : Choice → Type 0

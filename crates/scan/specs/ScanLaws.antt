@@ -1,19 +1,22 @@
 -- What offering a candidate comes to, case by case, and what the runner-up is.
-use mathlib.Core.Path.{_≡_, refl, sym, _∙_}
+use mathlib.Core.Path.{_≡_, refl, sym, ap, _∙_}
 use mathlib.Core.Bool.{Bool, true, false, cond}
 use mathlib.Core.List.{List}
 use mathlib.Core.Logic.{_⊎_, inl, inr, ⊎-elim}
-use Prim.Native.Nat.{ℕ, zero, suc, _≤_, _<_}
+use Prim.Native.Nat.{ℕ, zero, suc, _+_, _≤_, _<_}
+use native.Mathlib.Numerals.{add-one}
 use native.Mathlib.Omega.{arith}
 use lib.Dec.{ltb, eqb}
 use lib.Ieee.{Float}
-use lib.ListN.{getD}
+use lib.ListN.{getD, set, length, length-set, length-replicate}
+use lib.Seq.{getD-set-same, getD-set-other}
 use borrow.Author.Tests.{ltb-true, ltb-false, le-ltb, eqb-true, eqb-false, ne-eqb}
 use Rattle.laws.specs.Tests.{clash, split}
-use Rattle.scan.specs.Scan.{overLimit, takes, behind, replaced, offeredWithin, noSummary, stepped, runnerUp}
+use Rattle.scan.specs.Scan.{overLimit, takes, behind, replaced, offeredWithin, noSummary, emptyScan, pushed, stepped, runnerUp}
 use Rattle.scan.specs.declared.scan.Candidate.{Candidate}
 use Rattle.scan.specs.declared.scan.TransformSummary.{TransformSummary}
 use Rattle.scan.specs.declared.scan.RunnerUp.{RunnerUp}
+use Rattle.scan.specs.declared.scan.HardScan.{HardScan}
 use Rattle.scan.specs.declared.scan.Kept.{Kept}
 use Rattle.scan.specs.declared.scan.Kept.the-variants.{Nobody, One}
 
@@ -41,6 +44,32 @@ module _ (edges : ℕ) (limit : Float) (kept : Kept) (c : Candidate) where
   pub offered-taken : takes kept (c .hits) (c .score) ≡ true → overLimit edges limit (c .hits) ≡ false → offeredWithin edges limit kept c ≡ One c
   unfolding offeredWithin replaced
   offered-taken e d = rw (d, e)
+
+-- ---- transforms added one after the other: position p has the summary s p, whatever was kept
+module _ (h : ℕ → HardScan) (s : ℕ → TransformSummary) (start : h 0 ≡ emptyScan) (next : (n : ℕ) → h (suc n) ≡ pushed (h n) (s n) (h (suc n) .best)) where
+  -- the count is the number of list positions
+  pub pushed-count : (n : ℕ) → h n .count ≡ n
+  unfolding pushed emptyScan
+  pushed-count zero = ap (λ (x : HardScan). x .count) start
+  pushed-count (suc n) = ap (λ (x : HardScan). x .count) (next n) ∙ rw (pushed-count n) (add-one n)
+
+  eight : (n : ℕ) → length (h n .summaries) ≡ 8
+  unfolding pushed emptyScan
+  eight zero = ap (λ (x : HardScan). length (x .summaries)) start ∙ length-replicate 8 noSummary
+  eight (suc n) = ap (λ (x : HardScan). length (x .summaries)) (next n) ∙ length-set (h n .summaries) (h n .count) (s n) ∙ eight n
+
+  -- each position's summary stays where it was stored
+  pub pushed-summary : (n p : ℕ) → p < n → n ≤ 8 → getD (h n .summaries) p noSummary ≡ s p
+  unfolding pushed
+  pushed-summary zero p l few = absurd (omega arith)
+  pushed-summary (suc n) p l few = ap (λ (x : HardScan). getD (x .summaries) p noSummary) (next n) ∙ rw (pushed-count n) (go (λ k. pushed-summary n p k (omega arith)) (split p n l))
+    where
+      apart : (i j : ℕ) → i < j → i ≡ j → ⊥
+      apart i j k e = omega arith
+
+      go : (p < n → getD (h n .summaries) p noSummary ≡ s p) → (p ≡ n) ⊎ (p < n) → getD (set (h n .summaries) n (s n)) p noSummary ≡ s p
+      go ih (inl e) = rw e (getD-set-same (h n .summaries) n (s n) noSummary (omega (arith, eight n)))
+      go ih (inr k) = getD-set-other (h n .summaries) n p (s n) noSummary (apart p n k) ∙ ih k
 
 -- ---- the runner-up: at least what the winner's transform offers and what each other position has, and one of these
 module _ (ss : List TransformSummary) (w : ℕ) where

@@ -137,7 +137,7 @@ fn step(r: RunnerUp, s: TransformSummary, own: bool) -> RunnerUp
 }
 
 // The runner-up of the winner at a list position: inside its own transform, then over the other positions in order.
-fn runner_up(scan: HardScan, winner: usize) -> RunnerUp
+pub fn runner_up(scan: HardScan, winner: usize) -> RunnerUp
     requires { ⌜ (scan .count ≤ 8) × (winner < scan .count) ⌝ }
     ensures { λ r. ⌜ r ≡ runnerUp (scan .summaries) winner (scan .count) ⌝ }
 {

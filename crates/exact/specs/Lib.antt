@@ -1,0 +1,4 @@
+pub mod ExactTheorems
+pub mod Select
+pub mod SelectLaws
+pub mod Winner

@@ -1,0 +1,100 @@
+-- C-15, one list: "The winner of a list is the placing, over all list positions and all origins, with most hits, then most weight, then the earliest list position, then row, then column."
+-- Here the scan that finds it, over the tables of values of each list position.
+use mathlib.Core.Bool.{true, false, cond, _&&_}
+use mathlib.Core.Path.{_≡_}
+use mathlib.Core.List.{List}
+use Prim.Native.Nat.{ℕ, zero, suc, _+_, _*_, _/_, _%_, _≤_, _<_}
+use lib.Dec.{ltb, leb}
+use lib.ListN.{length}
+use lib.Ieee.{Float}
+use Rattle.refusals.specs.Numbers.{numbered}
+use Rattle.refusals.specs.Numbers as why
+use Rattle.best.specs.CellTables.{Period}
+use Rattle.best.specs.declared.lex.LexMax.{LexMax}
+use Rattle.scan.specs.Scan.{overLimit, emptyScan, pushed, runnerUp}
+use Rattle.scan.specs.declared.scan.TransformSummary.{TransformSummary}
+use Rattle.scan.specs.declared.scan.Kept.the-variants.{Nobody}
+use Rattle.folding.specs.Transform.{bestHits, runnerUpWithin, summaryOf}
+use Rattle.values.specs.Values.{oneHit, hitsOf, weightOf, vAt, nAt, valueOf, firstOrigin, bestValue, byHits}
+use Rattle.exact_scan.specs.declared.kept.ExactCandidate.{ExactCandidate}
+use Rattle.exact_scan.specs.declared.kept.ExactScan.{ExactScan}
+use Rattle.exact_scan.specs.declared.kept.ExactSelection.{ExactSelection}
+use Rattle.exact_scan.specs.declared.kept.ExactSelection.the-variants.{Refused, Selected}
+
+-- the horizontal and the vertical table of values of one transform
+pub record ValueTables : Type 0 where
+  pub hs : List ℕ
+  pub vs : List ℕ
+
+abbrev pub valueTables : List ℕ → List ℕ → ValueTables
+valueTables hs vs = record { hs = hs; vs = vs }
+
+-- tables of a list: as long as the periods say, and the weights of two cells are together less than a hit, so that the hits of a sum are the sum of the hits; no pair of cells has more
+-- hits than a list may have edges
+pub record ValuesOk (L M : ℕ) (X : ValueTables) : Type 0 where
+  pub hcells : length (X .hs) ≡ 3 * L
+  pub vcells : length (X .vs) ≡ 3 * M
+  pub adds : (i j : ℕ) → i < 3 * L → j < 3 * M → weightOf (vAt (X .hs) i) + weightOf (vAt (X .vs) j) < oneHit
+  pub bounded : (i j : ℕ) → i < 3 * L → j < 3 * M → nAt (X .hs) i + nAt (X .vs) j ≤ 8192
+
+-- the summary of the transform t by hits alone, from what its two tables say
+unfoldable pub summaryBy : ℕ → ℕ → ℕ → LexMax → LexMax → ℕ → TransformSummary
+unfolding runnerUpWithin summaryOf
+summaryBy L M t a b first = summaryOf M (record { hits = bestHits a b; key = first }) (runnerUpWithin L M a b first) t
+
+-- the first origin of greatest value
+unfoldable pub exactOrigin : ℕ → ℕ → ValueTables → ℕ
+unfolding valueOf
+exactOrigin L M X = firstOrigin L M (X .hs) (X .vs) (valueOf (X .hs)) (valueOf (X .vs))
+
+unfoldable pub exactSummary : ℕ → ℕ → ℕ → ValueTables → TransformSummary
+unfolding summaryBy exactOrigin valueOf
+exactSummary L M t X = summaryBy L M t (byHits (valueOf (X .hs))) (byHits (valueOf (X .vs))) (exactOrigin L M X)
+
+-- the origin with the key k at a list position, with its value
+unfoldable pub candidateAt : ℕ → ℕ → ℕ → ℕ → ExactCandidate
+candidateAt M listed value k = record { value = value; placing = record { listed = listed; row = k / (3 * M); col = k % (3 * M) } }
+
+-- the best origin of the tables X, at a list position
+unfoldable pub exactCandidate : ℕ → ℕ → ℕ → ValueTables → ExactCandidate
+unfolding candidateAt exactOrigin valueOf
+exactCandidate L M listed X = candidateAt M listed (bestValue (valueOf (X .hs)) (valueOf (X .vs))) (exactOrigin L M X)
+
+-- "then the earliest list position": what is kept stays, unless the candidate has a greater value or is the first
+unfoldable pub taken : ExactCandidate → ExactCandidate → ExactCandidate
+taken kept c = cond (ltb 0 (c .placing .listed) && leb (c .value) (kept .value)) kept c
+
+-- ---- the scan
+unfoldable pub emptyExact : ExactScan
+unfolding emptyScan
+emptyExact = record { positions = emptyScan; best = record { value = 0; placing = record { listed = 0; row = 0; col = 0 } } }
+
+-- the transform t, with the tables X, at the scan's next list position
+unfoldable pub foldExact : ℕ → ℕ → ℕ → ValueTables → ExactScan → ExactScan
+unfolding exactSummary exactCandidate taken pushed
+foldExact L M t X scan = record { positions = pushed (scan .positions) (exactSummary L M t X) Nobody; best = taken (scan .best) (exactCandidate L M (scan .positions .count) X) }
+
+-- the first n list positions, of which position p has the transform ts p and the tables tab p
+unfoldable pub exactScanned : ℕ → ℕ → (ℕ → ℕ) → (ℕ → ValueTables) → ℕ → ExactScan
+unfolding emptyExact foldExact
+exactScanned L M ts tab zero = emptyExact
+exactScanned L M ts tab (suc p) = foldExact L M (ts p) (tab p) (exactScanned L M ts tab p)
+
+-- what a list of so many edges comes to: refused where the kept placing is over the limit, else the winner with its runner-up
+unfoldable pub finished : ℕ → Float → ExactScan → ExactSelection
+unfolding overLimit runnerUp
+finished edges limit scan =
+    cond (overLimit edges limit (hitsOf (scan .best .value)))
+    (Refused (numbered why.noneWithinLimit))
+    (Selected (record { hits = hitsOf (scan .best .value); weight = weightOf (scan .best .value); placing = scan .best .placing }) (runnerUp (scan .positions .summaries) (scan .best .placing .listed) (scan .positions .count)))
+
+-- ---- what folding a transform asks: tables of a list over two periods, and a place left in the scan
+abbrev pub ExactReady : ℕ → ℕ → ValueTables → ExactScan → Type 0
+ExactReady L M X scan = (Period L × Period M × ValuesOk L M X) × (scan .positions .count < 8)
+
+-- and what finishing asks: the kept placing stands at one of at most eight positions, with no more hits than edges
+pub record SoundExact (edges : ℕ) (scan : ExactScan) : Type 0 where
+  pub few : scan .positions .count ≤ 8
+  pub listed : scan .best .placing .listed < scan .positions .count
+  pub hits : hitsOf (scan .best .value) ≤ edges
+  pub small : edges ≤ 8192

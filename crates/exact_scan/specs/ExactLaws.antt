@@ -1,0 +1,153 @@
+-- Laws of the exact scan: what is known of a transform's two tables of values, how large its keys are, what is kept, and the fold put together.
+use mathlib.Core.Path.{_≡_, refl}
+use mathlib.Core.Bool.{Bool, true, false, cond, _&&_}
+use mathlib.Core.List.{List}
+use Prim.Native.Nat.{ℕ, _+_, _*_, _≤_, _<_}
+use native.Mathlib.Omega.{arith}
+use lib.Dec.{ltb, leb}
+use lib.ListN.{length}
+use lib.Ieee.{Float}
+use borrow.Author.Tests.{lt-ltb, le-ltb, le-leb, lt-leb}
+use Rattle.refusals.specs.Numbers.{numbered}
+use Rattle.refusals.specs.Numbers as why
+use Rattle.laws.specs.Words.{origins}
+use Rattle.laws.specs.Counting.{count-le}
+use Rattle.best.specs.CellTables.{Period}
+use Rattle.best.specs.declared.lex.LexMax.{LexMax}
+use Rattle.grid.specs.BoardGrid.{none-small}
+use Rattle.grid.specs.RowMajorLaws.{major-none}
+use Rattle.scan.specs.Scan.{overLimit, pushed, runnerUp}
+use Rattle.scan.specs.declared.scan.TransformSummary.{TransformSummary}
+use Rattle.scan.specs.declared.scan.HardScan.{HardScan}
+use Rattle.scan.specs.declared.scan.RunnerUp.{RunnerUp}
+use Rattle.scan.specs.declared.scan.Kept.the-variants.{Nobody}
+use Rattle.folding.specs.Transform.{BestOk, bestHits, runnerUpWithin, summaryOf}
+use Rattle.folding.specs.TransformLaws.{SaidOk, within-small}
+use Rattle.folding.specs.declared.transform.Ranked.{Ranked}
+use Rattle.values.specs.Values.{hitsOf, weightOf, vAt, nAt, valueBest, valueSecond, tiedValue, heldHits, valueOf, firstOrigin, bestValue, byHits}
+use Rattle.values.specs.ValuesLaws.{PairTop, cell-in, cell-top, second-inside}
+use Rattle.values.specs.declared.table.ValueMax.{ValueMax}
+use Rattle.exact_scan.specs.Exact.{ValueTables, ValuesOk, summaryBy, exactOrigin, exactSummary, candidateAt, exactCandidate, taken, foldExact, finished}
+use Rattle.exact_scan.specs.declared.kept.ExactCandidate.{ExactCandidate}
+use Rattle.exact_scan.specs.declared.kept.ExactScan.{ExactScan}
+use Rattle.exact_scan.specs.declared.kept.ExactSelection.the-variants.{Refused, Selected}
+
+-- ---- the tables
+-- what is known of what two tables say, and of their best origin
+pub record ExactSaid (L M : ℕ) (a b : ValueMax) (first : ℕ) : Type 0 where
+  pub best : BestOk L M (byHits a) (byHits b)
+  pub value : a .top + b .top ≤ 2 * 4503599627370496
+  pub small : first ≤ 2250000
+
+module _ (L M : ℕ) (p : Period L) (q : Period M) (X : ValueTables) (ok : ValuesOk L M X) where
+  abbrev hs : List ℕ
+  hs = X .hs
+
+  abbrev vs : List ℕ
+  vs = X .vs
+
+  pub h-two : 1 < length hs
+  h-two = omega (arith, ok .hcells, p .more)
+
+  pub v-two : 1 < length vs
+  v-two = omega (arith, ok .vcells, q .more)
+
+  pub said-top : (a b : ValueMax) → a ≡ valueOf hs → b ≡ valueOf vs → PairTop L M hs vs a b
+  said-top a b e d = rw (e, d) (cell-top (3 * L) hs (omega (arith, p .more)) (ok .hcells), cell-top (3 * M) vs (omega (arith, q .more)) (ok .vcells))
+
+  abbrev h : ℕ
+  h = valueBest hs
+
+  abbrev v : ℕ
+  v = valueBest vs
+
+  h-in : h < 3 * L
+  h-in = omega (arith, ok .hcells, cell-in hs h-two)
+
+  v-in : v < 3 * M
+  v-in = omega (arith, ok .vcells, cell-in vs v-two)
+
+  best-ok : BestOk L M (byHits (valueOf hs)) (byHits (valueOf vs))
+  unfolding valueOf
+  best-ok =
+      let i : valueSecond hs h < 3 * L = omega (arith, ok .hcells, second-inside hs h-two h) in
+      let j : valueSecond vs v < 3 * M = omega (arith, ok .vcells, second-inside vs v-two v) in
+      record {
+        h-cell = h-in;
+        h-second = i;
+        v-cell = v-in;
+        v-second = j;
+        h-tied = omega (arith, ok .hcells, p .few, count-le (heldHits hs (nAt hs h)) (length hs));
+        v-tied = omega (arith, ok .vcells, q .few, count-le (heldHits vs (nAt vs v)) (length vs));
+        h-optimal = omega (arith, ok .hcells, p .few, count-le (tiedValue hs (vAt hs h)) (length hs));
+        v-optimal = omega (arith, ok .vcells, q .few, count-le (tiedValue vs (vAt vs v)) (length vs));
+        top = ok .bounded h v h-in v-in;
+        across = ok .bounded (valueSecond hs h) v i v-in;
+        down = ok .bounded h (valueSecond vs v) h-in j;
+      }
+
+  -- hits and weights of a pair add up
+  together : (x y : ℕ) → hitsOf x + hitsOf y ≤ 8192 → weightOf x + weightOf y < 274877906944 → x + y ≤ 2 * 4503599627370496
+  together x y n m = omega arith
+
+  value-ok : valueOf hs .top + valueOf vs .top ≤ 2 * 4503599627370496
+  unfolding valueOf
+  value-ok = together (vAt hs h) (vAt vs v) (ok .bounded h v h-in v-in) (ok .adds h v h-in v-in)
+
+  pub said-ok : (a b : ValueMax) (first : ℕ) → a ≡ valueOf hs → b ≡ valueOf vs → first ≡ firstOrigin L M hs vs a b → ExactSaid L M a b first
+  said-ok a b first e d f = record {
+    best = rw (e, d) best-ok;
+    value = rw (e, d) value-ok;
+    small = omega (arith, f, none-small L M p q, major-none (origins L M) (length vs) (tiedValue hs (a .top)) (tiedValue vs (b .top)) (length hs));
+  }
+
+  -- ---- the fold from its parts
+  pub folded : (t : ℕ) (scan : ExactScan) (a b : ValueMax) (first : ℕ) (s : TransformSummary) (c best : ExactCandidate) (positions : HardScan)
+      → a ≡ valueOf hs
+      → b ≡ valueOf vs
+      → first ≡ firstOrigin L M hs vs a b
+      → s ≡ summaryBy L M t (byHits a) (byHits b) first
+      → c ≡ candidateAt M (scan .positions .count) (bestValue a b) first
+      → best ≡ taken (scan .best) c
+      → positions ≡ pushed (scan .positions) s Nobody
+      → record { positions = positions; best = best } ≡ foldExact L M t X scan
+  unfolding foldExact exactSummary exactCandidate exactOrigin
+  folded t scan a b first s c best positions ea eb ef es ec ek ep = rw (ep, ek, ec, es, ef, ea, eb)
+
+-- ---- the summary by hits, from its parts
+module _ (L M : ℕ) (p : Period L) (q : Period M) (a b x y : LexMax) (first : ℕ) (within : Ranked) (ok : BestOk L M a b) (small : first ≤ 2250000) (ex : x ≡ a) (ey : y ≡ b) where
+  pub parts-ok : BestOk L M x y
+  parts-ok = rw (ex, ey) ok
+
+  -- the runner-up inside is named by a key as small
+  pub parts-small : within ≡ runnerUpWithin L M x y first → within .key ≤ 2250000
+  parts-small e = within-small L M p q 8192 x y first within (record { best = parts-ok; most = parts-ok .top; first-small = small }) e
+
+  pub summarized : (t : ℕ) (s : TransformSummary) → within ≡ runnerUpWithin L M x y first → s ≡ summaryOf M (record { hits = bestHits x y; key = first }) within t → s ≡ summaryBy L M t a b first
+  unfolding summaryBy
+  summarized t s en es = rw (es, en, ex, ey)
+
+-- ---- what is kept
+module _ (kept c : ExactCandidate) where
+  pub stays : 0 < c .placing .listed → c .value ≤ kept .value → kept ≡ taken kept c
+  unfolding taken
+  stays l m = rw (lt-ltb 0 (c .placing .listed) l, le-leb (c .value) (kept .value) m)
+
+  pub greater : 0 < c .placing .listed → kept .value < c .value → c ≡ taken kept c
+  unfolding taken
+  greater l m = rw (lt-ltb 0 (c .placing .listed) l, lt-leb (c .value) (kept .value) m)
+
+  pub earliest : c .placing .listed ≤ 0 → c ≡ taken kept c
+  unfolding taken
+  earliest l = rw (le-ltb 0 (c .placing .listed) l)
+
+-- ---- what the scan comes to
+module _ (edges : ℕ) (limit : Float) (scan : ExactScan) (hits : ℕ) (e : hits ≡ hitsOf (scan .best .value)) where
+  pub finish-over : overLimit edges limit hits ≡ true → Refused (numbered why.noneWithinLimit) ≡ finished edges limit scan
+  unfolding finished
+  finish-over t = rw (← e, t)
+
+  pub finish-within : (weight : ℕ) (r : RunnerUp) → overLimit edges limit hits ≡ false → weight ≡ weightOf (scan .best .value) → r ≡ runnerUp (scan .positions .summaries) (scan .best .placing .listed) (scan .positions .count)
+      → Selected (record { hits = hits; weight = weight; placing = scan .best .placing }) r ≡ finished edges limit scan
+  unfolding finished
+  finish-within weight r t ew er = rw (← e, t, ← ew, ← er)

@@ -18,6 +18,8 @@ fn put(file: &mut File, r: &mut Random, board: &oracle::count::Board, squares: i
         }
     };
     let kind = poles::kind(r);
+    // match statistics half of the time elsewhere than where the window was cut
+    let at = if r.once_in(2) { poles::placing(r, board) } else { at };
     let (mut call, answer) = poles::counted(kind, board, &case, &at);
     if r.once_in(3) {
         call.room = call.room.map(|n| n + 4);
@@ -30,7 +32,7 @@ fn main() {
     let mut file = File::default();
     let path = match words.iter().map(String::as_str).collect::<Vec<_>>()[1..] {
         ["stored", path] => {
-            let mut r = Random(15);
+            let mut r = Random(21);
             for length in poles::LENGTHS.into_iter().filter(|&l| l != 167) {
                 for i in 0..BOARDS {
                     let board = if i == 0 { poles::good_board(&mut r, length) } else { poles::board(&mut r, length) };

@@ -1,4 +1,4 @@
-/* Samburext for C and C++: which square of a 501 by 501 PuzzleBoard a camera faces, or a refusal.
+/* Samburext for C and C++: which square of a PuzzleBoard a camera faces, or a refusal.
  *
  * Link with target/staticlib/libsamburext.a, which tools/archive writes (x86-64 Linux). Each function takes every input: it
  * ends, reads and writes nothing but the slices it was lent, keeps nothing between calls, and may be called from several
@@ -11,6 +11,9 @@
  *
  * Edge lists. A list of n edges is five columns of n elements: rows and columns from -1,000,000 to 1,000,000, orientations
  * (0 horizontal, 1 vertical), bits (0 or 1), confidences (0 to 1). A list has 1 to 8,192 edges; match statistics also take 0.
+ *
+ * Boards. The vertical pattern table has 167 bytes. The horizontal one has L: 167 on the flat board, and on a target that is wrapped round a pole any
+ * L from 4 to 500 that is no multiple of 3. Rows of an origin go from 0 to 3L - 1, where row 0 comes next (the seam), columns from 0 to 500.
  *
  * Refusals. `refusal` is 0 when found. On a refusal every field but `refusal`, `list` and `position` is SAMBUREXT_NOTHING or NaN:
  * there is no square in it. Refusals 4, 16, 17, 5 and 6 are about an edge: `list` is a number of samburext_list, and `position` is the
@@ -43,22 +46,32 @@ extern "C" {
    and every other field has its old name and value (in a refusal both were NaN). The second_.. fields are new. The old answer is defined from
    the new ones as `tenFields` (crates/ten_fields/specs/TenFields.antt), and the Rattle library has a function that is proved to compute it. */
 
-/* The least lengths of the room slices; what they hold before has no influence. */
-#define SAMBUREXT_ROOM_COUNTS 3006  /* u32 */
-#define SAMBUREXT_ROOM_WEIGHTS 3006 /* f32 */
-#define SAMBUREXT_ROOM_SUMS 5010    /* i64, soft decode alone */
+/* The least lengths of the room slices where the horizontal pattern table has L bytes; what they hold before has no influence. Longer slices are
+   taken too: room for SAMBUREXT_MAX_POLE_LENGTH serves every board. */
+#define SAMBUREXT_ROOM_COUNTS_FOR(L) (9 * (L) + 1503)  /* u32 */
+#define SAMBUREXT_ROOM_WEIGHTS_FOR(L) (9 * (L) + 1503) /* f32 */
+#define SAMBUREXT_ROOM_SUMS_FOR(L) (15 * (L) + 2505)   /* i64, soft decode alone */
 
-#define SAMBUREXT_TABLE_LENGTH 167    /* bytes of a pattern table, each 0 to 7 */
+/* The same for the flat board. */
+#define SAMBUREXT_ROOM_COUNTS SAMBUREXT_ROOM_COUNTS_FOR(SAMBUREXT_TABLE_LENGTH)   /* 3,006 */
+#define SAMBUREXT_ROOM_WEIGHTS SAMBUREXT_ROOM_WEIGHTS_FOR(SAMBUREXT_TABLE_LENGTH) /* 3,006 */
+#define SAMBUREXT_ROOM_SUMS SAMBUREXT_ROOM_SUMS_FOR(SAMBUREXT_TABLE_LENGTH)       /* 5,010 */
+
+#define SAMBUREXT_TABLE_LENGTH 167    /* bytes of the vertical pattern table, and of the flat board's horizontal one, each 0 to 7 */
+#define SAMBUREXT_MIN_POLE_LENGTH 4   /* bytes of a pole's horizontal pattern table: from here */
+#define SAMBUREXT_MAX_POLE_LENGTH 500 /* to here, */
+#define SAMBUREXT_IS_POLE_LENGTH(L) ((L) >= SAMBUREXT_MIN_POLE_LENGTH && (L) <= SAMBUREXT_MAX_POLE_LENGTH && (L) % 3 != 0) /* and no multiple of 3 */
 #define SAMBUREXT_MAX_EDGES 8192      /* edges of a list */
 #define SAMBUREXT_MAX_TRANSFORMS 8    /* transform numbers in search order, each 0 to 7 */
-#define SAMBUREXT_BOARD_SQUARES 501   /* rows and columns of an origin go from 0 to one less */
+#define SAMBUREXT_BOARD_SQUARES 501   /* columns of an origin go from 0 to one less, and on the flat board rows too */
+#define SAMBUREXT_BOARD_ROWS_FOR(L) (3 * (L)) /* rows of an origin go from 0 to one less, where the horizontal pattern table has L bytes */
 #define SAMBUREXT_NOTHING 0xFFFFFFFFu /* a whole number that an answer does not have */
 
 /* Why a call was refused: of 1, 2, 3, 4, 16, 17, 5, 6, 7, 8, 9 the first in this order that applies, over all lists, else one of
    10 to 15. In earlier versions 4 stood for 16 and 17 too: a program that tests for 4 must now also know these two. */
 enum samburext_refusal {
     SAMBUREXT_FOUND = 0,                /* not refused */
-    SAMBUREXT_ROOM_TOO_SHORT = 1,       /* a room slice is too short */
+    SAMBUREXT_ROOM_TOO_SHORT = 1,       /* a room slice is too short for the horizontal table's length; where that is no pole's, for L = 4 */
     SAMBUREXT_LENGTHS_DIFFER = 2,       /* the columns of one list differ in length */
     SAMBUREXT_LIST_SIZE = 3,            /* a list is empty or has more than 8,192 edges */
     SAMBUREXT_BAD_COORDINATE = 4,       /* a row or column is out of range; says which edge */
@@ -67,8 +80,8 @@ enum samburext_refusal {
     SAMBUREXT_BAD_CONFIDENCE = 5,       /* a confidence is no number from 0 to 1; says which edge */
     SAMBUREXT_BAD_LIKELIHOOD = 6,       /* a log likelihood is no finite number from -65,536 to 65,536; says which edge */
     SAMBUREXT_BAD_TRANSFORM = 7,        /* no transforms, more than eight, or one above 7 */
-    SAMBUREXT_BAD_TABLE = 8,            /* a pattern table has not 167 bytes from 0 to 7 */
-    SAMBUREXT_BAD_SETTING = 9,          /* error limit, soft margin or given origin out of range */
+    SAMBUREXT_BAD_TABLE = 8,            /* the horizontal table has no pole length, the vertical one not 167 bytes, or a byte is above 7 */
+    SAMBUREXT_BAD_SETTING = 9,          /* error limit or soft margin out of range, or a given origin's row from 3L or column from 501 on */
     SAMBUREXT_NO_CONFIDENCE = 10,       /* a list has no confidence at all */
     SAMBUREXT_NONE_WITHIN_LIMIT = 11,   /* no listed transform comes within the error limit */
     SAMBUREXT_LISTS_DISAGREE = 12,      /* the logical and the physical list point to different squares */
@@ -90,7 +103,7 @@ typedef struct samburext_answer {
     uint32_t list;                /* the list of the edge that the refusal is about: a number of samburext_list, or SAMBUREXT_NOTHING */
     uint32_t position;            /* the place of that edge in its list, counting from 0, or SAMBUREXT_NOTHING */
     uint32_t transform;           /* the transform's number, 0 to 7 */
-    uint32_t row;                 /* the origin's row on the board, 0 to 500 */
+    uint32_t row;                 /* the origin's row on the board, 0 to 3L - 1: 500 on the flat board */
     uint32_t col;                 /* the origin's column, 0 to 500 */
     uint32_t hits;                /* edges of the logical list whose bit is the one that the board predicts there */
     uint32_t edges;               /* edges of the logical list */
@@ -113,7 +126,7 @@ typedef struct samburext_soft_answer {
     uint32_t list;                /* the list of the edge that the refusal is about: a number of samburext_list, or SAMBUREXT_NOTHING */
     uint32_t position;            /* the place of that edge in its list, counting from 0, or SAMBUREXT_NOTHING */
     uint32_t transform;           /* the transform's number, 0 to 7 */
-    uint32_t row;                 /* the origin's row on the board, 0 to 500 */
+    uint32_t row;                 /* the origin's row on the board, 0 to 3L - 1: 500 on the flat board */
     uint32_t col;                 /* the origin's column, 0 to 500 */
     uint32_t hits;                /* edges of the physical list whose bit is the one that the board predicts there */
     uint32_t edges;               /* edges of the physical list */
@@ -156,11 +169,11 @@ samburext_answer samburext_decode_hard(
     const uint8_t *physical_bits, size_t physical_bits_length,                 /* its bits */
     const float *physical_confidences, size_t physical_confidences_length,     /* its confidences */
     const uint8_t *transforms, size_t transforms_length, /* 1 to 8 transform numbers in search order, each 0 to 7 */
-    const uint8_t *horizontal, size_t horizontal_length, /* the horizontal pattern table: 167 bytes, each 0 to 7 */
+    const uint8_t *horizontal, size_t horizontal_length, /* the horizontal pattern table: L bytes, each 0 to 7, of a pole length L; 167 on the flat board */
     const uint8_t *vertical, size_t vertical_length,     /* the vertical pattern table: 167 bytes, each 0 to 7 */
     float error_limit,                                   /* the largest error rate that is taken, 0 to 1 */
-    uint32_t *counts, size_t counts_length,              /* room, at least SAMBUREXT_ROOM_COUNTS */
-    float *weights, size_t weights_length);              /* room, at least SAMBUREXT_ROOM_WEIGHTS */
+    uint32_t *counts, size_t counts_length,              /* room, at least SAMBUREXT_ROOM_COUNTS_FOR(horizontal_length) */
+    float *weights, size_t weights_length);              /* room, at least SAMBUREXT_ROOM_WEIGHTS_FOR(horizontal_length) */
 
 /* Soft decode: the square by the likelihoods of the physical list; the hits of the logical list must confirm it.
    The logical list comes first, as in hard decode. In earlier versions the physical list and its likelihoods came first: a program
@@ -179,13 +192,13 @@ samburext_soft_answer samburext_decode_soft(
     const float *match_likelihoods, size_t match_likelihoods_length,       /* each physical edge's log likelihood of a hit */
     const float *mismatch_likelihoods, size_t mismatch_likelihoods_length, /* and of a miss, -65,536 to 65,536 */
     const uint8_t *transforms, size_t transforms_length, /* 1 to 8 transform numbers in search order, each 0 to 7 */
-    const uint8_t *horizontal, size_t horizontal_length, /* the horizontal pattern table: 167 bytes, each 0 to 7 */
+    const uint8_t *horizontal, size_t horizontal_length, /* the horizontal pattern table: L bytes, each 0 to 7, of a pole length L; 167 on the flat board */
     const uint8_t *vertical, size_t vertical_length,     /* the vertical pattern table: 167 bytes, each 0 to 7 */
     float error_limit,                                   /* the largest error rate of the logical list, 0 to 1 */
     float soft_margin,                                   /* the least margin that is taken, in log likelihood per edge, 0 to 65,536 */
-    uint32_t *counts, size_t counts_length,              /* room, at least SAMBUREXT_ROOM_COUNTS */
-    float *weights, size_t weights_length,               /* room, at least SAMBUREXT_ROOM_WEIGHTS */
-    int64_t *sums, size_t sums_length);                  /* room, at least SAMBUREXT_ROOM_SUMS */
+    uint32_t *counts, size_t counts_length,              /* room, at least SAMBUREXT_ROOM_COUNTS_FOR(horizontal_length) */
+    float *weights, size_t weights_length,               /* room, at least SAMBUREXT_ROOM_WEIGHTS_FOR(horizontal_length) */
+    int64_t *sums, size_t sums_length);                  /* room, at least SAMBUREXT_ROOM_SUMS_FOR(horizontal_length) */
 
 /* Match statistics: how one list fits a known transform and origin. No room is needed. */
 samburext_stats samburext_match_stats(
@@ -195,9 +208,9 @@ samburext_stats samburext_match_stats(
     const uint8_t *bits, size_t bits_length,                 /* its bits */
     const float *confidences, size_t confidences_length,     /* its confidences */
     uint32_t transform,                                      /* the transform's number, 0 to 7 */
-    uint32_t row,                                            /* the origin's row on the board, 0 to 500 */
+    uint32_t row,                                            /* the origin's row on the board, 0 to 3L - 1: 500 on the flat board */
     uint32_t column,                                         /* the origin's column, 0 to 500 */
-    const uint8_t *horizontal, size_t horizontal_length, /* the horizontal pattern table: 167 bytes, each 0 to 7 */
+    const uint8_t *horizontal, size_t horizontal_length, /* the horizontal pattern table: L bytes, each 0 to 7, of a pole length L; 167 on the flat board */
     const uint8_t *vertical, size_t vertical_length);    /* the vertical pattern table: 167 bytes, each 0 to 7 */
 
 #ifdef __cplusplus

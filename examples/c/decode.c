@@ -1,42 +1,42 @@
 /* A window of a small made-up board, decoded by hits (hard) and by likelihoods (soft): each once as it is, and once so that it is refused, by an
  * error limit that no call takes and by a soft margin that no window has; and once more by hits, with one bit that is none. It prints all five
- * answers whole, so that what a refusal holds can be seen, and how the window fits its square. Compiled and run by .ci/tests/boundary, which compares
- * what it prints. */
+ * answers whole, so that what a refusal holds can be seen, and how the window fits its square; and last a window of a target that is wrapped round a
+ * pole. Compiled and run by .ci/tests/boundary, which compares what it prints. */
 #include "samburext.h"
 
 #include <stdio.h>
 
-enum { CORNERS = 12, EDGES = 2 * CORNERS * (CORNERS - 1), ROW = 123, COLUMN = 456 };
+enum { CORNERS = 12, EDGES = 2 * CORNERS * (CORNERS - 1), ROW = 123, COLUMN = 456, POLE = 200, POLE_ROW = 3 * POLE - 5 };
 
-static uint8_t horizontal[SAMBUREXT_TABLE_LENGTH], vertical[SAMBUREXT_TABLE_LENGTH];
+static uint8_t horizontal[SAMBUREXT_TABLE_LENGTH], vertical[SAMBUREXT_TABLE_LENGTH], pole[POLE];
 static int32_t rows[EDGES], columns[EDGES];
 static uint8_t orientations[EDGES], bits[EDGES];
 static float confidences[EDGES], matches[EDGES], mismatches[EDGES];
-static uint32_t counts[SAMBUREXT_ROOM_COUNTS];
-static float weights[SAMBUREXT_ROOM_WEIGHTS];
+static uint32_t counts[SAMBUREXT_ROOM_COUNTS_FOR(POLE)]; /* the longer board's room serves both */
+static float weights[SAMBUREXT_ROOM_WEIGHTS_FOR(POLE)];
 static int64_t sums[SAMBUREXT_ROOM_SUMS];
 static const uint8_t transforms[] = {0, 1, 2, 3};
 
 /* A pattern table of three-bit patterns from a small generator. */
-static uint32_t fill_table(uint8_t *table, uint32_t state)
+static uint32_t fill_table(uint8_t *table, int length, uint32_t state)
 {
-    for (int i = 0; i < SAMBUREXT_TABLE_LENGTH; i++) {
+    for (int i = 0; i < length; i++) {
         state = state * 1664525u + 1013904223u;
         table[i] = (uint8_t)((state >> 24) % 8);
     }
     return state;
 }
 
-/* The bit of an edge that a camera sees which faces (ROW, COLUMN) upright: transform 0, whose lookup is one row up for a
- * horizontal edge and one column back for a vertical one. */
-static uint8_t seen(int32_t row, int32_t column, uint8_t orientation)
+/* The bit of an edge that a camera sees which faces column COLUMN and this row of a board upright: transform 0, whose lookup is one row up
+ * for a horizontal edge and one column back for a vertical one. The horizontal table has a length of its own on a pole. */
+static uint8_t seen(const uint8_t *table, int length, int at_row, int32_t row, int32_t column, uint8_t orientation)
 {
     if (orientation == 0)
-        return (uint8_t)(horizontal[(row - 1 + ROW) % 167] >> (column + COLUMN) % 3 & 1);
-    return (uint8_t)(vertical[(column - 1 + COLUMN) % 167] >> (row + ROW) % 3 & 1);
+        return (uint8_t)(table[(row - 1 + at_row) % length] >> (column + COLUMN) % 3 & 1);
+    return (uint8_t)(vertical[(column - 1 + COLUMN) % 167] >> (row + at_row) % 3 & 1);
 }
 
-static void fill_window(void)
+static void fill_window(const uint8_t *table, int length, int at_row)
 {
     int n = 0;
     for (uint8_t orientation = 0; orientation < 2; orientation++)
@@ -45,7 +45,7 @@ static void fill_window(void)
                 rows[n] = row;
                 columns[n] = column;
                 orientations[n] = orientation;
-                bits[n] = seen(row, column, orientation);
+                bits[n] = seen(table, length, at_row, row, column, orientation);
                 confidences[n] = 0.75f;
                 matches[n] = -0.125f; /* the logarithm of how likely this reading is if the board has this bit here, */
                 mismatches[n] = orientation == 0 ? -3.0f : -2.0f; /* and if it has the other; each edge may have its own */
@@ -149,8 +149,8 @@ static void soft_and_print(float soft_margin)
 
 int main(void)
 {
-    fill_table(vertical, fill_table(horizontal, 12345u));
-    fill_window();
+    fill_table(vertical, SAMBUREXT_TABLE_LENGTH, fill_table(horizontal, SAMBUREXT_TABLE_LENGTH, 12345u));
+    fill_window(horizontal, SAMBUREXT_TABLE_LENGTH, ROW);
     hard_and_print(0.1f);
     hard_and_print(1.5f);
     soft_and_print(0.02f);
@@ -163,5 +163,16 @@ int main(void)
         horizontal, sizeof horizontal, vertical, sizeof vertical);
     printf("statistics: refusal %u, list %u, position %u, edges %u, hits %u\n", (unsigned)stats.refusal, (unsigned)stats.list,
            (unsigned)stats.position, (unsigned)stats.edges, (unsigned)stats.hits);
+
+    /* A pole: the horizontal table by its own length, and room for that length. This window runs over the seam, where the last row meets row 0. */
+    fill_table(pole, POLE, 54321u);
+    fill_window(pole, POLE, POLE_ROW);
+    samburext_answer found = samburext_decode_hard(
+        rows, EDGES, columns, EDGES, orientations, EDGES, bits, EDGES, confidences, EDGES,
+        rows, EDGES, columns, EDGES, orientations, EDGES, bits, EDGES, confidences, EDGES,
+        transforms, sizeof transforms, pole, POLE, vertical, sizeof vertical, 0.1f,
+        counts, SAMBUREXT_ROOM_COUNTS_FOR(POLE), weights, SAMBUREXT_ROOM_WEIGHTS_FOR(POLE));
+    printf("pole of %d rows: refusal %u, row %u, col %u, hits %u\n", SAMBUREXT_BOARD_ROWS_FOR(POLE), (unsigned)found.refusal, (unsigned)found.row,
+           (unsigned)found.col, (unsigned)found.hits);
     return 0;
 }

@@ -1,5 +1,6 @@
-//! Samburext for Rust programs: which square of a 501 by 501 PuzzleBoard a camera faces, or a refusal. A safe wrapper over the
-//! proved static library: a found square is an `Ok`, a refusal an `Err`, so no program can go on with a square that was not found.
+//! Samburext for Rust programs: which square of a PuzzleBoard a camera faces, or a refusal; the flat board has 501 by 501 squares, one
+//! wrapped round a pole 3L rows of 501. A safe wrapper over the proved static library: a found square is an `Ok`, a refusal an `Err`,
+//! so no program can go on with a square that was not found.
 
 mod raw;
 mod refusal;
@@ -8,10 +9,38 @@ mod tests;
 
 pub use refusal::{EdgePlace, List, Refusal, Refused};
 
-/// The least lengths of the room's three slices.
-pub const ROOM_COUNTS: usize = 3006;
-pub const ROOM_WEIGHTS: usize = 3006;
-pub const ROOM_SUMS: usize = 5010;
+/// The length of the flat board's two pattern tables, and of every vertical one.
+pub const FLAT_LENGTH: usize = 167;
+
+/// The least lengths of the room's three slices on the flat board.
+pub const ROOM_COUNTS: usize = tables_for(FLAT_LENGTH);
+pub const ROOM_WEIGHTS: usize = tables_for(FLAT_LENGTH);
+pub const ROOM_SUMS: usize = sums_for(FLAT_LENGTH);
+
+/// Whether a horizontal pattern table may have this length L: 4 to 500, and no multiple of 3. The flat board's has 167.
+pub const fn pole_length(length: usize) -> bool {
+    length >= 4 && length <= 500 && length % 3 != 0
+}
+
+// The pole length by which room is asked for: for a bad length, which is refused, the smallest.
+const fn asked_length(length: usize) -> usize {
+    if pole_length(length) {
+        length
+    } else {
+        4
+    }
+}
+
+/// The least length of the room's counts and weights where the horizontal table has length L: 9L + 1,503. Where L is no pole length, that of
+/// the smallest pole: the call is then refused all the same.
+pub const fn tables_for(length: usize) -> usize {
+    9 * asked_length(length) + 1503
+}
+
+/// The same of the room's sums: 15L + 2,505.
+pub const fn sums_for(length: usize) -> usize {
+    15 * asked_length(length) + 2505
+}
 
 /// One observed edge.
 #[derive(Clone, Copy, Debug, PartialEq)]
@@ -70,14 +99,18 @@ pub struct Likelihoods {
     pub mismatches: Vec<f32>,
 }
 
-/// The two pattern tables of a board, 167 bytes each, each 0 to 7.
+/// The two pattern tables of a board, each byte 0 to 7. A target wrapped round a pole has a horizontal table of its own length.
 #[derive(Clone, Copy, Debug)]
 pub struct Patterns<'a> {
+    /// L bytes, of a pole length L: 4 to 500, and no multiple of 3; 167 on the flat board. An origin's rows go from 0 to 3L - 1, and
+    /// after the last comes row 0 again (the seam).
     pub horizontal: &'a [u8],
+    /// 167 bytes on every board; an origin's columns go from 0 to 500.
     pub vertical: &'a [u8],
 }
 
-/// The room that the decoders work in, to be kept and lent again. What it holds has no influence on an answer.
+/// The room that the decoders work in, to be kept and lent again, for any board. What it holds has no influence on an answer. A call makes it
+/// longer where it is too short for the call's horizontal table, and never shorter.
 #[derive(Clone, Debug, PartialEq)]
 pub struct Room {
     pub counts: Vec<u32>,
@@ -86,9 +119,21 @@ pub struct Room {
 }
 
 impl Room {
-    /// Room for hard and soft decode.
+    /// Room for hard and soft decode on the flat board.
     pub fn new() -> Room {
         Room { counts: vec![0; ROOM_COUNTS], weights: vec![0.0; ROOM_WEIGHTS], sums: vec![0; ROOM_SUMS] }
+    }
+
+    // The room that the tables of a call need, where the horizontal one has this length.
+    fn grow_tables(&mut self, length: usize) {
+        let least = tables_for(length);
+        self.counts.resize(least.max(self.counts.len()), 0);
+        self.weights.resize(least.max(self.weights.len()), 0.0);
+    }
+
+    // The room that the sums of a call need.
+    fn grow_sums(&mut self, length: usize) {
+        self.sums.resize(sums_for(length).max(self.sums.len()), 0);
     }
 }
 
@@ -98,7 +143,8 @@ impl Default for Room {
     }
 }
 
-/// A transform by number, with an origin on the board.
+/// A transform by number, with an origin on the board: a row from 0 to 3L - 1 where the horizontal pattern table has length L (500 on the flat
+/// board), and a column from 0 to 500.
 #[derive(Clone, Copy, Debug, PartialEq, Eq)]
 pub struct Square {
     pub transform: u32,
@@ -213,7 +259,8 @@ fn counted(stats: raw::Stats) -> Result<MatchStats, Refused> {
     }
 }
 
-/// Hard decode: the square by the hits of the logical list, within the error limit; the physical list must agree.
+/// Hard decode: the square by the hits of the logical list, within the error limit; the physical list must agree. The room is made as long as
+/// the board needs it.
 pub fn decode_hard(
     logical: &EdgeList,
     physical: &EdgeList,
@@ -222,10 +269,12 @@ pub fn decode_hard(
     error_limit: f32,
     room: &mut Room,
 ) -> Result<Decoded, Refused> {
+    room.grow_tables(patterns.horizontal.len());
     decoded(decode_hard_raw(logical, physical, transforms, patterns, error_limit, room))
 }
 
-// The same, with the answer as the library gives it: on a refusal every field but `refusal`, `list` and `position` is 0xFFFFFFFF or NaN.
+// The same in room as it is, with the answer as the library gives it: on a refusal every field but `refusal`, `list` and `position` is
+// 0xFFFFFFFF or NaN.
 fn decode_hard_raw(
     logical: &EdgeList,
     physical: &EdgeList,
@@ -272,7 +321,8 @@ fn decode_hard_raw(
     }
 }
 
-/// Soft decode: the square by the likelihoods of the physical list; the hits of the logical list must confirm it.
+/// Soft decode: the square by the likelihoods of the physical list; the hits of the logical list must confirm it. The room is made as long as
+/// the board needs it.
 #[allow(clippy::too_many_arguments)]
 pub fn decode_soft(
     logical: &EdgeList,
@@ -284,10 +334,12 @@ pub fn decode_soft(
     soft_margin: f32,
     room: &mut Room,
 ) -> Result<SoftDecoded, Refused> {
+    room.grow_tables(patterns.horizontal.len());
+    room.grow_sums(patterns.horizontal.len());
     soft_decoded(decode_soft_raw(logical, physical, likelihoods, transforms, patterns, error_limit, soft_margin, room))
 }
 
-// The same, with the answer as the library gives it.
+// The same in room as it is, with the answer as the library gives it.
 #[allow(clippy::too_many_arguments)]
 fn decode_soft_raw(
     logical: &EdgeList,

@@ -91,7 +91,9 @@ impl fmt::Display for Refusal {
             Refusal::BadConfidence => "a confidence is not a number from 0 to 1",
             Refusal::BadLikelihood => "a log likelihood is not a finite number from -65,536 to 65,536",
             Refusal::BadTransform => "there are no transforms, more than eight, or one above 7",
-            Refusal::BadTable => "a pattern table has not 167 entries from 0 to 7",
+            Refusal::BadTable => {
+                "the horizontal pattern table has not 4 to 500 entries from 0 to 7, their number no multiple of 3, or the vertical one not 167"
+            }
             Refusal::BadSetting => "the error limit, the soft margin or the given origin is out of range",
             Refusal::NoConfidence => "a list has no confidence at all",
             Refusal::NoneWithinLimit => "no listed transform comes within the error limit",

@@ -1,6 +1,7 @@
 //! The three functions through the static library: found, each refusal, the edge that it is about, the room, and what a refusal holds.
 
 mod board;
+mod poles;
 
 use crate::{
     counted, decode_hard, decode_hard_raw, decode_soft, decode_soft_raw, decoded, match_stats, match_stats_raw, raw,
@@ -403,10 +404,10 @@ fn nan_in_the_room<A: PartialEq + Debug>(decode: fn(&Call, &mut Room) -> Result<
         assert!(bits(&room.weights[..untouched]).iter().all(|x| *x == 0));
         assert_eq!(bits(&room.weights[untouched..]), bits(&stale.weights[untouched..]));
     }
-    // too short by one: nothing is written
+    // too short by one: it is made longer, and then it is used
     let mut room = Room { weights: nans(ROOM_WEIGHTS - 1), ..used_room() };
-    assert_eq!(decode(&call, &mut room), Err(nowhere(Refusal::RoomTooShort)));
-    assert_eq!(bits(&room.weights), bits(&nans(ROOM_WEIGHTS - 1)));
+    assert_eq!(decode(&call, &mut room), decode(&call, &mut Room::new()));
+    assert_eq!(bits(&room.weights), bits(&[0.0; ROOM_WEIGHTS]));
 }
 
 #[test]
@@ -431,25 +432,40 @@ fn a_refusal_after_a_found_answer_holds_nothing_of_it() {
 
 // ---- refusals 1 to 9, 16 and 17, through both decoders
 
+/// In room as it is: 1, and the room is untouched. The safe functions make it longer, so they never give this.
 #[test]
 fn refusal_1_room_too_short() {
-    both_refused(
-        &[
-            |c| c.room.counts.truncate(ROOM_COUNTS - 1),
-            |c| c.room.weights.truncate(ROOM_WEIGHTS - 1),
-            |c| c.room.counts.clear(),
-            |c| {
-                c.room.weights.clear();
-                c.physical.bits.pop();
-                c.limit = 2.0;
-            },
-        ],
-        Refusal::RoomTooShort,
-    );
+    let spoils: [fn(&mut Call); 4] = [
+        |c| c.room.counts.truncate(ROOM_COUNTS - 1),
+        |c| c.room.weights.truncate(ROOM_WEIGHTS - 1),
+        |c| c.room.counts.clear(),
+        |c| {
+            c.room.weights.clear();
+            c.physical.bits.pop();
+            c.limit = 2.0;
+        },
+    ];
+    let refused = nowhere(Refusal::RoomTooShort);
+    for spoil in spoils {
+        let mut short = call();
+        spoil(&mut short);
+        let mut room = short.room.clone();
+        only_the_refusal(short.hard_raw(&mut room), refused);
+        only_the_refusal_of_soft(short.soft_raw(&mut room), refused);
+        assert_eq!(room, short.room);
+        assert_ne!(short.hard(&mut room), Err(refused));
+        assert_eq!((room.counts.len() >= ROOM_COUNTS, room.weights.len() >= ROOM_WEIGHTS), (true, true));
+        assert_ne!(short.soft(&mut short.room.clone()), Err(refused));
+    }
     let mut short = call();
     short.room.sums.truncate(ROOM_SUMS - 1);
-    soft_refused(&short, nowhere(Refusal::RoomTooShort));
-    assert!(short.hard(&mut short.room.clone()).is_ok());
+    let mut room = short.room.clone();
+    only_the_refusal_of_soft(short.soft_raw(&mut room), refused);
+    assert_eq!(room, short.room);
+    assert!(short.hard(&mut room).is_ok());
+    assert_eq!(room.sums, short.room.sums);
+    assert!(short.soft(&mut room).is_ok());
+    assert_eq!(room.sums, [0; ROOM_SUMS]);
 }
 
 #[test]
@@ -581,8 +597,9 @@ fn refusal_7_bad_transform() {
 fn refusal_8_bad_table() {
     both_refused(
         &[
+            |c| c.board_h.push(0),
             |c| {
-                c.board_h.pop();
+                c.board_v.pop();
             },
             |c| c.board_v.push(0),
             |c| c.board_v.clear(),
@@ -620,8 +637,8 @@ fn the_first_refusal_in_their_order() {
     let spoilt = call.logical.clone();
     call.logical.cols.pop();
     call.physical = EdgeList::new();
-    hard_refused(&call, nowhere(Refusal::RoomTooShort));
-    soft_refused(&call, nowhere(Refusal::RoomTooShort));
+    only_the_refusal(call.hard_raw(&mut call.room.clone()), nowhere(Refusal::RoomTooShort));
+    only_the_refusal_of_soft(call.soft_raw(&mut call.room.clone()), nowhere(Refusal::RoomTooShort));
     call.room = good.room.clone();
     hard_refused(&call, nowhere(Refusal::LengthsDiffer));
     soft_refused(&call, nowhere(Refusal::LengthsDiffer));
@@ -898,7 +915,7 @@ fn stats_refuse_by_the_first_in_their_order() {
     }
     refused(&long, far, board.patterns(), nowhere(Refusal::ListSize));
     refused(&good, far, board.patterns(), nowhere(Refusal::BadTransform));
-    let short = Patterns { horizontal: &board.horizontal[1..], vertical: &board.vertical };
+    let short = Patterns { horizontal: &board.horizontal[2..], vertical: &board.vertical };
     refused(&good, Square { transform: 7, ..far }, short, nowhere(Refusal::BadTable));
     for square in [Square { row: 501, ..AT }, Square { col: 501, ..AT }, Square { row: u32::MAX, ..AT }] {
         refused(&good, square, board.patterns(), nowhere(Refusal::BadSetting));

@@ -1,18 +1,18 @@
 //! The three functions as another crate calls them, with the types that it sees.
 
 use samburext::{
-    decode_hard, decode_soft, match_stats, Decoded, Edge, EdgeList, EdgePlace, Likelihoods, List, Patterns, Refusal, Refused,
-    Room, SoftDecoded, Square,
+    decode_hard, decode_soft, match_stats, pole_length, Decoded, Edge, EdgeList, EdgePlace, Likelihoods, List, Patterns, Refusal,
+    Refused, Room, SoftDecoded, Square,
 };
 
-/// Two tables in which no two windows are alike, from a small generator.
-fn tables() -> (Vec<u8>, Vec<u8>) {
+/// Two tables in which no two windows are alike, from a small generator, the horizontal one of a length.
+fn tables(length: usize) -> (Vec<u8>, Vec<u8>) {
     let mut state = 2024u32;
     let mut next = |_| {
         state = state.wrapping_mul(1664525).wrapping_add(1013904223);
         (state >> 24) as u8 % 8
     };
-    ((0..167).map(&mut next).collect(), (0..167).map(&mut next).collect())
+    ((0..length).map(&mut next).collect(), (0..167).map(&mut next).collect())
 }
 
 /// What an upright camera at (row, col) sees of 10 by 10 squares: the lookup of transform 0 is one row up for a horizontal edge and one column back for
@@ -21,7 +21,7 @@ fn seen(h: &[u8], v: &[u8], row: usize, col: usize) -> EdgeList {
     let mut list = EdgeList::new();
     for r in 0..10 {
         for c in 0..10 {
-            let across = h[(row + r + 166) % 167] >> ((col + c) % 3) & 1;
+            let across = h[(row + r + h.len() - 1) % h.len()] >> ((col + c) % 3) & 1;
             let down = v[(col + c + 166) % 167] >> ((row + r) % 3) & 1;
             for (orientation, bit) in [(0, across), (1, down)] {
                 list.push(Edge { row: r as i32, col: c as i32, orientation, bit, confidence: 0.5 });
@@ -33,7 +33,7 @@ fn seen(h: &[u8], v: &[u8], row: usize, col: usize) -> EdgeList {
 
 #[test]
 fn found_and_refused() {
-    let (h, v) = tables();
+    let (h, v) = tables(167);
     let patterns = Patterns { horizontal: &h, vertical: &v };
     let list = seen(&h, &v, 311, 58);
     let likelihoods = Likelihoods { matches: vec![-0.25; 200], mismatches: vec![-1.5; 200] };
@@ -75,4 +75,23 @@ fn found_and_refused() {
     if let Some(place) = refused.place {
         assert_eq!(spoilt.orientations[place.position], 7);
     }
+}
+
+/// A pole, with no number of its room in sight.
+#[test]
+fn a_pole() {
+    let (h, v) = tables(100);
+    assert!(pole_length(h.len()) && !pole_length(99));
+    let patterns = Patterns { horizontal: &h, vertical: &v };
+    let mut room = Room::new();
+    let square = Square { transform: 0, row: 295, col: 58 }; // the window runs over the seam, where row 299 meets row 0
+    let list = seen(&h, &v, 295, 58);
+    let likelihoods = Likelihoods { matches: vec![-0.25; 200], mismatches: vec![-1.5; 200] };
+    let hard = decode_hard(&list, &list, &[0, 1, 2, 3], patterns, 0.25, &mut room).expect("hard decode finds it");
+    let soft =
+        decode_soft(&list, &list, &likelihoods, &[0, 1, 2, 3], patterns, 0.25, 0.02, &mut room).expect("soft decode finds it");
+    assert_eq!((hard.square, soft.square), (square, square));
+    assert_eq!(match_stats(&list, square, patterns).map(|fit| fit.hits), Ok(200));
+    let refused = decode_hard(&list, &list, &[0], Patterns { horizontal: &h[1..], ..patterns }, 0.25, &mut room).unwrap_err();
+    assert_eq!(refused.reason, Refusal::BadTable);
 }

@@ -82,6 +82,14 @@ _Static_assert(SAMBUREXT_SOFT_HARD_DISAGREE == 15, "15");
 _Static_assert(SAMBUREXT_LOGICAL_LIST == 1 && SAMBUREXT_PHYSICAL_LIST == 2 && SAMBUREXT_ONLY_LIST == 3, "lists");
 _Static_assert(SAMBUREXT_NOTHING == UINT32_MAX, "what a refusal holds");
 _Static_assert(SAMBUREXT_ROOM_COUNTS == 3006 && SAMBUREXT_ROOM_WEIGHTS == 3006 && SAMBUREXT_ROOM_SUMS == 5010, "room");
+_Static_assert(SAMBUREXT_ROOM_COUNTS_FOR(4) == 1539 && SAMBUREXT_ROOM_WEIGHTS_FOR(4) == 1539 && SAMBUREXT_ROOM_SUMS_FOR(4) == 2565, "room of 4");
+_Static_assert(SAMBUREXT_ROOM_COUNTS_FOR(167) == 3006 && SAMBUREXT_ROOM_WEIGHTS_FOR(167) == 3006 && SAMBUREXT_ROOM_SUMS_FOR(167) == 5010, "room of 167");
+_Static_assert(SAMBUREXT_ROOM_COUNTS_FOR(500) == 6003 && SAMBUREXT_ROOM_WEIGHTS_FOR(500) == 6003 && SAMBUREXT_ROOM_SUMS_FOR(500) == 10005, "room of 500");
+_Static_assert(SAMBUREXT_ROOM_COUNTS_FOR(1 + 3) == 1539 && SAMBUREXT_ROOM_SUMS_FOR(1 + 3) - 1 == 2564, "room of a sum, in a sum");
+_Static_assert(SAMBUREXT_MIN_POLE_LENGTH == 4 && SAMBUREXT_MAX_POLE_LENGTH == 500, "pole lengths");
+_Static_assert(SAMBUREXT_IS_POLE_LENGTH(4) && SAMBUREXT_IS_POLE_LENGTH(167) && SAMBUREXT_IS_POLE_LENGTH(500), "pole lengths");
+_Static_assert(!SAMBUREXT_IS_POLE_LENGTH(0) && !SAMBUREXT_IS_POLE_LENGTH(3) && !SAMBUREXT_IS_POLE_LENGTH(168) && !SAMBUREXT_IS_POLE_LENGTH(501), "no poles");
+_Static_assert(SAMBUREXT_BOARD_ROWS_FOR(4) == 12 && SAMBUREXT_BOARD_ROWS_FOR(167) == 501 && SAMBUREXT_BOARD_ROWS_FOR(500) == 1500, "rows");
 _Static_assert(SAMBUREXT_TABLE_LENGTH == 167 && SAMBUREXT_MAX_EDGES == 8192 && SAMBUREXT_MAX_TRANSFORMS == 8, "limits");
 _Static_assert(SAMBUREXT_BOARD_SQUARES == 501, "board");
 
@@ -109,20 +117,24 @@ typedef struct list {
     size_t edges;
 } list;
 
+/* The board of the calls: the length of its horizontal table, and the row that the lists are seen at. */
+static size_t length = SAMBUREXT_TABLE_LENGTH;
+static int32_t seen_row = ROW;
+
 /* One call: each of the three functions takes from it what it needs. */
 static struct call {
     list logical, physical;
     float matches[SAMBUREXT_MAX_EDGES + 1], mismatches[SAMBUREXT_MAX_EDGES + 1];
     size_t likelihoods;
-    uint8_t transforms[SAMBUREXT_MAX_TRANSFORMS + 1], horizontal[SAMBUREXT_TABLE_LENGTH + 1], vertical[SAMBUREXT_TABLE_LENGTH + 1];
+    uint8_t transforms[SAMBUREXT_MAX_TRANSFORMS + 1], horizontal[SAMBUREXT_MAX_POLE_LENGTH + 2], vertical[SAMBUREXT_TABLE_LENGTH + 1];
     size_t transforms_length, horizontal_length, vertical_length, counts_length, weights_length, sums_length;
     float error_limit, soft_margin;
     uint32_t transform, row, column;
 } call;
 
-static uint32_t counts[SAMBUREXT_ROOM_COUNTS];
-static float weights[SAMBUREXT_ROOM_WEIGHTS];
-static int64_t sums[SAMBUREXT_ROOM_SUMS];
+static uint32_t counts[SAMBUREXT_ROOM_COUNTS_FOR(SAMBUREXT_MAX_POLE_LENGTH)];
+static float weights[SAMBUREXT_ROOM_WEIGHTS_FOR(SAMBUREXT_MAX_POLE_LENGTH)];
+static int64_t sums[SAMBUREXT_ROOM_SUMS_FOR(SAMBUREXT_MAX_POLE_LENGTH)];
 static int held, failed;
 
 static void hold(int good, const char *what)
@@ -138,7 +150,7 @@ static void hold(int good, const char *what)
 static uint8_t seen(int32_t row, int32_t column, uint8_t orientation, int32_t at_row)
 {
     if (orientation == 0)
-        return (uint8_t)(call.horizontal[(row - 1 + at_row) % 167] >> (column + COLUMN) % 3 & 1);
+        return (uint8_t)(call.horizontal[(size_t)(row - 1 + at_row) % length] >> (column + COLUMN) % 3 & 1);
     return (uint8_t)(call.vertical[(column - 1 + COLUMN) % 167] >> (row + at_row) % 3 & 1);
 }
 
@@ -163,12 +175,12 @@ static void fill_call(void)
 {
     uint32_t state = 12345u;
     memset(&call, 0, sizeof call);
-    for (int i = 0; i < 2 * SAMBUREXT_TABLE_LENGTH; i++) {
+    for (size_t i = 0; i < length + SAMBUREXT_TABLE_LENGTH; i++) {
         state = state * 1664525u + 1013904223u;
-        (i < SAMBUREXT_TABLE_LENGTH ? call.horizontal : call.vertical)[i % SAMBUREXT_TABLE_LENGTH] = (uint8_t)((state >> 24) % 8);
+        *(i < length ? &call.horizontal[i] : &call.vertical[i - length]) = (uint8_t)((state >> 24) % 8);
     }
-    fill_list(&call.logical, ROW);
-    fill_list(&call.physical, ROW);
+    fill_list(&call.logical, seen_row);
+    fill_list(&call.physical, seen_row);
     call.physical.edges = FEWER;
     for (int i = 0; i < MISSES; i++)
         call.logical.bits[7 + i] ^= 1;
@@ -180,13 +192,14 @@ static void fill_call(void)
     for (uint8_t i = 0; i <= SAMBUREXT_MAX_TRANSFORMS; i++)
         call.transforms[i] = i % SAMBUREXT_MAX_TRANSFORMS;
     call.transforms_length = SAMBUREXT_MAX_TRANSFORMS;
-    call.horizontal_length = call.vertical_length = SAMBUREXT_TABLE_LENGTH;
-    call.counts_length = SAMBUREXT_ROOM_COUNTS;
-    call.weights_length = SAMBUREXT_ROOM_WEIGHTS;
-    call.sums_length = SAMBUREXT_ROOM_SUMS;
+    call.horizontal_length = length;
+    call.vertical_length = SAMBUREXT_TABLE_LENGTH;
+    call.counts_length = SAMBUREXT_ROOM_COUNTS_FOR(length);
+    call.weights_length = SAMBUREXT_ROOM_WEIGHTS_FOR(length);
+    call.sums_length = SAMBUREXT_ROOM_SUMS_FOR(length);
     call.error_limit = 0.25f;
     call.soft_margin = 0.125f;
-    call.row = ROW;
+    call.row = (uint32_t)seen_row;
     call.column = COLUMN;
 }
 
@@ -345,6 +358,43 @@ static void orders(void)
     at(SAMBUREXT_LOGICAL_LIST, 9), l->bits[9] = p->bits[3] = 2, both(SAMBUREXT_BAD_BIT, "the logical list first");
 }
 
+/* A pole's board, seen from its last row on, over the seam: found there, in room that has just the length that the header says, and its rows end there. */
+static void pole(size_t pole_length)
+{
+    length = pole_length;
+    seen_row = (int32_t)SAMBUREXT_BOARD_ROWS_FOR(length) - 1;
+    fill_call();
+    samburext_answer h = run_hard();
+    samburext_soft_answer s = run_soft();
+    hold(h.refusal == 0 && h.transform == 0 && h.row == call.row && h.col == COLUMN && h.hits == EDGES - MISSES, "a pole, hard");
+    hold(s.refusal == 0 && s.transform == 0 && s.row == call.row && s.col == COLUMN && s.hits == FEWER, "a pole, soft");
+    hold(run_stats(&call.logical, 0, call.row, COLUMN).hits == EDGES - MISSES, "a pole, statistics");
+    all(SAMBUREXT_FOUND, "a pole");
+    call.counts_length--, both(SAMBUREXT_ROOM_TOO_SHORT, "SAMBUREXT_ROOM_COUNTS_FOR");
+    call.weights_length--, both(SAMBUREXT_ROOM_TOO_SHORT, "SAMBUREXT_ROOM_WEIGHTS_FOR");
+    call.sums_length--, expect(SAMBUREXT_FOUND, SAMBUREXT_ROOM_TOO_SHORT, SAMBUREXT_FOUND, "SAMBUREXT_ROOM_SUMS_FOR");
+    call.row++, expect(SAMBUREXT_FOUND, SAMBUREXT_FOUND, SAMBUREXT_BAD_SETTING, "SAMBUREXT_BOARD_ROWS_FOR");
+    call.vertical_length--, all(SAMBUREXT_BAD_TABLE, "a pole's vertical table");
+    call.horizontal[length - 1] = 8, all(SAMBUREXT_BAD_TABLE, "a pole's last pattern");
+    length = SAMBUREXT_TABLE_LENGTH;
+    seen_row = ROW;
+    fill_call();
+}
+
+/* A length that no pole has: 8, and before it 1 where the room is too short for the smallest pole. */
+static void no_pole(size_t bad)
+{
+    for (size_t less = 0; less < 2; less++) {
+        call.horizontal_length = bad;
+        call.counts_length = SAMBUREXT_ROOM_COUNTS_FOR(SAMBUREXT_MIN_POLE_LENGTH) - less;
+        expect(less ? SAMBUREXT_ROOM_TOO_SHORT : SAMBUREXT_BAD_TABLE, less ? SAMBUREXT_ROOM_TOO_SHORT : SAMBUREXT_BAD_TABLE, SAMBUREXT_BAD_TABLE,
+               "no pole, counts");
+        call.horizontal_length = bad;
+        call.sums_length = SAMBUREXT_ROOM_SUMS_FOR(SAMBUREXT_MIN_POLE_LENGTH) - less;
+        expect(SAMBUREXT_BAD_TABLE, less ? SAMBUREXT_ROOM_TOO_SHORT : SAMBUREXT_BAD_TABLE, SAMBUREXT_BAD_TABLE, "no pole, sums");
+    }
+}
+
 int main(void)
 {
     uint32_t w[sizeof(samburext_soft_answer) / 4];
@@ -379,6 +429,8 @@ int main(void)
     call.transform = 8, expect(SAMBUREXT_FOUND, SAMBUREXT_FOUND, SAMBUREXT_BAD_TRANSFORM, "a transform");
     call.horizontal_length++, all(SAMBUREXT_BAD_TABLE, "SAMBUREXT_TABLE_LENGTH, horizontal");
     call.vertical_length--, all(SAMBUREXT_BAD_TABLE, "SAMBUREXT_TABLE_LENGTH, vertical");
+    pole(SAMBUREXT_MIN_POLE_LENGTH), pole(100), pole(SAMBUREXT_TABLE_LENGTH), pole(SAMBUREXT_MAX_POLE_LENGTH);
+    no_pole(0), no_pole(3), no_pole(SAMBUREXT_TABLE_LENGTH + 1), no_pole(SAMBUREXT_MAX_POLE_LENGTH + 1);
     call.error_limit = 1.5f, both(SAMBUREXT_BAD_SETTING, "an error limit");
     call.soft_margin = -1, expect(SAMBUREXT_FOUND, SAMBUREXT_BAD_SETTING, SAMBUREXT_FOUND, "a soft margin");
     call.row = call.column = SAMBUREXT_BOARD_SQUARES - 1, all(SAMBUREXT_FOUND, "the last square");

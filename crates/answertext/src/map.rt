@@ -1,6 +1,7 @@
 // The picture's file: an earlier picture is removed first, and a new one is written beside its place and then renamed.
 use crate::picture::put_head;
 use crate::picture::put_picture;
+use crate::picture::rows_of;
 use crate::shown::Shown;
 use console::page::put_argument;
 use console::page::write;
@@ -44,20 +45,35 @@ fn save_as(i: usize, page: &[u8; 32768], n: usize) -> bool {
     is_whole(beside) && save(&name[..k], front(&names, beside), page, n)
 }
 
-// The picture of a found answer in the file that argument i names; false after a message where it cannot be written.
-pub fn draw(i: usize, shown: Shown, extent: Extent) -> bool {
+// The picture of a found answer, on a board of a pole's length, in the file that argument i names; false after a message where it cannot be written.
+pub fn draw(i: usize, shown: Shown, extent: Extent, length: usize) -> bool {
     let mut page = blank();
-    let n = put_picture(&mut page, 0, shown, extent);
+    let n = put_picture(&mut page, 0, shown, extent, length);
     is_whole(n) && save_as(i, &page, n)
+}
+
+// Whether a text begins as the picture of a board of a pole's length does.
+fn begins(text: &[u8], length: usize) -> bool {
+    let mut page = blank();
+    let n = put_head(&mut page, 0, rows_of(length));
+    is_name(text, 0, n, front(&page, n))
+}
+
+// Whether a text begins as a picture does, of a board of some length.
+fn is_picture(text: &[u8]) -> bool {
+    for length in 4..501usize {
+        if begins(text, length) {
+            return true;
+        }
+    }
+    false
 }
 
 // Whether an open file is empty or begins as every picture does.
 fn is_drawn(fd: i32) -> bool {
-    let mut page = blank();
-    let n = put_head(&mut page, 0);
     let mut first = io::buffer();
     let k = io::read_full(fd, &mut first);
-    k == 0 || is_name(&first, 0, n, front(&page, n))
+    k == 0 || is_picture(&first)
 }
 
 // The message of a file that the picture would take the place of.

@@ -59,7 +59,7 @@ pub(crate) fn put_told(
         a confidence is not from 0 to 1\n\
         a log likelihood is not from -65536 to 65536\n\
         there are not 1 to 8 transforms, each from 0 to 7\n\
-        a pattern table does not have 167 entries from 0 to 7\n\
+        the horizontal pattern table does not have 4 to 500 entries from 0 to 7, their number no multiple of 3, or the vertical one not 167\n\
         the error limit or the soft margin is out of its range\n\
         no edge of a list was seen with any confidence\n\
         no square of the board fits within the error limit\n\

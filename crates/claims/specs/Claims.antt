@@ -39,7 +39,8 @@ use Rattle.answer.specs.declared.MatchStats.{MatchStats}
 use Rattle.answer.specs.declared.StatsAnswer.{StatsAnswer}
 use Rattle.answer.specs.declared.StatsAnswer.the-variants as stats
 use Rattle.verdict.specs.Verdict.{whenAccepted, decodedOf}
-use Rattle.soft_verdict.specs.SoftVerdict.{softWhenAccepted}
+use Rattle.verdict.specs.Answers.{answers, found-only}
+use Rattle.soft_verdict.specs.SoftVerdictTheorems.{soft-answers}
 use Rattle.demand.specs.Left.{left}
 use Rattle.demand.specs.Demand.{OnBoard, Same, Leads, Names, AgreesPhysical}
 use Rattle.demand.specs.DemandLaws.{leader-named}
@@ -68,7 +69,7 @@ use Rattle.stats.specs.StatsRange.{StatsInRange, stats-in-range}
 use Rattle.claims.specs.TenFieldsTheorems.{HardTold, hard-ten-fields, SoftTold, soft-ten-fields}
 use Rattle.claims.specs.Late.{hardLate, softLate}
 use Rattle.claims.specs.Promises.{NumberAndPlace, Emptied, WinsByHits, HardPromise, SoftPromise, StatsPromise, EarlyNumber, RunnerUpAlways, InHardDomain, HardGave, HardParticulars, InSoftDomain, SoftGave, MarginOfTheTwo, SoftParticulars, StatsParticulars}
-use Rattle.claims.specs.DemandsLaws.{answers, soft-answers, stats-answers, demands-met}
+use Rattle.claims.specs.DemandsLaws.{stats-answers, right-found, demands-met}
 use Rattle.claims.specs.LateLaws.{hard-right, soft-right}
 
 -- ---- EARLY REFUSALS
@@ -91,15 +92,6 @@ runner-up-exists = winners.runner-up-exists
 -- ---- THE WINNER OF A LIST, in hits
 wins-by-hits : (B : Board) (E : EdgeList) (ts : List ℕ) (limit : Float) → BoardOk B → ListOk E → length ts ≤ 8 → WinsByHits B E ts limit
 wins-by-hits B E ts limit board list few = record { wins-most = agrees.wins-most B E ts limit board list few; most-wins = agrees.most-wins B E ts limit board list few }
-
--- ---- FOUND
-found-only : (a : Admission) (x : Answer) (d : Decoded) → Found d ≡ whenAccepted a x → (a ≡ admission.Accepted) × (x ≡ Found d)
-found-only admission.Accepted x d e = (refl, sym e)
-found-only (admission.Refused r) x d e = let z : _≡_ {A = ℕ} 0 1 = cc in absurd (omega arith)
-
-soft-found-only : (a : Admission) (x : SoftAnswer) (d : SoftDecoded) → soft.Found d ≡ softWhenAccepted a x → (a ≡ admission.Accepted) × (x ≡ soft.Found d)
-soft-found-only admission.Accepted x d e = (refl, sym e)
-soft-found-only (admission.Refused r) x d e = let z : _≡_ {A = ℕ} 0 1 = cc in absurd (omega arith)
 
 -- ---- ROOM
 module _ {A : Type 0} (d zero : A) (n : ℕ) (a : Admission) (old : List A) where
@@ -130,7 +122,7 @@ module _ (call : HardCall) (before after : HardRoom) (answer : Answer) (done : H
   pub hard-refused-early : (refusal : Refusal) → hardChecked call before ≡ admission.Refused refusal → (answer ≡ Refused refusal) × (after .counts ≡ before .counts) × (after .weights ≡ before .weights)
   unfolding hardAnswer
   hard-refused-early x h = (
-    done .answer ∙ ap (λ (y : Admission). whenAccepted y (hardCore call)) h,
+    done .answer ∙ ap (λ (y : Admission). whenAccepted Refused y (hardCore call)) h,
     done .counts ∙ left-untouched 0 0 (tablesRoom (call .board)) (hardChecked call before) (before .counts) x h,
     done .weights ∙ left-untouched nan zeroF (tablesRoom (call .board)) (hardChecked call before) (before .weights) x h,
   )
@@ -138,7 +130,7 @@ module _ (call : HardCall) (before after : HardRoom) (answer : Answer) (done : H
   -- in the domain the answer is the decoder's
   core : InHardDomain call before → answer ≡ hardCore call
   unfolding hardAnswer
-  core domain = done .answer ∙ ap (λ (y : Admission). whenAccepted y (hardCore call)) (hard-accepts .1 domain)
+  core domain = done .answer ∙ ap (λ (y : Admission). whenAccepted Refused y (hardCore call)) (hard-accepts .1 domain)
 
   -- every call in the domain: the first 9L + 1,503 places are zero, the surplus as it was
   pub hard-room-zero : InHardDomain call before
@@ -162,7 +154,7 @@ module _ (call : HardCall) (before after : HardRoom) (answer : Answer) (done : H
   -- a found answer: the call is in the domain, and it is the decoder's
   pub told : (found : Decoded) → answer ≡ Found found → InHardDomain call before × (hardCore call ≡ Found found)
   unfolding hardAnswer
-  told d e = let f = found-only (hardChecked call before) (hardCore call) d (sym e ∙ done .answer) in (hard-accepts .0 (f .0), f .1)
+  told d e = let f = found-only answers (hardChecked call before) (hardCore call) d (sym e ∙ done .answer) in (hard-accepts .0 (f .0), f .1)
 
   pub hard-answer-in-range : (found : Decoded) → answer ≡ Found found → AnswerInRange (length (call .board .h)) found
   hard-answer-in-range d e = let f = told d e in hard-in-range call (length (before .counts)) (length (before .weights)) (taken (f .0)) d (f .1)
@@ -247,7 +239,7 @@ module _ (call : SoftCall) (before after : SoftRoom) (answer : SoftAnswer) (done
       → (answer ≡ soft.Refused refusal) × (after .counts ≡ before .counts) × (after .weights ≡ before .weights) × (after .sums ≡ before .sums)
   unfolding softAnswer
   soft-refused-early x h = (
-    done .answer ∙ ap (λ (y : Admission). softWhenAccepted y (softCore call)) h,
+    done .answer ∙ ap (λ (y : Admission). whenAccepted soft.Refused y (softCore call)) h,
     done .counts ∙ left-untouched 0 0 (tablesRoom (call .hard .board)) (softChecked call before) (before .counts) x h,
     done .weights ∙ left-untouched nan zeroF (tablesRoom (call .hard .board)) (softChecked call before) (before .weights) x h,
     done .sums ∙ left-untouched (pos 0) (pos 0) (sumsRoom (call .hard .board)) (softChecked call before) (before .sums) x h,
@@ -256,7 +248,7 @@ module _ (call : SoftCall) (before after : SoftRoom) (answer : SoftAnswer) (done
   -- in the domain the answer is the decoder's
   soft-core : InSoftDomain call before → answer ≡ softCore call
   unfolding softAnswer
-  soft-core domain = done .answer ∙ ap (λ (y : Admission). softWhenAccepted y (softCore call)) (soft-accepts .1 domain)
+  soft-core domain = done .answer ∙ ap (λ (y : Admission). whenAccepted soft.Refused y (softCore call)) (soft-accepts .1 domain)
 
   -- every call in the domain: the first 9L + 1,503, as many and 15L + 2,505 places are zero, the surplus as it was
   pub soft-room-zero : InSoftDomain call before
@@ -282,7 +274,7 @@ module _ (call : SoftCall) (before after : SoftRoom) (answer : SoftAnswer) (done
 
   pub soft-told : (found : SoftDecoded) → answer ≡ soft.Found found → InSoftDomain call before × (softCore call ≡ soft.Found found)
   unfolding softAnswer
-  soft-told d e = let f = soft-found-only (softChecked call before) (softCore call) d (sym e ∙ done .answer) in (soft-accepts .0 (f .0), f .1)
+  soft-told d e = let f = found-only soft-answers (softChecked call before) (softCore call) d (sym e ∙ done .answer) in (soft-accepts .0 (f .0), f .1)
 
   pub soft-answer-in-range : (found : SoftDecoded) → answer ≡ soft.Found found → SoftAnswerInRange (length (call .hard .board .h)) found
   soft-answer-in-range d e = let f = soft-told d e in soft-in-range call (length (before .counts)) (length (before .weights)) (length (before .sums)) (admitted (f .0)) d (f .1)
@@ -403,7 +395,7 @@ module _ (list : EdgeList) (transform row col : ℕ) (board : Board) (answer : S
   unfolding AllMet
   stats-promise = record {
     demands = demands-met stats.Refused stats.Counted stats-answers (statsEarly list transform row col board) [] (Unit {0}) (Unit {0}) _ answer (stats.Counted (statsOf list transform row col board)) statsChecked stats-accepts
-        (stats-first list transform row col board) (λ x h. (stats-refused x h, tt)) stats-by-the-rules (λ domain. ((λ d e. tt), λ r e. absurd (stats-answers .apart _ r e))) (λ domain. tt) stats-hits;
+        (stats-first list transform row col board) (λ x h. (stats-refused x h, tt)) stats-by-the-rules (λ domain. right-found stats.Refused stats.Counted stats-answers [] (statsOf list transform row col board) tt) (λ domain. tt) stats-hits;
   }
 
   pub stats-particulars : StatsParticulars list transform row col board answer

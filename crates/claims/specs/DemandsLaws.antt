@@ -9,37 +9,13 @@ use Rattle.refusals.specs.declared.Admission.{Admission}
 use Rattle.refusals.specs.declared.Admission.the-variants as admission
 use Rattle.admission.specs.Conditions.{Condition, AllMet, FirstFails}
 use Rattle.admission.specs.ConditionLaws.{met-or-fails, met-both, met-parts, fails-early, fails-late}
-use Rattle.answer.specs.declared.Decoded.{Decoded}
-use Rattle.answer.specs.declared.Answer.{Answer}
-use Rattle.answer.specs.declared.Answer.the-variants.{Found, Refused}
-use Rattle.answer.specs.declared.SoftDecoded.{SoftDecoded}
-use Rattle.answer.specs.declared.SoftAnswer.{SoftAnswer}
-use Rattle.answer.specs.declared.SoftAnswer.the-variants as soft
 use Rattle.answer.specs.declared.MatchStats.{MatchStats}
 use Rattle.answer.specs.declared.StatsAnswer.{StatsAnswer}
 use Rattle.answer.specs.declared.StatsAnswer.the-variants as stats
+use Rattle.verdict.specs.Answers.{Answers, never-both}
 use Rattle.claims.specs.Promises.{Demands}
 
--- an answer is made in one of two ways, not in both, and a refusal can be told from it
-pub record Answers {Answer Told : Type 0} (refusing : Refusal → Answer) (finding : Told → Answer) : Type 0 where
-  pub either : (a : Answer) → ((told : Told) × (a ≡ finding told)) ⊎ ((r : Refusal) × (a ≡ refusing r))
-  pub apart : (told : Told) (r : Refusal) → finding told ≡ refusing r → ⊥
-  pub once : (r s : Refusal) → refusing r ≡ refusing s → r ≡ s
-
-pub answers : Answers Refused Found
-answers = record { either = either; apart = λ d r e. let z : _≡_ {A = ℕ} 0 1 = cc in omega arith; once = λ r s e. cc }
-  where
-    either : (a : Answer) → ((d : Decoded) × (a ≡ Found d)) ⊎ ((r : Refusal) × (a ≡ Refused r))
-    either (Found d) = inl (d, refl)
-    either (Refused r) = inr (r, refl)
-
-pub soft-answers : Answers soft.Refused soft.Found
-soft-answers = record { either = either; apart = λ d r e. let z : _≡_ {A = ℕ} 0 1 = cc in omega arith; once = λ r s e. cc }
-  where
-    either : (a : SoftAnswer) → ((d : SoftDecoded) × (a ≡ soft.Found d)) ⊎ ((r : Refusal) × (a ≡ soft.Refused r))
-    either (soft.Found d) = inl (d, refl)
-    either (soft.Refused r) = inr (r, refl)
-
+-- what match statistics answer is made in two ways, as hard and soft answers are
 pub stats-answers : Answers stats.Refused stats.Counted
 stats-answers = record { either = either; apart = λ d r e. let z : _≡_ {A = ℕ} 0 1 = cc in omega arith; once = λ r s e. cc }
   where
@@ -51,6 +27,14 @@ module _ {Answer Told : Type 0} (refusing : Refusal → Answer) (finding : Told 
   -- an answer is right by conditions: found where all are met, refused by the number of the first that is not
   abbrev pub Right : List Condition → Answer → Type 0
   Right rows a = ((told : Told) → a ≡ finding told → AllMet rows) × ((r : Refusal) → a ≡ refusing r → FirstFails rows (r .number))
+
+  -- so are a found answer where they are met, and a refusal by the number of the first that is not
+  module _ (ways : Answers refusing finding) (rows : List Condition) where
+    pub right-found : (told : Told) → AllMet rows → Right rows (finding told)
+    right-found told m = ((λ other e. m), λ r e. absurd (ways .apart told r e))
+
+    pub right-refused : (r : Refusal) → FirstFails rows (r .number) → Right rows (refusing r)
+    right-refused r f = ((λ told e. absurd (never-both ways told r e)), λ s e. subst (λ (z : Refusal). FirstFails rows (z .number)) (ways .once r s e) f)
 
   -- THE DEMANDS ARE MET by an answer that hands on what the checks refuse, with the room as it was, and is otherwise what is right of an accepted call
   module _ (ways : Answers refusing finding) (early late : List Condition) (as-it-was emptied : Type 0) (says : Told → Type 0) (answer core : Answer) (checked : Admission)

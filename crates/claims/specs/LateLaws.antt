@@ -13,8 +13,10 @@ use Rattle.laws.specs.Tests.{and-true, clash}
 use Rattle.laws.specs.Words.{oneF}
 use Rattle.board.specs.declared.edge.Placing.{Placing}
 use Rattle.board.specs.Hits.{EdgeList, Board, size}
+use Rattle.refusals.specs.Numbers.{numbered}
+use Rattle.refusals.specs.Numbers as why
 use Rattle.admission.specs.Calls.{HardCall, SoftCall}
-use Rattle.admission.specs.Conditions.{Condition, AllMet, FirstFails}
+use Rattle.admission.specs.Conditions.{AllMet, FirstFails}
 use Rattle.admission.specs.Accepted.{HardAccepted, SoftAccepted}
 use Rattle.figures.specs.Figures.{noConfidence}
 use Rattle.scan.specs.declared.scan.Candidate.{Candidate}
@@ -25,7 +27,10 @@ use Rattle.answer.specs.declared.Answer.{Answer}
 use Rattle.answer.specs.declared.Answer.the-variants.{Found, Refused}
 use Rattle.answer.specs.declared.SoftAnswer.{SoftAnswer}
 use Rattle.answer.specs.declared.SoftAnswer.the-variants as found-soft
-use Rattle.verdict.specs.Verdict.{agreed}
+use Rattle.verdict.specs.Verdict.{refusedBy, agreed}
+use Rattle.verdict.specs.Answers.{answers}
+use Rattle.soft_verdict.specs.SoftVerdict.{softRefusedBy}
+use Rattle.soft_verdict.specs.SoftVerdictTheorems.{soft-answers}
 use Rattle.demand.specs.Demand.{WithinLimit, Wins, AgreesPhysical}
 use Rattle.demand.specs.Late.{SameSquare}
 use Rattle.demand.specs.OneSelection.{SomeWithinLimit, NoneWithinLimit, Winner, winner-some}
@@ -38,25 +43,8 @@ use Rattle.soft_core.specs.SoftLaws.{likelihoods-ok}
 use Rattle.soft_core.specs.SoftPlaces.{first-once, second-total}
 use Rattle.soft_core.specs.SoftTheorems.{places-exist, soft-sound}
 use Rattle.soft_core.specs.SoftNumbers as soft
-use Rattle.claims.specs.DemandsLaws.{Right}
+use Rattle.claims.specs.DemandsLaws.{Right, right-found, right-refused}
 use Rattle.claims.specs.Late.{hardLate, softLate}
-
--- the same by cases
-unfoldable Met : List Condition → Answer → Type 0
-Met rows (Found d) = AllMet rows
-Met rows (Refused r) = FirstFails rows (r .number)
-
-met-right : (rows : List Condition) (a : Answer) → Met rows a → Right Refused Found rows a
-unfolding Met
-met-right rows a m = ((λ d e. subst (Met rows) e m), λ r e. subst (Met rows) e m)
-
-unfoldable SoftMet : List Condition → SoftAnswer → Type 0
-SoftMet rows (found-soft.Found d) = AllMet rows
-SoftMet rows (found-soft.Refused r) = FirstFails rows (r .number)
-
-soft-met-right : (rows : List Condition) (a : SoftAnswer) → SoftMet rows a → Right found-soft.Refused found-soft.Found rows a
-unfolding SoftMet
-soft-met-right rows a m = ((λ d e. subst (SoftMet rows) e m), λ r e. subst (SoftMet rows) e m)
 
 -- a list has one winner, so whoever wins has its transform and origin
 wins-as : (B : Board) (E : EdgeList) (ts : List ℕ) (limit : Float) (P : Placing) (x : Candidate) (r : RunnerUp) → Wins B E ts limit P → selection B E ts limit ≡ Selected x r → SameSquare ts (x .placing) P
@@ -139,14 +127,19 @@ module _ (call : HardCall) (m n : ℕ) (A : HardAccepted call m n) where
     winner-wins (call .board) (call .physical) (call .transforms) oneF (w .winner .placing) (p .winner) (p .runner-up) (p .selected) (agree-same (w .winner) (p .winner) h),
   )
 
-  hard-ended : (a : Answer) → hard.HardEnd call m n A a → Met (hardLate call) a
-  unfolding Met hardLate AllMet FirstFails
-  hard-ended a (hard.no-logical-confidence h) = inl ((λ k. clash h k), refl)
-  hard-ended a (hard.none-within h k) = inr (h, inl (not-within call k, refl))
-  hard-ended a (hard.no-physical-confidence h s k) = inr (h, inr (some-of call s, inl ((λ l. clash k l), refl)))
+  -- a refusal by the number of the first condition that is not met is right
+  hard-refused : (k : ℕ) → FirstFails (hardLate call) k → Right Refused Found (hardLate call) (refusedBy k)
+  hard-refused k = right-refused Refused Found answers (hardLate call) (numbered k)
+
+  -- however an accepted call ends, its answer is right
+  hard-ended : (a : Answer) → hard.HardEnd call m n A a → Right Refused Found (hardLate call) a
+  unfolding hardLate AllMet FirstFails
+  hard-ended a (hard.no-logical-confidence h) = hard-refused why.noConfidence (inl ((λ k. clash h k), refl))
+  hard-ended a (hard.none-within h k) = hard-refused why.noneWithinLimit (inr (h, inl (not-within call k, refl)))
+  hard-ended a (hard.no-physical-confidence h s k) = hard-refused why.noConfidence (inr (h, inr (some-of call s, inl ((λ l. clash k l), refl))))
   hard-ended a (hard.winners-differ w p h) =
       let k = logical-known w in
-      inr (
+      hard-refused why.listsDisagree (inr (
         k .0,
         inr (
           k .1,
@@ -160,17 +153,18 @@ module _ (call : HardCall) (m n : ℕ) (A : HardAccepted call m n) where
             ),
           ),
         ),
-      )
+      ))
   hard-ended a (hard.none-leads w p h none) =
       let k = logical-known w in
-      inr (k .0, inr (k .1, inr (physical-known p, inr (both-win w p h, inl ((λ l. none (l .0) (l .1)), refl)))))
+      hard-refused why.notFarAhead (inr (k .0, inr (k .1, inr (physical-known p, inr (both-win w p h, inl ((λ l. none (l .0) (l .1)), refl))))))
   hard-ended a (hard.found w p h g d) =
       let k = logical-known w in
+      right-found Refused Found answers (hardLate call) d
       (k .0, (k .1, (physical-known p, (both-win w p h, ((w .winner .placing, winner-leads (call .board) (call .logical) (call .transforms) (call .error-limit) (A .board) (A .logical) few (w .winner) (w .runner-up) (w .selected) g), tt)))))
 
   -- HARD
   pub hard-right : Right Refused Found (hardLate call) (hardCore call)
-  hard-right = met-right (hardLate call) (hardCore call) (hard-ended (hardCore call) (hard.hard-ends call m n A))
+  hard-right = hard-ended (hardCore call) (hard.hard-ends call m n A)
 
 -- ---- soft decode
 module _ (call : SoftCall) (m n o : ℕ) (A : SoftAccepted call m n o) where
@@ -222,15 +216,19 @@ module _ (call : SoftCall) (m n o : ℕ) (A : SoftAccepted call m n o) where
     winner-wins (call .hard .board) (call .hard .logical) (call .hard .transforms) (call .hard .error-limit) first (w .winner) (w .runner-up) (w .selected) (level-same (call .hard .transforms) first (w .winner .placing) h),
   )
 
-  soft-ended : (a : SoftAnswer) → softCore call ≡ a → soft.SoftEnd call m n o A a → SoftMet (softLate call) a
-  unfolding SoftMet softLate AllMet FirstFails
-  soft-ended a e (soft.no-physical-confidence h) = inl ((λ k. clash h k), refl)
-  soft-ended a e (soft.margin-below h b) = inr (h, inl ((λ c. clash b (clear-only (c .0) (c .1) (c .2))), refl))
-  soft-ended a e (soft.no-logical-confidence h b l) = inr (h, inr ((first, other, clears b), inl ((λ k. clash l k), refl)))
-  soft-ended a e (soft.none-within h b l none) = inr (h, inr ((first, other, clears b), inr (l, inl (not-within (call .hard) none, refl))))
+  -- the same of a soft refusal, and of every end
+  soft-refused : (k : ℕ) → FirstFails (softLate call) k → Right found-soft.Refused found-soft.Found (softLate call) (softRefusedBy k)
+  soft-refused k = right-refused found-soft.Refused found-soft.Found soft-answers (softLate call) (numbered k)
+
+  soft-ended : (a : SoftAnswer) → softCore call ≡ a → soft.SoftEnd call m n o A a → Right found-soft.Refused found-soft.Found (softLate call) a
+  unfolding softLate AllMet FirstFails
+  soft-ended a e (soft.no-physical-confidence h) = soft-refused why.noConfidence (inl ((λ k. clash h k), refl))
+  soft-ended a e (soft.margin-below h b) = soft-refused why.softMargin (inr (h, inl ((λ c. clash b (clear-only (c .0) (c .1) (c .2))), refl)))
+  soft-ended a e (soft.no-logical-confidence h b l) = soft-refused why.noConfidence (inr (h, inr ((first, other, clears b), inl ((λ k. clash l k), refl))))
+  soft-ended a e (soft.none-within h b l none) = soft-refused why.noneWithinLimit (inr (h, inr ((first, other, clears b), inr (l, inl (not-within (call .hard) none, refl)))))
   soft-ended a e (soft.winners-differ h b w d) =
       let k = soft-known w in
-      inr (
+      soft-refused why.softHardDisagree (inr (
         h,
         inr (
           (first, other, clears b),
@@ -246,15 +244,15 @@ module _ (call : SoftCall) (m n o : ℕ) (A : SoftAccepted call m n o) where
             ),
           ),
         ),
-      )
+      ))
   soft-ended a e (soft.none-leads h b w d none) =
       let k = soft-known w in
-      inr (h, inr ((first, other, clears b), inr (k .0, inr (k .1, inr (first-wins b w d, inl ((λ l. none (l .0) (l .1)), refl))))))
+      soft-refused why.notFarAhead (inr (h, inr ((first, other, clears b), inr (k .0, inr (k .1, inr (first-wins b w d, inl ((λ l. none (l .0) (l .1)), refl)))))))
   soft-ended a e (soft.found h b w d f) =
       let k = soft-known w in
       let s = soft-sound call m n o A f e in
-      (h, ((first, other, clears b), (k .0, (k .1, (first-wins b w d, ((s .square, s .leads), tt))))))
+      right-found found-soft.Refused found-soft.Found soft-answers (softLate call) f (h, ((first, other, clears b), (k .0, (k .1, (first-wins b w d, ((s .square, s .leads), tt))))))
 
   -- SOFT
   pub soft-right : Right found-soft.Refused found-soft.Found (softLate call) (softCore call)
-  soft-right = soft-met-right (softLate call) (softCore call) (soft-ended (softCore call) refl (soft.soft-ends call m n o A))
+  soft-right = soft-ended (softCore call) refl (soft.soft-ends call m n o A)

@@ -3,10 +3,9 @@
 use mathlib.Core.Path.{_≡_, refl, sym, ap, _∙_}
 use Prim.Native.Nat.{ℕ, _-_, _≤_}
 use native.Mathlib.Omega.{arith}
-use lib.Dec.{ltb}
-use lib.ListN.{getD, length}
+use lib.ListN.{getD}
 use lib.IntN.{pos}
-use lib.Ieee.{Float, binary32, div, ofInt}
+use lib.Ieee.{binary32, div, ofInt}
 use borrow.Author.Tests.{le-ltb}
 use Rattle.laws.specs.Words.{oneF}
 use Rattle.board.specs.Hits.{size}
@@ -28,7 +27,8 @@ use Rattle.answer.specs.declared.SoftDecoded.{SoftDecoded}
 use Rattle.answer.specs.declared.SoftAnswer.{SoftAnswer}
 use Rattle.answer.specs.declared.SoftAnswer.the-variants as soft
 use Rattle.verdict.specs.Verdict.{decodedOf}
-use Rattle.verdict.specs.VerdictTheorems.{never-both, judged-is}
+use Rattle.verdict.specs.Answers.{answers, never-both}
+use Rattle.verdict.specs.VerdictTheorems.{judged-is}
 use Rattle.soft_verdict.specs.declared.SoftBest.{SoftBest}
 use Rattle.soft_verdict.specs.SoftVerdict.{softDecodedOf, bestOf}
 use Rattle.hard_core.specs.Hard.{afterPhysical, afterLogical, hardCore}
@@ -99,7 +99,7 @@ module _ (call : HardCall) (m n : ℕ) (A : HardAccepted call m n) (d : Decoded)
 
   by-physical : (x : Candidate) (r : RunnerUp) → selection (call .board) (call .logical) (call .transforms) (call .error-limit) ≡ sel.Selected x r → (q : Selection)
       → afterPhysical (call .logical) (call .transforms) x r q ≡ hard.Found d → HardTold
-  by-physical x r e (sel.Refused k) h = absurd (never-both d k h)
+  by-physical x r e (sel.Refused k) h = absurd (never-both answers d k h)
   by-physical x r e (sel.Selected y o) h =
       let t = getD (call .transforms) (x .placing .listed) 0 in
       let i = selected-in-range (call .board) (call .logical) (call .transforms) (call .error-limit) (A .board) (A .logical) (A .transforms .few) x r e in
@@ -113,7 +113,7 @@ module _ (call : HardCall) (m n : ℕ) (A : HardAccepted call m n) (d : Decoded)
       }
 
   by-logical : (q : Selection) → selection (call .board) (call .logical) (call .transforms) (call .error-limit) ≡ q → afterLogical call q ≡ hard.Found d → HardTold
-  by-logical (sel.Refused k) e h = absurd (never-both d k h)
+  by-logical (sel.Refused k) e h = absurd (never-both answers d k h)
   by-logical (sel.Selected x r) e h = by-physical x r e (selection (call .board) (call .physical) (call .transforms) oneF) h
 
   -- HARD: the ten fields of a found answer are document 01's

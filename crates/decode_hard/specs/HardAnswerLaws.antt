@@ -28,7 +28,7 @@ module _ (call : HardCall) (c : List ℕ) (w : List Float) where
     hard-refused x n =
         let f = sym n ∙ e in
         record {
-          answer = ap (λ (y : Admission). whenAccepted y (hardCore call)) f;
+          answer = ap (λ (y : Admission). whenAccepted Refused y (hardCore call)) f;
           counts = ap (λ (y : Admission). left 0 (tablesRoom (call .board)) y c) f;
           weights = ap (λ (y : Admission). left zeroF (tablesRoom (call .board)) y w) f;
         }
@@ -39,7 +39,7 @@ module _ (call : HardCall) (c : List ℕ) (w : List Float) where
     hard-done c' c'' w' w'' r z A D u v =
         let f = sym z ∙ e in
         record {
-          answer = D .answer ∙ ap (λ (y : Admission). whenAccepted y (hardCore call)) f;
+          answer = D .answer ∙ ap (λ (y : Admission). whenAccepted Refused y (hardCore call)) f;
           counts = u ∙ cleared-forgets 0 (tablesRoom (call .board)) 0 c c' (A .room .0) (D .counts) ∙ ap (λ (y : Admission). left 0 (tablesRoom (call .board)) y c) f;
           weights = v ∙ cleared-forgets nan (tablesRoom (call .board)) zeroF w w' (A .room .1) (D .weights) ∙ ap (λ (y : Admission). left zeroF (tablesRoom (call .board)) y w) f;
         }

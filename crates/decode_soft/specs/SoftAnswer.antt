@@ -10,15 +10,16 @@ use Rattle.room.specs.Room.{tablesRoom, sumsRoom}
 use Rattle.admission.specs.Calls.{SoftCall}
 use Rattle.admission.specs.Refusals.{softAdmission}
 use Rattle.answer.specs.declared.SoftAnswer.{SoftAnswer}
+use Rattle.answer.specs.declared.SoftAnswer.the-variants.{Refused}
 use Rattle.demand.specs.Left.{left}
 use Rattle.soft_core.specs.Soft.{softCore}
-use Rattle.soft_verdict.specs.SoftVerdict.{softWhenAccepted}
+use Rattle.verdict.specs.Verdict.{whenAccepted}
 
 -- the answer for all inputs: the early refusals come first
 unfoldable pub softAnswer : SoftCall → ℕ → ℕ → ℕ → SoftAnswer
 unfolding softCore
 softAnswer call m n k =
-    softWhenAccepted (softAdmission call m n k) (softCore call)
+    whenAccepted Refused (softAdmission call m n k) (softCore call)
 
 -- what soft decode promises for all inputs: the answer, and the three room slices at exit
 pub record SoftDone (call : SoftCall) (c c' : List ℕ) (w w' : List Float) (a a' : List ℤ) (r : SoftAnswer) : Type 0 where

@@ -19,7 +19,7 @@ use Rattle.answer.specs.declared.SoftAnswer.the-variants.{Refused}
 use Rattle.demand.specs.Left.{left}
 use Rattle.soft_core.specs.Soft.{softCore, SoftCoreDone}
 use Rattle.decode_soft.specs.SoftAnswer.{softAnswer, SoftDone}
-use Rattle.soft_verdict.specs.SoftVerdict.{softWhenAccepted}
+use Rattle.verdict.specs.Verdict.{whenAccepted}
 
 -- ---- the two ways in which soft decode ends
 module _ (call : SoftCall) (c : List ℕ) (w : List Float) (a : List ℤ) where
@@ -29,7 +29,7 @@ module _ (call : SoftCall) (c : List ℕ) (w : List Float) (a : List ℤ) where
     soft-refused x n =
         let f = sym n ∙ e in
         record {
-          answer = ap (λ (y : Admission). softWhenAccepted y (softCore call)) f;
+          answer = ap (λ (y : Admission). whenAccepted Refused y (softCore call)) f;
           counts = ap (λ (y : Admission). left 0 (tablesRoom (call .hard .board)) y c) f;
           weights = ap (λ (y : Admission). left zeroF (tablesRoom (call .hard .board)) y w) f;
           sums = ap (λ (y : Admission). left (pos 0) (sumsRoom (call .hard .board)) y a) f;
@@ -42,7 +42,7 @@ module _ (call : SoftCall) (c : List ℕ) (w : List Float) (a : List ℤ) where
     soft-done c' c'' w' w'' a' a'' o z A D u v t =
         let f = sym z ∙ e in
         record {
-          answer = D .answer ∙ ap (λ (y : Admission). softWhenAccepted y (softCore call)) f;
+          answer = D .answer ∙ ap (λ (y : Admission). whenAccepted Refused y (softCore call)) f;
           counts = u ∙ cleared-forgets 0 (tablesRoom (call .hard .board)) 0 c c' (A .hard .room .0) (D .counts) ∙ ap (λ (y : Admission). left 0 (tablesRoom (call .hard .board)) y c) f;
           weights = v ∙ cleared-forgets nan (tablesRoom (call .hard .board)) zeroF w w' (A .hard .room .1) (D .weights) ∙ ap (λ (y : Admission). left zeroF (tablesRoom (call .hard .board)) y w) f;
           sums = t ∙ cleared-forgets (pos 0) (sumsRoom (call .hard .board)) (pos 0) a a' (A .room) (D .sums) ∙ ap (λ (y : Admission). left (pos 0) (sumsRoom (call .hard .board)) y a) f;

@@ -2,7 +2,6 @@ pub mod Demand
 pub mod DemandLaws
 pub mod Matrices
 pub mod Left
-pub mod Answers
 pub mod Winners
 pub mod OneSelection
 pub mod Late

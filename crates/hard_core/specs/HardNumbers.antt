@@ -1,7 +1,7 @@
 -- WHAT NUMBERS THERE ARE, HARD. An accepted hard call is refused by 10, 11, 12 or 13 or by none, each exactly when document 01 says, in its order: "Hard then: 10 logical, 11,
 -- 10 physical, 12, 13."
 use mathlib.Core.Path.{_≡_, refl, sym, ap, subst, _∙_}
-use mathlib.Core.Bool.{Bool, true, false}
+use mathlib.Core.Bool.{Bool, true, false, cond}
 use mathlib.Core.Logic.{_⊎_, inl, inr, ⊎-elim}
 use Prim.Native.Nat.{ℕ, _≤_, _<_}
 use native.Mathlib.Omega.{arith}
@@ -26,8 +26,8 @@ use Rattle.hard.specs.declared.select.Selection.the-variants as sel
 use Rattle.answer.specs.declared.Decoded.{Decoded}
 use Rattle.answer.specs.declared.Answer.{Answer}
 use Rattle.answer.specs.declared.Answer.the-variants.{Found, Refused}
-use Rattle.verdict.specs.Verdict.{refusedBy, agreed, decodedOf, judged, pick}
-use Rattle.demand.specs.Answers.{apart, found-not}
+use Rattle.verdict.specs.Verdict.{refusedBy, agreed, decodedOf, judged}
+use Rattle.verdict.specs.Answers.{answers, numbers-apart, found-not}
 use Rattle.demand.specs.Demand.{OnBoard, Same}
 use Rattle.demand.specs.DemandLaws.{same-or-not}
 use Rattle.demand.specs.OneSelection.{NoneWithinLimit, SomeWithinLimit, NoneLeads, Winner, Ended, ended, refused-none, none-refused, refused-within, within-refused, some-winner, winner-some, winner-most}
@@ -87,12 +87,12 @@ module _ (call : HardCall) (m n : ℕ) (A : HardAccepted call m n) where
       s = getD (call .transforms) (p .winner .placing .listed) 0
 
       by-gate : (b : Bool) → passed (size (call .logical)) (w .winner .hits) (w .runner-up .hits) ≡ b → ListsAgree w p ≡ true
-          → HardEnd (pick b (Found (decodedOf t (w .winner) (w .runner-up) (size (call .logical)))) (refusedBy why.notFarAhead))
+          → HardEnd (cond b (Found (decodedOf t (w .winner) (w .runner-up) (size (call .logical)))) (refusedBy why.notFarAhead))
       by-gate true g a = found w p a g (decodedOf t (w .winner) (w .runner-up) (size (call .logical)))
       by-gate false g a = none-leads w p a (⊎-elim (λ h. clash h g) (λ h. h) (told .2))
 
       by-agreed : (b : Bool) → ListsAgree w p ≡ b
-          → HardEnd (pick b (pick (passed (size (call .logical)) (w .winner .hits) (w .runner-up .hits)) (Found (decodedOf t (w .winner) (w .runner-up) (size (call .logical)))) (refusedBy why.notFarAhead)) (refusedBy why.listsDisagree))
+          → HardEnd (cond b (cond (passed (size (call .logical)) (w .winner .hits) (w .runner-up .hits)) (Found (decodedOf t (w .winner) (w .runner-up) (size (call .logical)))) (refusedBy why.notFarAhead)) (refusedBy why.listsDisagree))
       by-agreed true a = by-gate (passed (size (call .logical)) (w .winner .hits) (w .runner-up .hits)) refl a
       by-agreed false a = winners-differ w p a
 
@@ -130,7 +130,7 @@ module _ (call : HardCall) (m n : ℕ) (A : HardAccepted call m n) where
       go a (no-physical-confidence h k l) q = numbers why.noConfidence (omega arith) (omega arith) q
       go a (winners-differ w p h) q = numbers why.listsDisagree (omega arith) (omega arith) q
       go a (none-leads w p h k) q = numbers why.notFarAhead (omega arith) (omega arith) q
-      go a (found w p h k d) q = let z : _≡_ {A = ℕ} 0 1 = cc in absurd (omega arith)
+      go a (found w p h k d) q = absurd (answers .apart d r q)
 
   -- ---- each number, given exactly when
   -- 10: the logical list has no confidence, or it has some and a placing within the limit, and the physical list has none
@@ -143,11 +143,11 @@ module _ (call : HardCall) (m n : ℕ) (A : HardAccepted call m n) where
     where
       go : (a : Answer) → HardEnd a → a ≡ refusedBy why.noConfidence → HardNoConfidence
       go a (no-logical-confidence h) q = inl h
-      go a (none-within h k) q = apart why.noneWithinLimit why.noConfidence (λ z. omega arith) q
+      go a (none-within h k) q = numbers-apart answers why.noneWithinLimit why.noConfidence (λ z. omega arith) q
       go a (no-physical-confidence h k l) q = inr (h, k, l)
-      go a (winners-differ w p h) q = apart why.listsDisagree why.noConfidence (λ z. omega arith) q
-      go a (none-leads w p h k) q = apart why.notFarAhead why.noConfidence (λ z. omega arith) q
-      go a (found w p h k d) q = found-not d why.noConfidence q
+      go a (winners-differ w p h) q = numbers-apart answers why.listsDisagree why.noConfidence (λ z. omega arith) q
+      go a (none-leads w p h k) q = numbers-apart answers why.notFarAhead why.noConfidence (λ z. omega arith) q
+      go a (found w p h k d) q = found-not answers d why.noConfidence q
 
       back : HardNoConfidence → afterLogical call (selection (call .board) (call .logical) (call .transforms) (call .error-limit)) ≡ refusedBy why.noConfidence
       back (inl h) = ap (afterLogical call) (none-refused (call .board) (call .logical) (call .transforms) (call .error-limit) (A .board) (A .logical) L-few h)
@@ -166,12 +166,12 @@ module _ (call : HardCall) (m n : ℕ) (A : HardAccepted call m n) where
   )
     where
       go : (a : Answer) → HardEnd a → a ≡ refusedBy why.noneWithinLimit → (noConfidence (call .logical) ≡ false) × NoneWithinLimit (call .board) (call .logical) (call .transforms) (call .error-limit)
-      go a (no-logical-confidence h) q = apart why.noConfidence why.noneWithinLimit (λ z. omega arith) q
+      go a (no-logical-confidence h) q = numbers-apart answers why.noConfidence why.noneWithinLimit (λ z. omega arith) q
       go a (none-within h k) q = (h, k)
-      go a (no-physical-confidence h k l) q = apart why.noConfidence why.noneWithinLimit (λ z. omega arith) q
-      go a (winners-differ w p h) q = apart why.listsDisagree why.noneWithinLimit (λ z. omega arith) q
-      go a (none-leads w p h k) q = apart why.notFarAhead why.noneWithinLimit (λ z. omega arith) q
-      go a (found w p h k d) q = found-not d why.noneWithinLimit q
+      go a (no-physical-confidence h k l) q = numbers-apart answers why.noConfidence why.noneWithinLimit (λ z. omega arith) q
+      go a (winners-differ w p h) q = numbers-apart answers why.listsDisagree why.noneWithinLimit (λ z. omega arith) q
+      go a (none-leads w p h k) q = numbers-apart answers why.notFarAhead why.noneWithinLimit (λ z. omega arith) q
+      go a (found w p h k d) q = found-not answers d why.noneWithinLimit q
 
   -- what two winners come to
   judged-is : (w : LogicalWinner) (p : PhysicalWinner) → hardCore call ≡ judged (t w) (w .winner) (w .runner-up) (s w p) (p .winner) (size (call .logical))
@@ -189,12 +189,12 @@ module _ (call : HardCall) (m n : ℕ) (A : HardAccepted call m n) where
   hard-12 = ((λ e. go (hardCore call) hard-ends e), λ d. judged-is (d .logical) (d .physical) ∙ rw (d .differ))
     where
       go : (a : Answer) → HardEnd a → a ≡ refusedBy why.listsDisagree → ListsDisagree
-      go a (no-logical-confidence h) q = apart why.noConfidence why.listsDisagree (λ z. omega arith) q
-      go a (none-within h k) q = apart why.noneWithinLimit why.listsDisagree (λ z. omega arith) q
-      go a (no-physical-confidence h k l) q = apart why.noConfidence why.listsDisagree (λ z. omega arith) q
+      go a (no-logical-confidence h) q = numbers-apart answers why.noConfidence why.listsDisagree (λ z. omega arith) q
+      go a (none-within h k) q = numbers-apart answers why.noneWithinLimit why.listsDisagree (λ z. omega arith) q
+      go a (no-physical-confidence h k l) q = numbers-apart answers why.noConfidence why.listsDisagree (λ z. omega arith) q
       go a (winners-differ w p h) q = record { logical = w; physical = p; differ = h }
-      go a (none-leads w p h k) q = apart why.notFarAhead why.listsDisagree (λ z. omega arith) q
-      go a (found w p h k d) q = found-not d why.listsDisagree q
+      go a (none-leads w p h k) q = numbers-apart answers why.notFarAhead why.listsDisagree (λ z. omega arith) q
+      go a (found w p h k d) q = found-not answers d why.listsDisagree q
 
   -- 13: both lists have a winner, they agree, and no placing of the logical list leads
   pub record HardNotAhead : Type 0 where
@@ -208,12 +208,12 @@ module _ (call : HardCall) (m n : ℕ) (A : HardAccepted call m n) where
   hard-13 = ((λ e. go (hardCore call) hard-ends e), λ d. judged-is (d .logical) (d .physical) ∙ rw (d .agree, not-passed d))
     where
       go : (a : Answer) → HardEnd a → a ≡ refusedBy why.notFarAhead → HardNotAhead
-      go a (no-logical-confidence h) q = apart why.noConfidence why.notFarAhead (λ z. omega arith) q
-      go a (none-within h k) q = apart why.noneWithinLimit why.notFarAhead (λ z. omega arith) q
-      go a (no-physical-confidence h k l) q = apart why.noConfidence why.notFarAhead (λ z. omega arith) q
-      go a (winners-differ w p h) q = apart why.listsDisagree why.notFarAhead (λ z. omega arith) q
+      go a (no-logical-confidence h) q = numbers-apart answers why.noConfidence why.notFarAhead (λ z. omega arith) q
+      go a (none-within h k) q = numbers-apart answers why.noneWithinLimit why.notFarAhead (λ z. omega arith) q
+      go a (no-physical-confidence h k l) q = numbers-apart answers why.noConfidence why.notFarAhead (λ z. omega arith) q
+      go a (winners-differ w p h) q = numbers-apart answers why.listsDisagree why.notFarAhead (λ z. omega arith) q
       go a (none-leads w p h k) q = record { logical = w; physical = p; agree = h; none-lead = k }
-      go a (found w p h k d) q = found-not d why.notFarAhead q
+      go a (found w p h k d) q = found-not answers d why.notFarAhead q
 
       not-passed : (d : HardNotAhead) → passed (size (call .logical)) (d .logical .winner .hits) (d .logical .runner-up .hits) ≡ false
       not-passed d =

@@ -20,8 +20,9 @@ use Rattle.hard.specs.declared.select.Selection.the-variants as sel
 use Rattle.hard.specs.Select.{selection}
 use Rattle.hard.specs.SelectTheorems.{selected-in-range}
 use Rattle.hard.specs.WeighedLaws.{winner-within}
+use Rattle.verdict.specs.Answers.{answers, never-both}
 use Rattle.verdict.specs.Verdict.{decodedOf}
-use Rattle.verdict.specs.VerdictTheorems.{never-both, judged-is}
+use Rattle.verdict.specs.VerdictTheorems.{judged-is}
 use Rattle.demand.specs.FoundRange.{FloatsFinite, AnswerInRange, square-in-range}
 use Rattle.hard_core.specs.Hard.{afterPhysical, afterLogical, hardCore}
 use Rattle.hard_core.specs.HardTheorems.{hard-sound}
@@ -51,13 +52,13 @@ module _ (call : HardCall) (m n : ℕ) (A : HardAccepted call m n) (d : Decoded)
         )
 
     by-physical : (q : Selection) → afterPhysical (call .logical) (call .transforms) x r q ≡ Found d → Found-floats d
-    by-physical (sel.Refused k) h = absurd (never-both d k h)
+    by-physical (sel.Refused k) h = absurd (never-both answers d k h)
     by-physical (sel.Selected y o) h =
         let t = getD (call .transforms) (x .placing .listed) 0 in
         subst Found-floats (judged-is t x r (getD (call .transforms) (y .placing .listed) 0) y (size (call .logical)) d h) (floats t)
 
   by-logical : (q : Selection) → selection (call .board) (call .logical) (call .transforms) (call .error-limit) ≡ q → afterLogical call q ≡ Found d → Found-floats d
-  by-logical (sel.Refused k) e h = absurd (never-both d k h)
+  by-logical (sel.Refused k) e h = absurd (never-both answers d k h)
   by-logical (sel.Selected x r) e h = by-physical x r e (selection (call .board) (call .physical) (call .transforms) oneF) h
 
   hard-floats : hardCore call ≡ Found d → Found-floats d

@@ -1,7 +1,7 @@
 -- DEMAND 3, HARD. For accepted inputs with some confidence in each list, hard decode answers exactly when one placing of the logical list leads and agrees with
 -- the winner of the physical list; it gives that placing, and a runner-up that is another placing with hits no third exceeds. Hits are board's, edge by edge.
 use mathlib.Core.Path.{_≡_, refl, sym, ap, subst, _∙_}
-use mathlib.Core.Bool.{Bool, true, false}
+use mathlib.Core.Bool.{Bool, true, false, cond}
 use Prim.Native.Nat.{ℕ}
 use lib.Dec.{eqb}
 use lib.ListN.{getD}
@@ -25,10 +25,10 @@ use Rattle.refusals.specs.Numbers.{numbered}
 use Rattle.refusals.specs.Numbers as why
 use Rattle.answer.specs.declared.Decoded.{Decoded}
 use Rattle.answer.specs.declared.Answer.the-variants.{Found}
-use Rattle.verdict.specs.Verdict.{refusedBy, agreed, decodedOf, pick, judged}
+use Rattle.verdict.specs.Verdict.{refusedBy, agreed, decodedOf, judged}
 use Rattle.hard_core.specs.HardDemand.{HardAnswered}
 use Rattle.hard_core.specs.Hard.{afterPhysical, afterLogical, hardCore}
-use Rattle.verdict.specs.VerdictTheorems.{never-both}
+use Rattle.verdict.specs.Answers.{answers, never-both}
 use Rattle.demand.specs.Demand.{Leads, AgreesPhysical, Tells}
 use Rattle.demand.specs.DemandLaws.{keyOf, key-same, leads-sole}
 use Rattle.demand.specs.Winners.{runnerAt, winner-on, winner-leads, winner-hits, named, runner-hits, runs-up}
@@ -65,24 +65,24 @@ module _ (call : HardCall) (m n : ℕ) (A : HardAccepted call m n) where
             });
           }
 
-      by-gate : (b : Bool) → passed (size (call .logical)) (x .hits) (r .hits) ≡ b → agreed t x s y ≡ true → pick b (Found (decodedOf t x r (size (call .logical)))) (refusedBy why.notFarAhead) ≡ Found d → HardAnswered call d
+      by-gate : (b : Bool) → passed (size (call .logical)) (x .hits) (r .hits) ≡ b → agreed t x s y ≡ true → cond b (Found (decodedOf t x r (size (call .logical)))) (refusedBy why.notFarAhead) ≡ Found d → HardAnswered call d
       by-gate true g a k = answered a g k
-      by-gate false g a k = absurd (never-both d (numbered why.notFarAhead) k)
+      by-gate false g a k = absurd (never-both answers d (numbered why.notFarAhead) k)
 
-      by-agreed : (b : Bool) → agreed t x s y ≡ b → pick b (pick (passed (size (call .logical)) (x .hits) (r .hits)) (Found (decodedOf t x r (size (call .logical)))) (refusedBy why.notFarAhead)) (refusedBy why.listsDisagree) ≡ Found d → HardAnswered call d
+      by-agreed : (b : Bool) → agreed t x s y ≡ b → cond b (cond (passed (size (call .logical)) (x .hits) (r .hits)) (Found (decodedOf t x r (size (call .logical)))) (refusedBy why.notFarAhead)) (refusedBy why.listsDisagree) ≡ Found d → HardAnswered call d
       by-agreed true a k = by-gate (passed (size (call .logical)) (x .hits) (r .hits)) refl a k
-      by-agreed false a k = absurd (never-both d (numbered why.listsDisagree) k)
+      by-agreed false a k = absurd (never-both answers d (numbered why.listsDisagree) k)
 
       from-judged : judged t x r s y (size (call .logical)) ≡ Found d → HardAnswered call d
       unfolding judged
       from-judged h = by-agreed (agreed t x s y) refl h
 
     from-physical : (x : Candidate) (r : RunnerUp) (q : Selection) → selection (call .board) (call .logical) (call .transforms) (call .error-limit) ≡ sel.Selected x r → selection (call .board) (call .physical) (call .transforms) oneF ≡ q → afterPhysical (call .logical) (call .transforms) x r q ≡ Found d → HardAnswered call d
-    from-physical x r (sel.Refused k) e f h = absurd (never-both d k h)
+    from-physical x r (sel.Refused k) e f h = absurd (never-both answers d k h)
     from-physical x r (sel.Selected y o) e f h = from-judged x r y o e f h
 
     from-logical : (q : Selection) → selection (call .board) (call .logical) (call .transforms) (call .error-limit) ≡ q → afterLogical call q ≡ Found d → HardAnswered call d
-    from-logical (sel.Refused k) e h = absurd (never-both d k h)
+    from-logical (sel.Refused k) e h = absurd (never-both answers d k h)
     from-logical (sel.Selected x r) e h = from-physical x r (selection (call .board) (call .physical) (call .transforms) oneF) e refl h
 
     -- FOUND MEANS TRUE

@@ -26,8 +26,9 @@ pub fn show() {
         &mut page,
         n,
         b"\n\
-        BOARD has two lines of 167 digits from 0 to 7: the patterns of the horizontal edges, then of the\n\
-        vertical edges.\n\
+        BOARD has two lines of digits from 0 to 7: the patterns of the horizontal edges, then of the vertical\n\
+        edges. The flat board has 167 in each. A target wrapped round a pole has L in the first, L from 4 to\n\
+        500 and no multiple of 3, and 167 in the second.\n\
         \n\
         VIEW has one edge a line: h or v, row, column, bit, confidence; for soft decode the log likelihoods\n\
         of a match and of a mismatch follow. For example:\n\
@@ -45,8 +46,9 @@ pub fn show() {
         \n\
         A file has at most 1048576 bytes (a board 65536), a list at most 8192 edges.\n\
         \n\
-        The answer is the square of the board (row and column from 0 to 500) on which row 0, column 0 of the\n\
-        view lies, and how the board appears in the view. Rows grow downwards, columns to the right.\n\
+        The answer is the square of the board on which row 0, column 0 of the view lies, and how the board\n\
+        appears in the view. Rows go from 0 to 500 on the flat board and to 3L - 1 on a pole, where row 0\n\
+        comes next (the seam); columns go from 0 to 500. Rows grow downwards, columns to the right.\n\
         \x20 0 as printed                          4 mirrored, left and right swapped\n\
         \x20 1 turned a quarter counter-clockwise  5 mirrored, rows and columns swapped\n\
         \x20 2 turned upside down                  6 mirrored, top and bottom swapped\n\

@@ -64,10 +64,10 @@ fn tell(o: Options, a: AnyAnswer, view: View, soft: bool, found: bool) {
     say(&room, n);
 }
 
-// A found answer with its picture, if one is asked for. Where the picture cannot be written, no answer is given.
-fn conclude_found(o: Options, a: AnyAnswer, found: Shown, view: View, soft: bool) {
+// A found answer with its picture, if one is asked for, of a board of a pole's length. Where the picture cannot be written, no answer is given.
+fn conclude_found(o: Options, a: AnyAnswer, found: Shown, view: View, soft: bool, length: usize) {
     if o.map != 0 {
-        if !map::draw(o.map, found, view.extent) {
+        if !map::draw(o.map, found, view.extent, length) {
             give_up(o);
             return;
         }
@@ -75,11 +75,11 @@ fn conclude_found(o: Options, a: AnyAnswer, found: Shown, view: View, soft: bool
     tell(o, a, view, soft, true);
 }
 
-// The answer of a view, soft or hard; a refusal has no picture.
-pub fn conclude(o: Options, a: AnyAnswer, view: View, soft: bool) {
+// The answer of a view, soft or hard, on a board of a pole's length; a refusal has no picture.
+pub fn conclude(o: Options, a: AnyAnswer, view: View, soft: bool, length: usize) {
     match a {
-        AnyAnswer::Hard(d) => conclude_found(o, a, shown::of_hard(d), view, soft),
-        AnyAnswer::Soft(d) => conclude_found(o, a, shown::of_soft(d), view, soft),
+        AnyAnswer::Hard(d) => conclude_found(o, a, shown::of_hard(d), view, soft, length),
+        AnyAnswer::Soft(d) => conclude_found(o, a, shown::of_soft(d), view, soft, length),
         AnyAnswer::Refused(_) => tell(o, a, view, soft, false),
     }
 }

@@ -1,4 +1,5 @@
 // The decoder called on what the files gave. One list serves for both where the view has only one; where the physical list has log likelihoods, decode is soft.
+// The room that is lent serves the longest pole: 6,003 counts and weights, and 10,005 sums.
 use answer::AnyAnswer;
 use slices::part::part_f32;
 use slices::part::part_i32;
@@ -47,7 +48,7 @@ pub(crate) fn is_soft(view: View) -> bool {
     }
 }
 
-// What hard decode says of two parts of the columns.
+// What hard decode says of two parts of the columns, on a board of a pole's length.
 fn hard_of(
     l: Part,
     p: Part,
@@ -56,10 +57,11 @@ fn hard_of(
     floats: &[f32],
     transforms: &[u8],
     tables: &[u8],
+    length: usize,
     limit: f32,
 ) -> AnyAnswer {
-    let mut counts = [0u32; 3006];
-    let mut weights = [0.0f32; 3006];
+    let mut counts = [0u32; 6003];
+    let mut weights = [0.0f32; 6003];
     let answer = decode_hard::decode_hard(
         part_i32(wholes, l.from, l.edges),
         part_i32(wholes, l.second, l.edges),
@@ -72,8 +74,8 @@ fn hard_of(
         part_u8(bytes, p.second, p.edges),
         part_f32(floats, p.from, p.edges),
         transforms,
-        part_u8(tables, 0, 167),
-        part_u8(tables, 167, 167),
+        part_u8(tables, 0, length),
+        part_u8(tables, 500, 167),
         limit,
         &mut counts,
         &mut weights,
@@ -81,7 +83,7 @@ fn hard_of(
     ten_fields::any_of_hard(answer)
 }
 
-// What soft decode says of two parts of the columns.
+// What soft decode says of two parts of the columns, on a board of a pole's length.
 fn soft_of(
     l: Part,
     p: Part,
@@ -90,12 +92,13 @@ fn soft_of(
     floats: &[f32],
     transforms: &[u8],
     tables: &[u8],
+    length: usize,
     limit: f32,
     margin: f32,
 ) -> AnyAnswer {
-    let mut counts = [0u32; 3006];
-    let mut weights = [0.0f32; 3006];
-    let mut sums = [0i64; 5010];
+    let mut counts = [0u32; 6003];
+    let mut weights = [0.0f32; 6003];
+    let mut sums = [0i64; 10005];
     let answer = decode_soft::decode_soft(
         part_i32(wholes, l.from, l.edges),
         part_i32(wholes, l.second, l.edges),
@@ -110,8 +113,8 @@ fn soft_of(
         part_f32(floats, p.second, p.edges),
         part_f32(floats, p.third, p.edges),
         transforms,
-        part_u8(tables, 0, 167),
-        part_u8(tables, 167, 167),
+        part_u8(tables, 0, length),
+        part_u8(tables, 500, 167),
         limit,
         margin,
         &mut counts,
@@ -126,13 +129,14 @@ fn listed(transforms: &[u8; 8], n: usize) -> &[u8] {
     part_u8(transforms, 0, n)
 }
 
-// What the decoder says of the view.
+// What the decoder says of the view on a board of a pole's length.
 pub(crate) fn decode(
     view: View,
     wholes: &[i32; 32768],
     bytes: &[u8; 32768],
     floats: &[f32; 49152],
-    tables: &[u8; 334],
+    tables: &[u8; 667],
+    length: usize,
 ) -> AnyAnswer {
     let l = part_of(view, false);
     let p = part_of(view, true);
@@ -148,9 +152,20 @@ pub(crate) fn decode(
             floats,
             some,
             tables,
+            length,
             settings.limit,
             settings.margin,
         );
     }
-    hard_of(l, p, wholes, bytes, floats, some, tables, settings.limit)
+    hard_of(
+        l,
+        p,
+        wholes,
+        bytes,
+        floats,
+        some,
+        tables,
+        length,
+        settings.limit,
+    )
 }

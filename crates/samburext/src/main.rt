@@ -8,8 +8,8 @@ use outcome::give_up;
 use viewfiles::files;
 use viewtext::view_file;
 
-// The view of the options on a board whose tables are read: decoded, and the answer written.
-fn face(o: Options, tables: &[u8; 334]) {
+// The view of the options on a board of a pole's length whose tables are read: decoded, and the answer written.
+fn face(o: Options, tables: &[u8; 667], length: usize) {
     let mut wholes = view_file::columns_i32();
     let mut bytes = view_file::columns_u8();
     let mut floats = view_file::columns_f32();
@@ -18,8 +18,8 @@ fn face(o: Options, tables: &[u8; 334]) {
         give_up(o);
         return;
     }
-    let a = decode::decode(view, &wholes, &bytes, &floats, tables);
-    conclude(o, a, view, decode::is_soft(view));
+    let a = decode::decode(view, &wholes, &bytes, &floats, tables, length);
+    conclude(o, a, view, decode::is_soft(view), length);
 }
 
 // The board, then the view. Where a picture cannot take its place, no answer is given.
@@ -30,12 +30,13 @@ fn run(o: Options) {
             return;
         }
     }
-    let mut tables = [0u8; 334];
-    if files::load_board(o.board, &mut tables) {
-        face(o, &tables);
-    } else {
+    let mut tables = [0u8; 667];
+    let board = files::load_board(o.board, &mut tables);
+    if board.what != 0 {
         give_up(o);
+        return;
     }
+    face(o, &tables, board.length);
 }
 
 fn main() {

@@ -1,6 +1,6 @@
 -- Document 01, 'Soft selection', and 'Refusal numbers': "Soft: 10 physical, 14, 10 logical, 11, 15, 13."
 use mathlib.Core.Path.{_≡_}
-use mathlib.Core.Bool.{Bool, true, false}
+use mathlib.Core.Bool.{Bool, true, false, cond}
 use mathlib.Core.List.{List}
 use Prim.Native.Nat.{ℕ}
 use lib.ListN.{length}
@@ -19,7 +19,6 @@ use Rattle.margin.specs.declared.slots.SoftChoice.the-variants.{Nothing, Chosen
 use Rattle.margin.specs.Margin.{softMargin, belowMargin}
 use Rattle.soft.specs.Select.{softSelection, SumRoom}
 use Rattle.answer.specs.declared.SoftAnswer.{SoftAnswer}
-use Rattle.verdict.specs.Verdict.{pick}
 use Rattle.soft_verdict.specs.SoftVerdict.{softRefusedBy, bestOf}
 use Rattle.soft_logical.specs.Logical.{afterHard, softJudged, LogicalRooms}
 
@@ -32,12 +31,12 @@ module _ (call : HardCall) where
   abbrev pub afterSoft : Float → SoftChoice → SoftAnswer
   afterSoft least Nothing = softRefusedBy why.softMargin
   afterSoft least (Chosen first second) =
-      pick (tooClose least first second) (softRefusedBy why.softMargin) (afterHard call (bestOf first second (size (call .physical))) (selection (call .board) (call .logical) (call .transforms) (call .error-limit)))
+      cond (tooClose least first second) (softRefusedBy why.softMargin) (afterHard call (bestOf first second (size (call .physical))) (selection (call .board) (call .logical) (call .transforms) (call .error-limit)))
 
 -- what an accepted soft call answers, with the soft margin `least`
 unfoldable pub softCore : SoftCall → SoftAnswer
 unfolding softJudged
-softCore call = pick (noConfidence (call .hard .physical)) (softRefusedBy why.noConfidence) (afterSoft (call .hard) (call .soft-margin) (softSelection (call .hard .board) (call .hard .physical) (call .likelihoods) (call .hard .transforms)))
+softCore call = cond (noConfidence (call .hard .physical)) (softRefusedBy why.noConfidence) (afterSoft (call .hard) (call .soft-margin) (softSelection (call .hard .board) (call .hard .physical) (call .likelihoods) (call .hard .transforms)))
 
 -- ---- what the steps between leave
 -- one of two statements, by a test

@@ -29,15 +29,16 @@ use Rattle.soft_verdict.specs.declared.SoftBest.{SoftBest}
 use Rattle.answer.specs.declared.SoftDecoded.{SoftDecoded}
 use Rattle.answer.specs.declared.SoftAnswer.{SoftAnswer}
 use Rattle.answer.specs.declared.SoftAnswer.the-variants.{Found, Refused}
-use Rattle.verdict.specs.Verdict.{pick}
-use Rattle.soft_verdict.specs.SoftVerdict.{softRefusedBy, softWhenAccepted, softVerdict, softDecodedOf, bestOf}
+use Rattle.verdict.specs.Verdict.{whenAccepted}
+use Rattle.verdict.specs.Answers.{numbers-apart, found-not}
+use Rattle.soft_verdict.specs.SoftVerdict.{softRefusedBy, softVerdict, softDecodedOf, bestOf}
 use Rattle.demand.specs.OneSelection.{NoneWithinLimit, SomeWithinLimit, NoneLeads, Winner, Ended, ended, none-refused, within-refused, some-winner, winner-some}
 use Rattle.demand.specs.Winners.{winner-leads}
 use Rattle.soft_core.specs.SoftDemand.{withTotal, marginOf, BestByLikelihood}
 use Rattle.soft_logical.specs.Logical.{fitOf, softJudged, afterHard}
 use Rattle.soft_core.specs.Soft.{afterSoft, softCore}
 use Rattle.soft_core.specs.SoftTheorems.{own-best, own-exists, first-placing, second-placing}
-use Rattle.soft_verdict.specs.SoftVerdictTheorems.{soft-apart, soft-found-not}
+use Rattle.soft_verdict.specs.SoftVerdictTheorems.{soft-answers}
 
 module _ (call : SoftCall) (m n o : ℕ) (A : SoftAccepted call m n o) where
   abbrev few : length (call .hard .transforms) ≤ 8
@@ -102,7 +103,7 @@ module _ (call : SoftCall) (m n o : ℕ) (A : SoftAccepted call m n o) where
       answer = Found (softDecodedOf t (getD (call .hard .transforms) (R .listed) 0) best (fitOf (call .hard .board) (call .hard .physical) t (Q .row) (Q .col)) (size (call .hard .physical)) (w .runner-up))
 
       by-verdict : (a g : Bool) → SoftHardAgree w ≡ a → passed (size (call .hard .logical)) (w .winner .hits) (w .runner-up .hits) ≡ g
-          → SoftEnd (softWhenAccepted (cond a (cond g admission.Accepted (admission.Refused (numbered why.notFarAhead))) (admission.Refused (numbered why.softHardDisagree))) answer)
+          → SoftEnd (whenAccepted Refused (cond a (cond g admission.Accepted (admission.Refused (numbered why.notFarAhead))) (admission.Refused (numbered why.softHardDisagree))) answer)
       by-verdict true true e h = found c b w e _
       by-verdict true false e h = none-leads c b w e (⊎-elim (λ k. clash k h) (λ k. k) (told .2))
       by-verdict false g e h = winners-differ c b w e
@@ -118,14 +119,14 @@ module _ (call : SoftCall) (m n o : ℕ) (A : SoftAccepted call m n o) where
     by-logical (sel.Selected x r) e h = by-judged (record { winner = x; runner-up = r; selected = e })
 
   by-margin : (b : Bool) → Below ≡ b → noConfidence (call .hard .physical) ≡ false
-      → SoftEnd (pick b (softRefusedBy why.softMargin) (afterHard (call .hard) best (selection (call .hard .board) (call .hard .logical) (call .hard .transforms) (call .hard .error-limit))))
+      → SoftEnd (cond b (softRefusedBy why.softMargin) (afterHard (call .hard) best (selection (call .hard .board) (call .hard .logical) (call .hard .transforms) (call .hard .error-limit))))
   by-margin true e c = margin-below c e
   by-margin false e c =
       by-logical c e (selection (call .hard .board) (call .hard .logical) (call .hard .transforms) (call .hard .error-limit)) refl
       (ended (call .hard .board) (call .hard .logical) (call .hard .transforms) (call .hard .error-limit) (A .hard .board) (A .hard .logical) few)
 
   by-confidence : (b : Bool) → noConfidence (call .hard .physical) ≡ b
-      → SoftEnd (pick b (softRefusedBy why.noConfidence) (afterSoft (call .hard) (call .soft-margin) (softSelection (call .hard .board) (call .hard .physical) (call .likelihoods) (call .hard .transforms))))
+      → SoftEnd (cond b (softRefusedBy why.noConfidence) (afterSoft (call .hard) (call .soft-margin) (softSelection (call .hard .board) (call .hard .physical) (call .likelihoods) (call .hard .transforms))))
   by-confidence true e = no-physical-confidence e
   by-confidence false e = rw soft-two (by-margin Below refl e)
 
@@ -151,7 +152,7 @@ module _ (call : SoftCall) (m n o : ℕ) (A : SoftAccepted call m n o) where
       go a (none-within h k l i) q = numbers why.noneWithinLimit (omega arith, omega arith, λ z. omega arith) q
       go a (winners-differ h k w l) q = numbers why.softHardDisagree (omega arith, omega arith, λ z. omega arith) q
       go a (none-leads h k w l i) q = numbers why.notFarAhead (omega arith, omega arith, λ z. omega arith) q
-      go a (found h k w l d) q = let z : _≡_ {A = ℕ} 0 1 = cc in absurd (omega arith)
+      go a (found h k w l d) q = absurd (soft-answers .apart d r q)
 
   -- ---- each number, given exactly when: what stands before it in document 01's order does not apply, and it does
   -- the physical list has confidence, and the margin is not below the soft margin
@@ -175,12 +176,12 @@ module _ (call : SoftCall) (m n o : ℕ) (A : SoftAccepted call m n o) where
     where
       go : (a : SoftAnswer) → SoftEnd a → a ≡ softRefusedBy why.noConfidence → SoftNoConfidence
       go a (no-physical-confidence h) q = inl h
-      go a (margin-below h k) q = soft-apart why.softMargin why.noConfidence (λ z. omega arith) q
+      go a (margin-below h k) q = numbers-apart soft-answers why.softMargin why.noConfidence (λ z. omega arith) q
       go a (no-logical-confidence h k l) q = inr ((h, k), l)
-      go a (none-within h k l i) q = soft-apart why.noneWithinLimit why.noConfidence (λ z. omega arith) q
-      go a (winners-differ h k w l) q = soft-apart why.softHardDisagree why.noConfidence (λ z. omega arith) q
-      go a (none-leads h k w l i) q = soft-apart why.notFarAhead why.noConfidence (λ z. omega arith) q
-      go a (found h k w l d) q = soft-found-not d why.noConfidence q
+      go a (none-within h k l i) q = numbers-apart soft-answers why.noneWithinLimit why.noConfidence (λ z. omega arith) q
+      go a (winners-differ h k w l) q = numbers-apart soft-answers why.softHardDisagree why.noConfidence (λ z. omega arith) q
+      go a (none-leads h k w l i) q = numbers-apart soft-answers why.notFarAhead why.noConfidence (λ z. omega arith) q
+      go a (found h k w l d) q = found-not soft-answers d why.noConfidence q
 
       back : SoftNoConfidence → softCore call ≡ softRefusedBy why.noConfidence
       back (inl h) = core-unsure h
@@ -195,13 +196,13 @@ module _ (call : SoftCall) (m n o : ℕ) (A : SoftAccepted call m n o) where
   soft-14 = ((λ e. go (softCore call) soft-ends e), λ h. rw (h .0, soft-two, h .1))
     where
       go : (a : SoftAnswer) → SoftEnd a → a ≡ softRefusedBy why.softMargin → MarginBelow
-      go a (no-physical-confidence h) q = soft-apart why.noConfidence why.softMargin (λ z. omega arith) q
+      go a (no-physical-confidence h) q = numbers-apart soft-answers why.noConfidence why.softMargin (λ z. omega arith) q
       go a (margin-below h k) q = (h, k)
-      go a (no-logical-confidence h k l) q = soft-apart why.noConfidence why.softMargin (λ z. omega arith) q
-      go a (none-within h k l i) q = soft-apart why.noneWithinLimit why.softMargin (λ z. omega arith) q
-      go a (winners-differ h k w l) q = soft-apart why.softHardDisagree why.softMargin (λ z. omega arith) q
-      go a (none-leads h k w l i) q = soft-apart why.notFarAhead why.softMargin (λ z. omega arith) q
-      go a (found h k w l d) q = soft-found-not d why.softMargin q
+      go a (no-logical-confidence h k l) q = numbers-apart soft-answers why.noConfidence why.softMargin (λ z. omega arith) q
+      go a (none-within h k l i) q = numbers-apart soft-answers why.noneWithinLimit why.softMargin (λ z. omega arith) q
+      go a (winners-differ h k w l) q = numbers-apart soft-answers why.softHardDisagree why.softMargin (λ z. omega arith) q
+      go a (none-leads h k w l i) q = numbers-apart soft-answers why.notFarAhead why.softMargin (λ z. omega arith) q
+      go a (found h k w l d) q = found-not soft-answers d why.softMargin q
 
   -- 11: no placing of the logical list is within the limit
   abbrev NoneWithin : Type 0
@@ -214,13 +215,13 @@ module _ (call : SoftCall) (m n o : ℕ) (A : SoftAccepted call m n o) where
   )
     where
       go : (a : SoftAnswer) → SoftEnd a → a ≡ softRefusedBy why.noneWithinLimit → NoneWithin
-      go a (no-physical-confidence h) q = soft-apart why.noConfidence why.noneWithinLimit (λ z. omega arith) q
-      go a (margin-below h k) q = soft-apart why.softMargin why.noneWithinLimit (λ z. omega arith) q
-      go a (no-logical-confidence h k l) q = soft-apart why.noConfidence why.noneWithinLimit (λ z. omega arith) q
+      go a (no-physical-confidence h) q = numbers-apart soft-answers why.noConfidence why.noneWithinLimit (λ z. omega arith) q
+      go a (margin-below h k) q = numbers-apart soft-answers why.softMargin why.noneWithinLimit (λ z. omega arith) q
+      go a (no-logical-confidence h k l) q = numbers-apart soft-answers why.noConfidence why.noneWithinLimit (λ z. omega arith) q
       go a (none-within h k l i) q = ((h, k), l, i)
-      go a (winners-differ h k w l) q = soft-apart why.softHardDisagree why.noneWithinLimit (λ z. omega arith) q
-      go a (none-leads h k w l i) q = soft-apart why.notFarAhead why.noneWithinLimit (λ z. omega arith) q
-      go a (found h k w l d) q = soft-found-not d why.noneWithinLimit q
+      go a (winners-differ h k w l) q = numbers-apart soft-answers why.softHardDisagree why.noneWithinLimit (λ z. omega arith) q
+      go a (none-leads h k w l i) q = numbers-apart soft-answers why.notFarAhead why.noneWithinLimit (λ z. omega arith) q
+      go a (found h k w l d) q = found-not soft-answers d why.noneWithinLimit q
 
   -- what a winner of the logical list comes to
   judged-is : Clear → (w : LogicalWinner) → softCore call ≡ softJudged (call .hard) best (w .winner) (w .runner-up)
@@ -237,13 +238,13 @@ module _ (call : SoftCall) (m n o : ℕ) (A : SoftAccepted call m n o) where
   soft-15 = ((λ e. go (softCore call) soft-ends e), λ d. judged-is (d .clear) (d .logical) ∙ rw (d .differ))
     where
       go : (a : SoftAnswer) → SoftEnd a → a ≡ softRefusedBy why.softHardDisagree → SoftHardDisagree
-      go a (no-physical-confidence h) q = soft-apart why.noConfidence why.softHardDisagree (λ z. omega arith) q
-      go a (margin-below h k) q = soft-apart why.softMargin why.softHardDisagree (λ z. omega arith) q
-      go a (no-logical-confidence h k l) q = soft-apart why.noConfidence why.softHardDisagree (λ z. omega arith) q
-      go a (none-within h k l i) q = soft-apart why.noneWithinLimit why.softHardDisagree (λ z. omega arith) q
+      go a (no-physical-confidence h) q = numbers-apart soft-answers why.noConfidence why.softHardDisagree (λ z. omega arith) q
+      go a (margin-below h k) q = numbers-apart soft-answers why.softMargin why.softHardDisagree (λ z. omega arith) q
+      go a (no-logical-confidence h k l) q = numbers-apart soft-answers why.noConfidence why.softHardDisagree (λ z. omega arith) q
+      go a (none-within h k l i) q = numbers-apart soft-answers why.noneWithinLimit why.softHardDisagree (λ z. omega arith) q
       go a (winners-differ h k w l) q = record { clear = (h, k); logical = w; differ = l }
-      go a (none-leads h k w l i) q = soft-apart why.notFarAhead why.softHardDisagree (λ z. omega arith) q
-      go a (found h k w l d) q = soft-found-not d why.softHardDisagree q
+      go a (none-leads h k w l i) q = numbers-apart soft-answers why.notFarAhead why.softHardDisagree (λ z. omega arith) q
+      go a (found h k w l d) q = found-not soft-answers d why.softHardDisagree q
 
   -- 13: the winners agree, and no placing of the logical list leads
   pub record SoftNotAhead : Type 0 where
@@ -257,13 +258,13 @@ module _ (call : SoftCall) (m n o : ℕ) (A : SoftAccepted call m n o) where
   soft-13 = ((λ e. go (softCore call) soft-ends e), λ d. judged-is (d .clear) (d .logical) ∙ rw (d .agree, not-passed d))
     where
       go : (a : SoftAnswer) → SoftEnd a → a ≡ softRefusedBy why.notFarAhead → SoftNotAhead
-      go a (no-physical-confidence h) q = soft-apart why.noConfidence why.notFarAhead (λ z. omega arith) q
-      go a (margin-below h k) q = soft-apart why.softMargin why.notFarAhead (λ z. omega arith) q
-      go a (no-logical-confidence h k l) q = soft-apart why.noConfidence why.notFarAhead (λ z. omega arith) q
-      go a (none-within h k l i) q = soft-apart why.noneWithinLimit why.notFarAhead (λ z. omega arith) q
-      go a (winners-differ h k w l) q = soft-apart why.softHardDisagree why.notFarAhead (λ z. omega arith) q
+      go a (no-physical-confidence h) q = numbers-apart soft-answers why.noConfidence why.notFarAhead (λ z. omega arith) q
+      go a (margin-below h k) q = numbers-apart soft-answers why.softMargin why.notFarAhead (λ z. omega arith) q
+      go a (no-logical-confidence h k l) q = numbers-apart soft-answers why.noConfidence why.notFarAhead (λ z. omega arith) q
+      go a (none-within h k l i) q = numbers-apart soft-answers why.noneWithinLimit why.notFarAhead (λ z. omega arith) q
+      go a (winners-differ h k w l) q = numbers-apart soft-answers why.softHardDisagree why.notFarAhead (λ z. omega arith) q
       go a (none-leads h k w l i) q = record { clear = (h, k); logical = w; agree = l; none-lead = i }
-      go a (found h k w l d) q = soft-found-not d why.notFarAhead q
+      go a (found h k w l d) q = found-not soft-answers d why.notFarAhead q
 
       not-passed : (d : SoftNotAhead) → passed (size (call .hard .logical)) (d .logical .winner .hits) (d .logical .runner-up .hits) ≡ false
       not-passed d =

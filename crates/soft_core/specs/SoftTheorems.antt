@@ -47,14 +47,15 @@ use Rattle.refusals.specs.Numbers as why
 use Rattle.answer.specs.declared.SoftDecoded.{SoftDecoded}
 use Rattle.answer.specs.declared.SoftAnswer.{SoftAnswer}
 use Rattle.answer.specs.declared.SoftAnswer.the-variants.{Found, Refused}
-use Rattle.verdict.specs.Verdict.{pick}
-use Rattle.soft_verdict.specs.SoftVerdict.{softRefusedBy, softWhenAccepted, softVerdict, softDecodedOf, bestOf}
+use Rattle.verdict.specs.Verdict.{whenAccepted}
+use Rattle.verdict.specs.Answers.{never-both}
+use Rattle.soft_verdict.specs.SoftVerdict.{softRefusedBy, softVerdict, softDecodedOf, bestOf}
 use Rattle.soft_logical.specs.Logical.{cellFit, fitOf, softJudged, afterHard}
 use Rattle.soft_core.specs.Soft.{afterSoft, softCore}
 use Rattle.soft_core.specs.SoftLaws.{likelihoods-ok}
 use Rattle.demand.specs.Demand.{OnBoard, Same, Leads, RunsUp, Names}
 use Rattle.demand.specs.DemandLaws.{keyOf, placing, placing-on, key-same, key-back, row-back, col-back, leads-sole}
-use Rattle.soft_verdict.specs.SoftVerdictTheorems.{never-both-soft}
+use Rattle.soft_verdict.specs.SoftVerdictTheorems.{soft-answers}
 use Rattle.soft_core.specs.SoftDemand.{total, withTotal, marginOf, FirstByLikelihood, SecondByLikelihood, BestByLikelihood, SoftKept, SoftAnswered}
 use Rattle.soft_core.specs.SoftPlaces.{first-once, best-by-rows, second-total}
 use Rattle.demand.specs.Winners.{runnerAt, winner-on, winner-leads, winner-hits, named, runner-hits, runs-up}
@@ -191,7 +192,7 @@ module _ (call : SoftCall) (m n o : ℕ) (A : SoftAccepted call m n o) where
     abbrev verdict : Candidate → RunnerUp → Admission
     verdict x r = softVerdict t (withTotal (call .hard .board) (call .hard .physical) (call .likelihoods) (call .hard .transforms) Q) (getD (call .hard .transforms) (x .placing .listed) 0) x r (size (call .hard .logical))
 
-    by-verdict : (x : Candidate) (r : RunnerUp) (v : Admission) → selection (call .hard .board) (call .hard .logical) (call .hard .transforms) (call .hard .error-limit) ≡ sel.Selected x r → verdict x r ≡ v → softWhenAccepted v (Found (answer r)) ≡ Found d → FoundBy d
+    by-verdict : (x : Candidate) (r : RunnerUp) (v : Admission) → selection (call .hard .board) (call .hard .logical) (call .hard .transforms) (call .hard .error-limit) ≡ sel.Selected x r → verdict x r ≡ v → whenAccepted Refused v (Found (answer r)) ≡ Found d → FoundBy d
     by-verdict x r admission.Accepted e h k = record {
       first = Q;
       second = R;
@@ -203,20 +204,20 @@ module _ (call : SoftCall) (m n o : ℕ) (A : SoftAccepted call m n o) where
       agrees = verdict-passed t (withTotal (call .hard .board) (call .hard .physical) (call .likelihoods) (call .hard .transforms) Q) (getD (call .hard .transforms) (x .placing .listed) 0) x r (size (call .hard .logical)) h;
       told = let q : answer r ≡ d = cc in q;
     }
-    by-verdict x r (admission.Refused j) e h k = absurd (never-both-soft d j k)
+    by-verdict x r (admission.Refused j) e h k = absurd (never-both soft-answers d j k)
 
     by-logical : (q : Selection) → selection (call .hard .board) (call .hard .logical) (call .hard .transforms) (call .hard .error-limit) ≡ q → afterHard (call .hard) (bestOf (withTotal (call .hard .board) (call .hard .physical) (call .likelihoods) (call .hard .transforms) Q) (withTotal (call .hard .board) (call .hard .physical) (call .likelihoods) (call .hard .transforms) R) (size (call .hard .physical))) q ≡ Found d → FoundBy d
     unfolding softJudged
-    by-logical (sel.Refused j) e h = absurd (never-both-soft d j h)
+    by-logical (sel.Refused j) e h = absurd (never-both soft-answers d j h)
     by-logical (sel.Selected x r) e h = by-verdict x r (verdict x r) e refl h
 
   by-margin : (d : SoftDecoded) (Q R : Placing) → BestByLikelihood (call .hard .board) (call .hard .physical) (call .likelihoods) (call .hard .transforms) Q R → (v : Bool) → belowMargin (marginOf (call .hard .board) (call .hard .physical) (call .likelihoods) (call .hard .transforms) Q R) (call .soft-margin) ≡ v
-      → pick v (softRefusedBy why.softMargin) (afterHard (call .hard) (bestOf (withTotal (call .hard .board) (call .hard .physical) (call .likelihoods) (call .hard .transforms) Q) (withTotal (call .hard .board) (call .hard .physical) (call .likelihoods) (call .hard .transforms) R) (size (call .hard .physical))) (selection (call .hard .board) (call .hard .logical) (call .hard .transforms) (call .hard .error-limit))) ≡ Found d → FoundBy d
-  by-margin d Q R b true e h = absurd (never-both-soft d (numbered why.softMargin) h)
+      → cond v (softRefusedBy why.softMargin) (afterHard (call .hard) (bestOf (withTotal (call .hard .board) (call .hard .physical) (call .likelihoods) (call .hard .transforms) Q) (withTotal (call .hard .board) (call .hard .physical) (call .likelihoods) (call .hard .transforms) R) (size (call .hard .physical))) (selection (call .hard .board) (call .hard .logical) (call .hard .transforms) (call .hard .error-limit))) ≡ Found d → FoundBy d
+  by-margin d Q R b true e h = absurd (never-both soft-answers d (numbered why.softMargin) h)
   by-margin d Q R b false e h = by-logical d Q R b e (selection (call .hard .board) (call .hard .logical) (call .hard .transforms) (call .hard .error-limit)) refl h
 
-  by-confidence : (d : SoftDecoded) (v : Bool) → pick v (softRefusedBy why.noConfidence) (afterSoft (call .hard) (call .soft-margin) (softSelection (call .hard .board) (call .hard .physical) (call .likelihoods) (call .hard .transforms))) ≡ Found d → FoundBy d
-  by-confidence d true h = absurd (never-both-soft d (numbered why.noConfidence) h)
+  by-confidence : (d : SoftDecoded) (v : Bool) → cond v (softRefusedBy why.noConfidence) (afterSoft (call .hard) (call .soft-margin) (softSelection (call .hard .board) (call .hard .physical) (call .likelihoods) (call .hard .transforms))) ≡ Found d → FoundBy d
+  by-confidence d true h = absurd (never-both soft-answers d (numbered why.noConfidence) h)
   by-confidence d false h =
       let Q = first-placing in
       let R = second-placing in

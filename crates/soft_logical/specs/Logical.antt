@@ -21,7 +21,8 @@ use Rattle.figures.specs.declared.Fit.{Fit}
 use Rattle.soft_verdict.specs.declared.SoftBest.{SoftBest}
 use Rattle.answer.specs.declared.SoftAnswer.{SoftAnswer}
 use Rattle.answer.specs.declared.SoftAnswer.the-variants.{Found, Refused}
-use Rattle.soft_verdict.specs.SoftVerdict.{softWhenAccepted, softVerdict, softDecodedOf}
+use Rattle.verdict.specs.Verdict.{whenAccepted}
+use Rattle.soft_verdict.specs.SoftVerdict.{softVerdict, softDecodedOf}
 
 -- ---- the physical list's figures
 -- the two cells of an origin, added: counts, and weights rounded once
@@ -43,7 +44,7 @@ module _ (call : HardCall) where
   softJudged best w runner =
       let t = getD (call .transforms) (best .first .placing .listed) 0 in
       let u = getD (call .transforms) (best .second .placing .listed) 0 in
-      softWhenAccepted (softVerdict t (best .first) (getD (call .transforms) (w .placing .listed) 0) w runner (size (call .logical))) (Found (softDecodedOf t u best (fitOf (call .board) (call .physical) t (best .first .placing .row) (best .first .placing .col)) (size (call .physical)) runner))
+      whenAccepted Refused (softVerdict t (best .first) (getD (call .transforms) (w .placing .listed) 0) w runner (size (call .logical))) (Found (softDecodedOf t u best (fitOf (call .board) (call .physical) t (best .first .placing .row) (best .first .placing .col)) (size (call .physical)) runner))
 
   abbrev pub afterHard : SoftBest → Selection → SoftAnswer
   afterHard best (sel.Refused r) = Refused r

@@ -36,7 +36,8 @@ use Rattle.answer.specs.declared.SoftDecoded.{SoftDecoded}
 use Rattle.answer.specs.declared.SoftAnswer.{SoftAnswer}
 use Rattle.answer.specs.declared.SoftAnswer.the-variants.{Found, Refused}
 use Rattle.hard.specs.Ready.{ready-logical, beyond}
-use Rattle.soft_verdict.specs.SoftVerdict.{softWhenAccepted, softVerdict, softDecodedOf}
+use Rattle.verdict.specs.Verdict.{whenAccepted}
+use Rattle.soft_verdict.specs.SoftVerdict.{softVerdict, softDecodedOf}
 use Rattle.soft_logical.specs.Logical.{cellFit, fitOf, softJudged, afterHard, FitDone, Figured, LogicalRooms, LogicalDone}
 
 -- ---- the cells of an origin
@@ -102,7 +103,7 @@ module _ (call : HardCall) (c : List ℕ) (w : List Float) (A : HardAccepted cal
   module _ (x : Candidate) (runner : RunnerUp) (k : r ≡ sel.Selected x runner) (n : Admission) (v : n ≡ softVerdict (getD (call .transforms) (best .first .placing .listed) 0) (best .first) (getD (call .transforms) (x .placing .listed) 0) x runner (size (call .logical))) where
     -- the answer under a verdict
     abbrev under : Admission → SoftAnswer
-    under y = let t = getD (call .transforms) (best .first .placing .listed) 0 in softWhenAccepted y (Found (softDecodedOf t (getD (call .transforms) (best .second .placing .listed) 0) best (fitOf (call .board) (call .physical) t (best .first .placing .row) (best .first .placing .col)) (size (call .physical)) runner))
+    under y = let t = getD (call .transforms) (best .first .placing .listed) 0 in whenAccepted Refused y (Found (softDecodedOf t (getD (call .transforms) (best .second .placing .listed) 0) best (fitOf (call .board) (call .physical) t (best .first .placing .row) (best .first .placing .col)) (size (call .physical)) runner))
 
     logical-answer : under n ≡ afterHard call best (selection (call .board) (call .logical) (call .transforms) (call .error-limit))
     unfolding softJudged

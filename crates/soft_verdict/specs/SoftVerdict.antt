@@ -24,11 +24,6 @@ use Rattle.soft_verdict.specs.declared.SoftBest.{SoftBest}
 abbrev pub softRefusedBy : ℕ → SoftAnswer
 softRefusedBy n = Refused (numbered n)
 
--- an accepted call is answered by x, any other with its refusal
-abbrev pub softWhenAccepted : Admission → SoftAnswer → SoftAnswer
-softWhenAccepted admission.Accepted x = x
-softWhenAccepted (admission.Refused r) x = Refused r
-
 -- "Then hard selection on the logical list must give the same origin and matrix and pass the gate"
 unfoldable pub softVerdict : ℕ → SoftCandidate → ℕ → Candidate → RunnerUp → ℕ → Admission
 softVerdict t first s w runner edges =

@@ -1,9 +1,8 @@
 -- The verdict on the winners (document 01, 'Hard selection'): whether they agree, the gate, and what a found answer holds.
-use mathlib.Core.Bool.{Bool, true, false, _&&_}
+use mathlib.Core.Bool.{Bool, cond, _&&_}
 use Prim.Native.Nat.{ℕ, _-_}
 use lib.Dec.{eqb}
-use lib.IntN.{pos}
-use lib.Ieee.{binary32, ofInt}
+use Rattle.refusals.specs.declared.Refusal.{Refusal}
 use Rattle.refusals.specs.declared.Admission.{Admission}
 use Rattle.refusals.specs.declared.Admission.the-variants as admission
 use Rattle.refusals.specs.Numbers.{numbered}
@@ -20,10 +19,10 @@ use Rattle.answer.specs.declared.Answer.the-variants.{Found, Refused}
 abbrev pub refusedBy : ℕ → Answer
 refusedBy n = Refused (numbered n)
 
--- an accepted call is answered by x, any other with its refusal
-abbrev pub whenAccepted : Admission → Answer → Answer
-whenAccepted admission.Accepted x = x
-whenAccepted (admission.Refused r) x = Refused r
+-- an accepted call is answered by x, any other with its refusal: of whatever type the answer is, and however a refusal is made one
+abbrev pub whenAccepted : {A : Type 0} → (Refusal → A) → Admission → A → A
+whenAccepted refusing admission.Accepted x = x
+whenAccepted refusing (admission.Refused r) x = refusing r
 
 -- "origin and matrix must agree": the eight matrices differ, so transforms by number (`matrix-tells` in demand/specs/Matrices.antt)
 unfoldable pub agreed : ℕ → Candidate → ℕ → Candidate → Bool
@@ -45,12 +44,7 @@ decodedOf t w runner edges = record {
   «margin_hits» = w .hits - runner .hits;
 }
 
--- one of two answers, of whatever type
-abbrev pub pick : {A : Type 0} → Bool → A → A → A
-pick true a b = a
-pick false a b = b
-
 -- refused where the winners differ, then where the gate is not passed, else found
 unfoldable pub judged : ℕ → Candidate → RunnerUp → ℕ → Candidate → ℕ → Answer
 unfolding decodedOf agreed
-judged t w runner s p edges = pick (agreed t w s p) (pick (passed edges (w .hits) (runner .hits)) (Found (decodedOf t w runner edges)) (refusedBy why.notFarAhead)) (refusedBy why.listsDisagree)
+judged t w runner s p edges = cond (agreed t w s p) (cond (passed edges (w .hits) (runner .hits)) (Found (decodedOf t w runner edges)) (refusedBy why.notFarAhead)) (refusedBy why.listsDisagree)

@@ -1,13 +1,11 @@
 -- What a verdict tells, in the winners' own numbers (demands 2 and 3 on this crate's definitions): found exactly when the winners agree and the gate is passed; a
 -- found answer tells the winner's square and hits, and the runner-up's. A refusal has its own number.
 use mathlib.Core.Path.{_≡_, refl, subst}
-use mathlib.Core.Bool.{Bool, true, false, _&&_}
+use mathlib.Core.Bool.{Bool, true, false, cond, _&&_}
 use Prim.Native.Nat.{ℕ, _-_}
-use native.Mathlib.Omega.{arith}
 use lib.Dec.{eqb}
 use borrow.Author.Tests.{eq-eqb, eqb-true}
 use Rattle.laws.specs.Tests.{clash, not-so, and-true}
-use Rattle.refusals.specs.declared.Refusal.{Refusal}
 use Rattle.refusals.specs.Numbers.{numbered}
 use Rattle.refusals.specs.Numbers as why
 use Rattle.board.specs.declared.edge.Placing.{Placing}
@@ -16,9 +14,9 @@ use Rattle.scan.specs.declared.scan.RunnerUp.{RunnerUp}
 use Rattle.figures.specs.Gate.{passed}
 use Rattle.answer.specs.declared.Square.{Square}
 use Rattle.answer.specs.declared.Decoded.{Decoded}
-use Rattle.answer.specs.declared.Answer.{Answer}
-use Rattle.answer.specs.declared.Answer.the-variants.{Found, Refused}
-use Rattle.verdict.specs.Verdict.{refusedBy, agreed, decodedOf, pick, judged}
+use Rattle.answer.specs.declared.Answer.the-variants.{Found}
+use Rattle.verdict.specs.Verdict.{refusedBy, agreed, decodedOf, judged}
+use Rattle.verdict.specs.Answers.{answers, never-both}
 
 -- "origin and matrix must agree": the transforms and the origins of two placings are the same
 pub record Agree (t : ℕ) (P : Placing) (s : ℕ) (Q : Placing) : Type 0 where
@@ -55,38 +53,35 @@ pub of-differ : (t : ℕ) (P : Placing) (s : ℕ) (Q : Placing) → (Agree t P s
 of-differ t P s Q n = not-so (test t P s Q) (λ e. n (agree-of t P s Q e))
 
 -- ---- two tests, one inside the other
-pick-first : (a b : Bool) (x y z : Answer) → a ≡ true → b ≡ true → pick a (pick b x y) z ≡ x
-pick-first true true x y z p q = refl
-pick-first true false x y z p q = clash q refl
-pick-first false b x y z p q = clash p refl
+pub both-hold : {A : Type 0} (a b : Bool) (x y z : A) → a ≡ true → b ≡ true → cond a (cond b x y) z ≡ x
+both-hold true true x y z p q = refl
+both-hold true false x y z p q = clash q refl
+both-hold false b x y z p q = clash p refl
 
-pick-second : (a b : Bool) (x y z : Answer) → a ≡ true → b ≡ false → pick a (pick b x y) z ≡ y
-pick-second true true x y z p q = clash refl q
-pick-second true false x y z p q = refl
-pick-second false b x y z p q = clash p refl
+pub first-holds : {A : Type 0} (a b : Bool) (x y z : A) → a ≡ true → b ≡ false → cond a (cond b x y) z ≡ y
+first-holds true true x y z p q = clash refl q
+first-holds true false x y z p q = refl
+first-holds false b x y z p q = clash p refl
 
-pick-last : (a : Bool) (x z : Answer) → a ≡ false → pick a x z ≡ z
-pick-last true x z p = clash refl p
-pick-last false x z p = refl
-
-pub never-both : (d : Decoded) (r : Refusal) → Refused r ≡ Found d → ⊥
-never-both d r e = let z : _≡_ {A = ℕ} 0 1 = cc in omega arith
+pub none-holds : {A : Type 0} (a : Bool) (x z : A) → a ≡ false → cond a x z ≡ z
+none-holds true x z p = clash refl p
+none-holds false x z p = refl
 
 -- ---- hard: the logical winner w under the transform t, with its runner-up, and the physical winner p under the transform s
 module _ (t : ℕ) (w : Candidate) (runner : RunnerUp) (s : ℕ) (p : Candidate) (edges : ℕ) where
   -- WINNERS THAT AGREE AND PASS ARE FOUND
   pub judged-complete : Agree t (w .placing) s (p .placing) → passed edges (w .hits) (runner .hits) ≡ true → (d : Decoded) × (judged t w runner s p edges ≡ Found d)
   unfolding judged agreed
-  judged-complete a g = (decodedOf t w runner edges, pick-first (test t (w .placing) s (p .placing)) (passed edges (w .hits) (runner .hits)) _ _ _ (of-agree t (w .placing) s (p .placing) a) g)
+  judged-complete a g = (decodedOf t w runner edges, both-hold (test t (w .placing) s (p .placing)) (passed edges (w .hits) (runner .hits)) _ _ _ (of-agree t (w .placing) s (p .placing) a) g)
 
   -- 12 where they differ, 13 where they agree and do not pass
   pub judged-12 : (Agree t (w .placing) s (p .placing) → ⊥) → judged t w runner s p edges ≡ refusedBy why.listsDisagree
   unfolding judged agreed
-  judged-12 n = pick-last (test t (w .placing) s (p .placing)) _ _ (of-differ t (w .placing) s (p .placing) n)
+  judged-12 n = none-holds (test t (w .placing) s (p .placing)) _ _ (of-differ t (w .placing) s (p .placing) n)
 
   pub judged-13 : Agree t (w .placing) s (p .placing) → passed edges (w .hits) (runner .hits) ≡ false → judged t w runner s p edges ≡ refusedBy why.notFarAhead
   unfolding judged agreed
-  judged-13 a g = pick-second (test t (w .placing) s (p .placing)) (passed edges (w .hits) (runner .hits)) _ _ _ (of-agree t (w .placing) s (p .placing) a) g
+  judged-13 a g = first-holds (test t (w .placing) s (p .placing)) (passed edges (w .hits) (runner .hits)) _ _ _ (of-agree t (w .placing) s (p .placing) a) g
 
   -- what a found answer says
   pub record Judged (d : Decoded) : Type 0 where
@@ -100,12 +95,12 @@ module _ (t : ℕ) (w : Candidate) (runner : RunnerUp) (s : ℕ) (p : Candidate)
   unfolding judged
   judged-is d h = go (agreed t w s p) (passed edges (w .hits) (runner .hits)) h
     where
-      go : (a b : Bool) → pick a (pick b (Found (decodedOf t w runner edges)) (refusedBy why.notFarAhead)) (refusedBy why.listsDisagree) ≡ Found d → decodedOf t w runner edges ≡ d
+      go : (a b : Bool) → cond a (cond b (Found (decodedOf t w runner edges)) (refusedBy why.notFarAhead)) (refusedBy why.listsDisagree) ≡ Found d → decodedOf t w runner edges ≡ d
       go true true k = cc
-      go true false k = absurd (never-both d (numbered why.notFarAhead) k)
-      go false b k = absurd (never-both d (numbered why.listsDisagree) k)
+      go true false k = absurd (never-both answers d (numbered why.notFarAhead) k)
+      go false b k = absurd (never-both answers d (numbered why.listsDisagree) k)
 
-  by-gate : (d : Decoded) (b : Bool) → passed edges (w .hits) (runner .hits) ≡ b → Agree t (w .placing) s (p .placing) → pick b (Found (decodedOf t w runner edges)) (refusedBy why.notFarAhead) ≡ Found d → Judged d
+  by-gate : (d : Decoded) (b : Bool) → passed edges (w .hits) (runner .hits) ≡ b → Agree t (w .placing) s (p .placing) → cond b (Found (decodedOf t w runner edges)) (refusedBy why.notFarAhead) ≡ Found d → Judged d
   unfolding decodedOf
   by-gate d true g a k =
       let q : decodedOf t w runner edges ≡ d = cc in
@@ -115,11 +110,11 @@ module _ (t : ℕ) (w : Candidate) (runner : RunnerUp) (s : ℕ) (p : Candidate)
         says = record { transform = refl; row = refl; col = refl; hits-told = refl; edges-told = refl; runner-up-hits = refl; runner-up-transform = refl; runner-up-row = refl; runner-up-col = refl };
         margin = refl;
       })
-  by-gate d false g a k = absurd (never-both d (numbered why.notFarAhead) k)
+  by-gate d false g a k = absurd (never-both answers d (numbered why.notFarAhead) k)
 
-  by-agreed : (d : Decoded) (b : Bool) → test t (w .placing) s (p .placing) ≡ b → pick b (pick (passed edges (w .hits) (runner .hits)) (Found (decodedOf t w runner edges)) (refusedBy why.notFarAhead)) (refusedBy why.listsDisagree) ≡ Found d → Judged d
+  by-agreed : (d : Decoded) (b : Bool) → test t (w .placing) s (p .placing) ≡ b → cond b (cond (passed edges (w .hits) (runner .hits)) (Found (decodedOf t w runner edges)) (refusedBy why.notFarAhead)) (refusedBy why.listsDisagree) ≡ Found d → Judged d
   by-agreed d true e k = by-gate d (passed edges (w .hits) (runner .hits)) refl (agree-of t (w .placing) s (p .placing) e) k
-  by-agreed d false e k = absurd (never-both d (numbered why.listsDisagree) k)
+  by-agreed d false e k = absurd (never-both answers d (numbered why.listsDisagree) k)
 
   -- FOUND MEANS TRUE
   pub judged-sound : (d : Decoded) → judged t w runner s p edges ≡ Found d → Judged d

@@ -1,8 +1,11 @@
 // The board and the view, read from their files. A file is read whole before any of it counts.
 ghost use mathlib.Core.Path.{_≡_};
 ghost use lib.ListN.{length};
+ghost use Rattle.viewtext.specs.Board.{Patterns, Whole};
 use crate::report::report;
 use crate::report::report_size;
+use viewtext::board_file;
+use viewtext::board_file::Board;
 use viewtext::board_file::read_board;
 use viewtext::view_file::View;
 use viewtext::view_file::read_view;
@@ -35,26 +38,31 @@ fn is_read(fd: i32, i: usize, most: u32) -> bool {
     left == 0
 }
 
-// The tables of a board's text; false after a message where it is at fault.
-fn board_of(i: usize, s: &[u8], tables: &mut [u8; 334]) -> bool {
+// The board of a text, with its tables filled; at fault after a message where the text is.
+fn board_of(i: usize, s: &[u8], tables: &mut [u8; 667]) -> Board
+    ensures { λ r. ⌜ Whole (r .what) (r .length) ⌝ }
+    ensures { λ _. ⌜ (Patterns (now (tables .entry)) → Patterns (now (tables .exit))) ⌝ }
+{
     let board = read_board(s, tables);
     if board.what != 0 {
         report(i, s, board.what, board.place);
-        return false;
     }
-    true
+    board
 }
 
-// The tables of the board that argument i names, a file of at most 65,536 bytes; false after a message where it cannot be had.
-pub fn load_board(i: usize, tables: &mut [u8; 334]) -> bool {
+// The board that argument i names, a file of at most 65,536 bytes, with its tables filled; at fault after a message where it cannot be had.
+pub fn load_board(i: usize, tables: &mut [u8; 667]) -> Board
+    ensures { λ r. ⌜ Whole (r .what) (r .length) ⌝ }
+    ensures { λ _. ⌜ (Patterns (now (tables .entry)) → Patterns (now (tables .exit))) ⌝ }
+{
     let fd = open(i);
     if fd < 0 {
-        return false;
+        return board_file::unread();
     }
     let mut bytes = io::large_buffer();
     let n = io::read_full(fd, &mut bytes);
     if !is_read(fd, i, 65536) {
-        return false;
+        return board_file::unread();
     }
     board_of(i, &bytes[..n], tables)
 }

@@ -7,6 +7,8 @@ use libc::STDERR_FILENO;
 use slices::page::blank;
 use slices::page::put;
 use slices::page::put_byte;
+use viewtext::fault::HORIZONTAL;
+use viewtext::fault::VERTICAL;
 use viewtext::text::Word;
 use viewtext::text::byte_after;
 use viewtext::text::line_of;
@@ -40,9 +42,11 @@ fn put_expected(page: &mut [u8; 32768], at: usize, line: u32, what: u32) -> usiz
         the error limit, a decimal from 0 to 1 with at most 7 places, such as 0.3\n\
         the soft margin, a decimal from 0 to 65536 of at most 7 digits, such as 0.02\n\
         no log likelihoods in the logical list, since there is a physical list\n\
-        a line of 167 digits from 0 to 7, the patterns of horizontal edges\n\
+        a line of L digits from 0 to 7, the patterns of horizontal edges, L from 4 to 500 and no multiple of 3 (167 on the flat board)\n\
         a line of 167 digits from 0 to 7, the patterns of vertical edges\n\
-        nothing more after the two lines of patterns",
+        nothing more after the two lines of patterns\n\
+        a file that can be read\n\
+        a digit from 0 to 7",
         &wholes,
         &none,
     )
@@ -75,17 +79,20 @@ fn counted(n: usize) -> u32 {
     if n < 1048576 { n as u32 } else { 1048576 }
 }
 
-// What follows a word of a size that was put in quotes, of which 40 bytes are shown.
-fn put_rest(page: &mut [u8; 32768], at: usize, size: usize) -> usize {
-    if size <= 40 {
-        return put(page, at, b"\"\n");
-    }
+// What follows a word of a size that was put in quotes, of which 40 bytes are shown. The size is told where the word is longer, and from 10 bytes on where a table was expected.
+fn put_rest(page: &mut [u8; 32768], at: usize, size: usize, table: bool) -> usize {
     let wholes = [counted(size)];
-    put_wholes(page, at, b"..\" (% bytes)\n", &wholes)
+    if size > 40 {
+        return put_wholes(page, at, b"..\" (% bytes)\n", &wholes);
+    }
+    if table && size > 9 {
+        return put_wholes(page, at, b"\" (% bytes)\n", &wholes);
+    }
+    put(page, at, b"\"\n")
 }
 
 // A word in quotes, cut where it is long.
-fn put_word(page: &mut [u8; 32768], at: usize, s: &[u8], w: Word) -> usize {
+fn put_word(page: &mut [u8; 32768], at: usize, s: &[u8], w: Word, table: bool) -> usize {
     let from = w.from;
     let to = w.to;
     if from > to {
@@ -93,14 +100,14 @@ fn put_word(page: &mut [u8; 32768], at: usize, s: &[u8], w: Word) -> usize {
     }
     let n = put_byte(page, at, b'"');
     let n = put_bytes(page, n, s, from, to - from);
-    put_rest(page, n, to - from)
+    put_rest(page, n, to - from, table)
 }
 
 // What stands at a place instead, to the end of the message.
-fn put_instead(page: &mut [u8; 32768], at: usize, s: &[u8], place: usize) -> usize {
+fn put_instead(page: &mut [u8; 32768], at: usize, s: &[u8], place: usize, table: bool) -> usize {
     let w = next_word(s, place);
     if !none(w) {
-        return put_word(page, at, s, w);
+        return put_word(page, at, s, w, table);
     }
     if w.from < s.len() {
         return put(page, at, b"the end of the line\n");
@@ -113,7 +120,8 @@ pub(crate) fn report(i: usize, s: &[u8], what: u32, place: usize) {
     let mut page = blank();
     let n = put_argument(&mut page, 0, i);
     let n = put_expected(&mut page, n, line_of(s, place), what);
-    let n = put_instead(&mut page, n, s, place);
+    let table = what == HORIZONTAL || what == VERTICAL;
+    let n = put_instead(&mut page, n, s, place, table);
     write(STDERR_FILENO, &page, n);
 }
 

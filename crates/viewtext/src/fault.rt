@@ -43,3 +43,5 @@ pub const VERTICAL: u32 = 20;
 pub const FILE_END: u32 = 21;
 
 pub const UNREAD: u32 = 22;
+
+pub const DIGIT: u32 = 23;

@@ -22,14 +22,19 @@ pub struct Board {
 }
 
 impl Board {
-    /// Two tables of three-bit patterns from a small generator; any windows of some size differ.
+    /// The flat board: two tables of three-bit patterns from a small generator; any windows of some size differ.
     pub fn new() -> Board {
+        Board::pole(167)
+    }
+
+    /// The same with a horizontal table of another length.
+    pub fn pole(length: usize) -> Board {
         let mut state = 12345u32;
         let mut next = || {
             state = state.wrapping_mul(1664525).wrapping_add(1013904223);
             (state >> 24) as u8 % 8
         };
-        let horizontal = (0..167).map(|_| next()).collect();
+        let horizontal = (0..length).map(|_| next()).collect();
         let vertical = (0..167).map(|_| next()).collect();
         Board { horizontal, vertical }
     }
@@ -44,13 +49,13 @@ impl Board {
         let map = |x: i32, y: i32| (m[0][0] * x + m[0][1] * y, m[1][0] * x + m[1][1] * y);
         let a = map(col, row);
         let b = if orientation == 0 { map(col + 1, row) } else { map(col, row + 1) };
-        let at = |n: i32, origin: u32, period: i32| (n + origin as i32).rem_euclid(period) as usize;
+        let at = |n: i32, origin: u32, period: usize| (n + origin as i32).rem_euclid(period as i32) as usize;
         if a.1 == b.1 {
             let (r, c) = (a.1 - 1, a.0.min(b.0));
-            self.horizontal[at(r, square.row, 167)] >> at(c, square.col, 3) & 1
+            self.horizontal[at(r, square.row, self.horizontal.len())] >> at(c, square.col, 3) & 1
         } else {
             let (r, c) = (a.1.min(b.1), a.0 - 1);
-            self.vertical[at(c, square.col, 167)] >> at(r, square.row, 3) & 1
+            self.vertical[at(c, square.col, self.vertical.len())] >> at(r, square.row, 3) & 1
         }
     }
 

@@ -1,17 +1,17 @@
 -- `fill`: the place stays within the table.
-use Prim.Native.Nat.{_-_, _≤_}
+use Prim.Native.Nat.{_+_, _-_, _≤_}
+use Rattle.viewtext.specs.Board.{Patterns, pattern-stored}
+use native.Mathlib.Omega.{arith}
+use borrow.Author.Tests.{ltb-false}
 use borrow.Author.Needs.{needs}
 use Rattle.viewtext.proofs.board_file.fill.Statement.{statement}
 use Rattle.viewtext.proofs.board_file.fill.Tie as tie
 
 abbrev Inv-loop : tie.InvT-loop
-Inv-loop s from tables₀ second to i₀ tables i = (i ≤ 167) × (to ≤ 167)
+Inv-loop s from n tables₀ to i₀ tables i = (i ≤ n) × (to + n ≤ 667) × (Patterns tables₀ → Patterns tables)
 
 abbrev μ-loop : tie.MeasureT-loop
-μ-loop s from tables₀ second to i₀ tables i = 167 - i
-
-start-of-requires : tie.Need-start-of-requires Inv-loop μ-loop
-start-of-requires c κs = search needs
+μ-loop s from n tables₀ to i₀ tables i = n - i
 
 loop-holds : tie.Need-loop-holds Inv-loop μ-loop
 loop-holds c = search needs
@@ -35,7 +35,11 @@ loop-less : tie.Need-loop-less Inv-loop μ-loop
 loop-less c = search needs
 
 loop-again : tie.Need-loop-again Inv-loop μ-loop
-loop-again c = search needs
+loop-again c =
+    let l = c .before .before .before .before .loop in
+    let b = c .before .before .byte-after .result in
+    let to = c .before .before .before .before .before .before .args .to in
+    (omega arith, l .inv .1, λ h. pattern-stored (l .tables) (to + l .i) (b - 48) (omega (arith, ltb-false 55 b (c .if2 .left))) (l .inv .2 h))
 
 returns-2 : tie.Need-returns-2 Inv-loop μ-loop
 returns-2 c = search needs
@@ -46,7 +50,6 @@ fill-spec =
     (tie.spec
     Inv-loop
     μ-loop
-    start-of-requires
     loop-holds
     byte-after-requires
     returns

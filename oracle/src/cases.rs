@@ -1,5 +1,6 @@
 //! Cases with a fixed seed: windows of a board with wrong bits, hostile lists, class pairs around 1,024, long lists.
 
+use crate::count::Board;
 use crate::{true_bit, votes, Case, Edge, Likelihood, Random, Soft, Square};
 
 /// One of these.
@@ -237,14 +238,14 @@ pub fn hostile(r: &mut Random) -> Case {
     Case { map, logical, physical, transforms: transforms(r, truth, false), limit, soft: soft(r) }
 }
 
-/// The cells of one side with the most hits, each as an origin of its class, for edges of one orientation under transform 0.
-fn optimal(map: usize, edges: &[Edge]) -> Vec<Square> {
+/// The cells of one side with the most hits, each as an origin of its class, for edges of one orientation under transform 0. The side has so many patterns.
+fn optimal(patterns: usize, edges: &[Edge], bit: &impl Fn(&Edge, &Square) -> u8) -> Vec<Square> {
     let mut cells = Vec::new();
-    for long in 0..167 {
+    for long in 0..patterns as i32 {
         for short in 0..3 {
             let (row, col) = if edges[0].orientation == 0 { (long, short) } else { (short, long) };
             let at = Square { transform: 0, row, col };
-            cells.push((edges.iter().filter(|e| true_bit(map, e, &at) == e.bit).count(), at));
+            cells.push((edges.iter().filter(|e| bit(e, &at) == e.bit).count(), at));
         }
     }
     let most = cells.iter().map(|c| c.0).max().unwrap_or(0);
@@ -269,13 +270,23 @@ impl Pairs {
     const LIGHT: f32 = 1.0 / 1024.0;
 
     pub fn new(r: &mut Random, map: usize) -> Self {
+        Self::by(r, map, 167, |e, at| true_bit(map, e, at))
+    }
+
+    /// The same on a pole.
+    pub fn on(r: &mut Random, board: &Board) -> Self {
+        Self::by(r, 0, board.h.len(), |e, at| board.true_bit(e, at))
+    }
+
+    /// By the bits of a board with so many horizontal patterns.
+    fn by(r: &mut Random, map: usize, patterns: usize, bit: impl Fn(&Edge, &Square) -> u8) -> Self {
         let mut pairs = Self { map, horizontal: Vec::new(), vertical: Vec::new() };
         for i in 0..600 {
             let side = (i % 2) as u8;
             let confidence = if side == 0 { Self::LIGHT } else { 1.0 };
             let edge = |r: &mut Random| Edge { orientation: side, confidence, ..any_edge(r, 4, 0) };
             let mut few: Vec<Edge> = (0..1 + r.below(6)).map(|_| edge(r)).collect();
-            let cells = optimal(map, &few);
+            let cells = optimal(if side == 0 { patterns } else { 167 }, &few, &bit);
             if side == 1 {
                 pairs.vertical.push((cells.len(), few));
                 continue;
@@ -283,7 +294,7 @@ impl Pairs {
             let last = edge(r);
             let lighter = Self::LIGHT - Self::LIGHT / (1 << 20) as f32;
             few.extend([last, Edge { bit: 1 - last.bit, confidence: lighter, ..last }]);
-            let hit = cells.iter().filter(|at| true_bit(map, &last, at) == last.bit).count();
+            let hit = cells.iter().filter(|at| bit(&last, at) == last.bit).count();
             pairs.horizontal.push((hit, few));
         }
         pairs

@@ -226,7 +226,7 @@ fn add(t: Totals, found: [u32; 8]) -> Totals {
     }
 }
 
-// The totals.
+// The totals, in a line.
 fn show_totals(t: Totals) {
     let wholes = [t.accepted, t.refused];
     let none = [0.0f32; 1];

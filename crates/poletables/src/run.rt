@@ -38,7 +38,7 @@ fn cells_of(h: usize, v: usize) -> usize
     6007
 }
 
-// The cells that stand in the room compared with those of the file: a line where some differ.
+// The cells that stand in the room compared with those of the file: a line where some differ. Those of a list that was refused are read past.
 fn compare(
     buf: &mut [u8; 65536],
     c: Cursor,

@@ -42,7 +42,7 @@ pub(crate) fn show(tally: &[u32; 516]) {
     for length in 0..512 {
         show_length(tally, length);
     }
-    let wholes = [tally[512], tally[515], tally[513], tally[514]];
+    let wholes = [tally[LISTS], tally[CELLS], tally[DIFFER], tally[REFUSED]];
     say_wholes(
         b"% lists, % cells with counts, weights and sums, % lists differ, % are refused\n",
         &wholes,

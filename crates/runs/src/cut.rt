@@ -1,6 +1,6 @@
 // Windows cut from boards of our own: their tables, and lists of edges as a camera at a placing sees them.
 ghost use mathlib.Core.Path.{_≡_};
-ghost use Prim.Native.Nat.{_<_};
+ghost use Prim.Native.Nat.{_<_, _≤_};
 ghost use lib.ListN.{length, take};
 ghost use Rattle.runs.specs.Made.{Made};
 use answer::StatsAnswer;
@@ -25,13 +25,6 @@ pub fn fill_patterns(table: &mut [u8], seed: u64)
     for i in 0..table.len() {
         x = next_random(x);
         table[i] = pattern_of(x);
-    }
-}
-
-// A table with one bit set in each of the first n patterns.
-pub fn fill_ones(table: &mut [u8; 167], n: usize) {
-    for i in 0..167 {
-        table[i] = (i < n) as u8;
     }
 }
 
@@ -79,7 +72,10 @@ fn put(
     col: u8,
     orientation: u8,
     bit: u8,
-) -> usize {
+) -> usize
+    requires { ⌜ n ≤ 8193 ⌝ }
+    ensures { λ r. ⌜ r ≤ 8193 ⌝ }
+{
     if n < 8193 {
         rows[n] = wide(row);
         cols[n] = wide(col);
@@ -110,7 +106,10 @@ fn put_row<'a>(
     transform: u8,
     r: u32,
     c: u32,
-) -> usize {
+) -> usize
+    requires { ⌜ n ≤ 8193 ⌝ }
+    ensures { λ r. ⌜ r ≤ 8193 ⌝ }
+{
     let mut count = n;
     for col in 0..squares {
         let bit = true_bit(h, v, wide(row), wide(col), orientation, transform, r, c);
@@ -141,7 +140,9 @@ pub fn put_window<'a>(
     transform: u8,
     r: u32,
     c: u32,
-) -> usize {
+) -> usize
+    ensures { λ r. ⌜ r ≤ 8193 ⌝ }
+{
     let mut count = 0;
     for row in 0..squares {
         count = put_row(
@@ -176,22 +177,6 @@ pub fn put_window<'a>(
         );
     }
     count
-}
-
-// The first n bits are turned, so that a clean window misses n edges.
-pub fn turn_bits(bits: &mut [u8; 8193], n: usize) {
-    for i in 0..8193 {
-        if i < n {
-            bits[i] = (bits[i] == 0) as u8;
-        }
-    }
-}
-
-// Eight values, one after the other and again.
-pub fn repeat(xs: &mut [f32; 8193], eight: &[f32; 8]) {
-    for i in 0..8193 {
-        xs[i] = eight[i % 8];
-    }
 }
 
 // The first n elements of a column; one function for each type.

@@ -1,5 +1,6 @@
 // Runs of the library: document 01's numbers and the numbers at their edges, each refusal, and windows of a board. Each section is headed by its name. What
 // it writes is held to the file `stdout`.
+mod bent; // a degenerate board, and columns bent after a window was cut
 mod likelihoods; // a likelihood as a whole number, and a sum back to a float
 mod refused; // refusals 1 to 9, 16 and 17, alone and by pairs
 mod which_edge; // the edge that a refusal is about

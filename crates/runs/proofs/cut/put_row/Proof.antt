@@ -1,11 +1,11 @@
--- `put_row`: the column stays below the number of squares.
+-- `put_row`: the column stays below the number of squares, and the count within the columns.
 use Prim.Native.Nat.{_≤_, _-_}
 use borrow.Author.Needs.{needs}
 use Rattle.runs.proofs.cut.put_row.Statement.{statement}
 use Rattle.runs.proofs.cut.put_row.Tie as tie
 
 abbrev Inv-loop : tie.InvT-loop
-Inv-loop rows₀ cols₀ orientations₀ bits₀ n row squares orientation h v transform r c count₀ col₀ rows cols orientations bits count col = col ≤ squares
+Inv-loop rows₀ cols₀ orientations₀ bits₀ n row squares orientation h v transform r c count₀ col₀ rows cols orientations bits count col = (col ≤ squares) × (count ≤ 8193)
 
 abbrev μ-loop : tie.MeasureT-loop
 μ-loop rows₀ cols₀ orientations₀ bits₀ n row squares orientation h v transform r c count₀ col₀ rows cols orientations bits count col = squares - col

@@ -1,11 +1,11 @@
--- `put_window`: the row stays below the number of squares.
+-- `put_window`: the row stays below the number of squares, and the count within the columns.
 use Prim.Native.Nat.{_≤_, _-_}
 use borrow.Author.Needs.{needs}
 use Rattle.runs.proofs.cut.put_window.Statement.{statement}
 use Rattle.runs.proofs.cut.put_window.Tie as tie
 
 abbrev Inv-loop : tie.InvT-loop
-Inv-loop rows₀ cols₀ orientations₀ bits₀ squares h v transform r c count₀ row₀ rows cols orientations bits count row = row ≤ squares
+Inv-loop rows₀ cols₀ orientations₀ bits₀ squares h v transform r c count₀ row₀ rows cols orientations bits count row = (row ≤ squares) × (count ≤ 8193)
 
 abbrev μ-loop : tie.MeasureT-loop
 μ-loop rows₀ cols₀ orientations₀ bits₀ squares h v transform r c count₀ row₀ rows cols orientations bits count row = squares - row

@@ -1,8 +1,8 @@
 -- `turn_bits`: the index stays below 8,193.
 use Prim.Native.Nat.{_≤_, _-_}
 use borrow.Author.Needs.{needs}
-use Rattle.runs.proofs.cut.turn_bits.Statement.{statement}
-use Rattle.runs.proofs.cut.turn_bits.Tie as tie
+use Rattle.worked.proofs.bent.turn_bits.Statement.{statement}
+use Rattle.worked.proofs.bent.turn_bits.Tie as tie
 
 abbrev Inv-loop : tie.InvT-loop
 Inv-loop bits₀ n i₀ bits i = i ≤ 8193

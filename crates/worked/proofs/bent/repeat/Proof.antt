@@ -1,8 +1,8 @@
 -- `repeat`: the index stays below 8,193, and its remainder below 8.
 use Prim.Native.Nat.{_≤_, _-_}
 use borrow.Author.Needs.{needs}
-use Rattle.runs.proofs.cut.repeat.Statement.{statement}
-use Rattle.runs.proofs.cut.repeat.Tie as tie
+use Rattle.worked.proofs.bent.repeat.Statement.{statement}
+use Rattle.worked.proofs.bent.repeat.Tie as tie
 
 abbrev Inv-loop : tie.InvT-loop
 Inv-loop xs₀ eight i₀ xs i = i ≤ 8193

@@ -1,8 +1,8 @@
 -- `fill_ones`: the index stays below 167.
 use Prim.Native.Nat.{_≤_, _-_}
 use borrow.Author.Needs.{needs}
-use Rattle.runs.proofs.cut.fill_ones.Statement.{statement}
-use Rattle.runs.proofs.cut.fill_ones.Tie as tie
+use Rattle.worked.proofs.bent.fill_ones.Statement.{statement}
+use Rattle.worked.proofs.bent.fill_ones.Tie as tie
 
 abbrev Inv-loop : tie.InvT-loop
 Inv-loop table₀ n i₀ table i = i ≤ 167

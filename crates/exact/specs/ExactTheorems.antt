@@ -1,16 +1,16 @@
 -- C-15, one list, in terms of placings: what is selected is the winner, with its hits and its weight (`exact-winner`); there is one (`winner-exists`) and only one (`winner-once`); 10 and 11 mean what
--- they say (`exact-10`, `exact-11`); and another placing has the runner-up's hits, and no third more (`exact-runner-up`).
+-- they say (`exact-10`, `exact-11`, `exact-selects`); and another placing has the runner-up's hits, and no third more (`exact-runner-up`).
 use mathlib.Core.Path.{_≡_, refl, sym, ap, ap₂, subst, _∙_}
 use mathlib.Core.Bool.{Bool, true, false, cond}
 use mathlib.Core.List.{List}
-use mathlib.Core.Logic.{_⊎_, inl, inr, ⊎-elim}
-use Prim.Native.Nat.{ℕ, suc, _+_, _*_, _/_, _%_, _^_, _≤_, _<_}
+use mathlib.Core.Logic.{_⊎_, ⊎-elim}
+use Prim.Native.Nat.{ℕ, suc, _+_, _*_, _^_, _≤_, _<_}
 use native.Mathlib.Nat.{mul-le-mul-right}
 use native.Mathlib.Omega.{arith}
 use lib.ListN.{getD, length}
 use lib.Ieee.{Float}
-use borrow.Author.Tests.{eqb-true, eq-eqb}
-use Rattle.laws.specs.Tests.{clash, compared, not-so}
+use borrow.Author.Tests.{eqb-true}
+use Rattle.laws.specs.Tests.{compared}
 use Rattle.laws.specs.Words.{fold}
 use Rattle.refusals.specs.Numbers.{numbered}
 use Rattle.refusals.specs.Numbers as why
@@ -23,10 +23,10 @@ use Rattle.board.specs.Domain.{ListOk, BoardOk}
 use Rattle.grid.specs.BoardGrid.{period-h, period-v}
 use Rattle.scan.specs.Scan.{overLimit, runnerUp}
 use Rattle.scan.specs.declared.scan.RunnerUp.{RunnerUp}
-use Rattle.hard.specs.OneList.{keyAt, originNumber}
+use Rattle.hard.specs.OneList.{originNumber}
 use Rattle.hard.specs.Placings.{MostOther}
 use Rattle.hard.specs.PlacingsLaws.{most-other-ext}
-use Rattle.hard.specs.RateLaws.{fewer-over}
+use Rattle.hard.specs.RateLaws.{fewer-over, more-within}
 use Rattle.hard.specs.SelectTheorems.{hitsAtKey}
 use Rattle.units.specs.Units.{unitAt}
 use Rattle.units.specs.UnitsTheorems.{value-reads}
@@ -35,13 +35,12 @@ use Rattle.exact_scan.specs.Exact.{ValuesOk, finished}
 use Rattle.exact_scan.specs.FirstLaws.{valueBy, hitsBy, First, runner-up-other, runner-up-place, runner-up-own}
 use Rattle.exact_scan.specs.declared.kept.ExactScan.{ExactScan}
 use Rattle.exact_scan.specs.declared.kept.ExactWinner.{ExactWinner}
-use Rattle.exact_scan.specs.declared.kept.ExactSelection.{ExactSelection}
 use Rattle.exact_scan.specs.declared.kept.ExactSelection.the-variants.{Refused, Selected}
-use Rattle.demand.specs.Demand.{OnBoard, Same, RunsUp, RunnerUpExists}
+use Rattle.demand.specs.Demand.{OnBoard, Same, WithinLimit, RunsUp, RunnerUpExists}
 use Rattle.demand.specs.DemandLaws.{keyOf, key-below, row-back, col-back, same-key, hits-key, placing-on, most-runs-up, most-exists}
 use Rattle.demand.specs.Winners.{runnerAt}
-use Rattle.exact.specs.Select.{unitsTo, noUnits, valueTablesOf, exactScanOf, exactSelection}
-use Rattle.exact.specs.SelectLaws.{origin-value, weight-few, origin-hits, tables-ok, tab, kept, scan-first, kept-hits, kept-count}
+use Rattle.exact.specs.Select.{unitsTo, noUnits, exactScanOf, exactSelection}
+use Rattle.exact.specs.SelectLaws.{origin-value, weight-few, origin-hits, tables-ok, tab, kept, scan-first, kept-count}
 use Rattle.exact.specs.Winner.{weightAt, IsWinner}
 
 -- ---- only one placing is the winner
@@ -162,6 +161,14 @@ module _ (B : Board) (E : EdgeList) (ts : List ℕ) (board : BoardOk B) (list : 
         go : (o : Bool) → over ≡ o → cond o (Refused (numbered why.noneWithinLimit)) (Selected (record { hits = hitsOf (scan .best .value); weight = weightOf (scan .best .value); placing = P }) (runnerUp (scan .positions .summaries) (P .listed) (scan .positions .count))) ≡ Refused (numbered why.noneWithinLimit) → over ≡ true
         go true q e = q
         go false q e = let z : _≡_ {A = ℕ} 0 1 = cc in absurd (omega arith)
+
+    -- and where a placing is within the limit, one is selected
+    pub exact-selects : noUnits E ≡ false → (Q : Placing) → WithinLimit B E ts limit Q → (w : ExactWinner) × (r : RunnerUp) × (exactSelection B E ts limit ≡ Selected w r)
+    unfolding exactSelection finished
+    exact-selects u Q q = (record { hits = hitsOf (scan .best .value); weight = weightOf (scan .best .value); placing = P }, runnerUp (scan .positions .summaries) (P .listed) (scan .positions .count), rw (u, within))
+      where
+        within : over ≡ false
+        within = ap (overLimit (size E) limit) kept-hits-at ∙ more-within (size E) limit (hitsAt B E ts Q) (hitsAt B E ts P) (list .few) (winner-exists .most-hits Q (q .0)) (hits-le B E (getD ts (P .listed) 0) (P .row) (P .col)) (q .1)
 
     -- what is selected, off the scan
     module _ (w : ExactWinner) (r : RunnerUp) (e : exactSelection B E ts limit ≡ Selected w r) where

@@ -1,15 +1,14 @@
 -- Laws of the exact selection on one list: its values are as the fold asks, the room after each transform, and the scan one transform further.
 use mathlib.Core.Path.{_≡_, refl, sym, ap, ap₂, subst, _∙_}
-use mathlib.Core.Bool.{Bool, true, false, cond}
+use mathlib.Core.Bool.{Bool, true, false}
 use mathlib.Core.List.{List}
 use Prim.Native.Nat.{ℕ, zero, suc, _+_, _*_, _/_, _%_, _^_, _≤_, _<_}
 use native.Mathlib.Numerals.{add-one}
 use native.Mathlib.Nat.{le-refl}
 use native.Mathlib.Omega.{arith}
-use lib.Dec.{eqb}
 use lib.ListN.{getD, length}
 use lib.Ieee.{Float, nan}
-use borrow.Author.Tests.{eq-eqb, ne-eqb}
+use borrow.Author.Tests.{ne-eqb}
 use Rattle.laws.specs.Words.{fold, all, Weight, origins}
 use Rattle.laws.specs.Fold.{fold-zero, fold-hit}
 use Rattle.laws.specs.Part.{view}
@@ -20,12 +19,12 @@ use Rattle.board.specs.Hits.{EdgeList, Board, size, hit, hits}
 use Rattle.board.specs.Sides.{periodOf}
 use Rattle.board.specs.Domain.{ListOk, BoardOk}
 use Rattle.board.specs.HitsLaws.{hits-le}
-use Rattle.room.specs.Room.{used, tablesRoom}
+use Rattle.room.specs.Room.{used}
 use Rattle.cells.specs.Cells.{cellCount}
 use Rattle.unit_terms.specs.Values.{unitOf, valueOf}
 use Rattle.unit_terms.specs.ValuesLaws.{unit-small, value-is}
-use Rattle.units.specs.Units.{unitAt, cellValue, cellUnits, valuesOf, UnitsReady, UnitsBuilt}
-use Rattle.units.specs.UnitsLaws.{sum-most, units-few}
+use Rattle.units.specs.Units.{unitAt, cellUnits, valuesOf, UnitsReady, UnitsBuilt}
+use Rattle.units.specs.UnitsLaws.{units-few}
 use Rattle.units.specs.UnitsTheorems.{value-splits, weight-small, length-values, value-in, pair-splits, read-values, built-unique, units-again}
 use Rattle.tables.specs.TablesTheorems.{count-at, key-hits, counts-few}
 use Rattle.best.specs.CellTables.{Period}

@@ -1,6 +1,5 @@
--- C-15, one list: "The winner of a list is the placing, over all list positions and all origins, with most hits, then most weight, then the earliest list position, then row, then column."
--- Here the scan that finds it, over the tables of values of each list position.
-use mathlib.Core.Bool.{true, false, cond, _&&_}
+-- C-15, one list: the scan over the tables of values of each list position. It keeps the placing of most hits, then most weight, then the earliest list position, then row, then column.
+use mathlib.Core.Bool.{cond, _&&_}
 use mathlib.Core.Path.{_≡_}
 use mathlib.Core.List.{List}
 use Prim.Native.Nat.{ℕ, zero, suc, _+_, _*_, _/_, _%_, _≤_, _<_}
@@ -60,7 +59,7 @@ unfoldable pub exactCandidate : ℕ → ℕ → ℕ → ValueTables → ExactCan
 unfolding candidateAt exactOrigin valueOf
 exactCandidate L M listed X = candidateAt M listed (bestValue (valueOf (X .hs)) (valueOf (X .vs))) (exactOrigin L M X)
 
--- "then the earliest list position": what is kept stays, unless the candidate has a greater value or is the first
+-- the earliest list position wins a tie: what is kept stays, unless the candidate has a greater value or is the first
 unfoldable pub taken : ExactCandidate → ExactCandidate → ExactCandidate
 taken kept c = cond (ltb 0 (c .placing .listed) && leb (c .value) (kept .value)) kept c
 

@@ -1,10 +1,9 @@
 -- Laws of the exact scan: what is known of a transform's two tables of values, how large its keys are, what is kept, and the fold put together.
-use mathlib.Core.Path.{_≡_, refl}
-use mathlib.Core.Bool.{Bool, true, false, cond, _&&_}
+use mathlib.Core.Path.{_≡_}
+use mathlib.Core.Bool.{true, false}
 use mathlib.Core.List.{List}
 use Prim.Native.Nat.{ℕ, _+_, _*_, _≤_, _<_}
 use native.Mathlib.Omega.{arith}
-use lib.Dec.{ltb, leb}
 use lib.ListN.{length}
 use lib.Ieee.{Float}
 use borrow.Author.Tests.{lt-ltb, le-ltb, le-leb, lt-leb}
@@ -22,7 +21,7 @@ use Rattle.scan.specs.declared.scan.HardScan.{HardScan}
 use Rattle.scan.specs.declared.scan.RunnerUp.{RunnerUp}
 use Rattle.scan.specs.declared.scan.Kept.the-variants.{Nobody}
 use Rattle.folding.specs.Transform.{BestOk, bestHits, runnerUpWithin, summaryOf}
-use Rattle.folding.specs.TransformLaws.{SaidOk, within-small}
+use Rattle.folding.specs.TransformLaws.{within-small}
 use Rattle.folding.specs.declared.transform.Ranked.{Ranked}
 use Rattle.values.specs.Values.{hitsOf, weightOf, vAt, nAt, valueBest, valueSecond, tiedValue, heldHits, valueOf, firstOrigin, bestValue, byHits}
 use Rattle.values.specs.ValuesLaws.{PairTop, cell-in, cell-top, second-inside}

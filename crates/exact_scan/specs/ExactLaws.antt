@@ -20,7 +20,7 @@ use Rattle.scan.specs.declared.scan.TransformSummary.{TransformSummary}
 use Rattle.scan.specs.declared.scan.HardScan.{HardScan}
 use Rattle.scan.specs.declared.scan.RunnerUp.{RunnerUp}
 use Rattle.scan.specs.declared.scan.Kept.the-variants.{Nobody}
-use Rattle.folding.specs.Transform.{BestOk, bestHits, runnerUpWithin, summaryOf}
+use Rattle.folding.specs.Transform.{BestOk, bestHits, runnerUpWithin, competitorOf, summaryOf}
 use Rattle.folding.specs.TransformLaws.{within-small}
 use Rattle.folding.specs.declared.transform.Ranked.{Ranked}
 use Rattle.values.specs.Values.{hitsOf, weightOf, vAt, nAt, valueBest, valueSecond, tiedValue, heldHits, valueOf, firstOrigin, bestValue, byHits}
@@ -101,17 +101,16 @@ module _ (L M : ℕ) (p : Period L) (q : Period M) (X : ValueTables) (ok : Value
   }
 
   -- ---- the fold from its parts
-  pub folded : (t : ℕ) (scan : ExactScan) (a b : ValueMax) (first : ℕ) (s : TransformSummary) (c best : ExactCandidate) (positions : HardScan)
+  pub folded : (t : ℕ) (scan : ExactScan) (a b : ValueMax) (first : ℕ) (s : TransformSummary) (best : ExactCandidate) (positions : HardScan)
       → a ≡ valueOf hs
       → b ≡ valueOf vs
       → first ≡ firstOrigin L M hs vs a b
       → s ≡ summaryBy L M t (byHits a) (byHits b) first
-      → c ≡ candidateAt M (scan .positions .count) (bestValue a b) first
-      → best ≡ taken (scan .best) c
+      → best ≡ taken (scan .best) (record { value = bestValue a b; placing = record { listed = scan .positions .count; row = s .best .row; col = s .best .col } })
       → positions ≡ pushed (scan .positions) s Nobody
       → record { positions = positions; best = best } ≡ foldExact L M t X scan
-  unfolding foldExact exactSummary exactCandidate exactOrigin
-  folded t scan a b first s c best positions ea eb ef es ec ek ep = rw (ep, ek, ec, es, ef, ea, eb)
+  unfolding foldExact exactSummary exactCandidate exactOrigin candidateAt summaryBy summaryOf competitorOf
+  folded t scan a b first s best positions ea eb ef es ek ep = rw (ep, ek, es, ef, ea, eb)
 
 -- ---- the summary by hits, from its parts
 module _ (L M : ℕ) (p : Period L) (q : Period M) (a b x y : LexMax) (first : ℕ) (within : Ranked) (ok : BestOk L M a b) (small : first ≤ 2250000) (ex : x ≡ a) (ey : y ≡ b) where

@@ -25,6 +25,7 @@ pub record ValueTables : Type 0 where
   pub hs : List ℕ
   pub vs : List ℕ
 
+-- the two together
 abbrev pub valueTables : List ℕ → List ℕ → ValueTables
 valueTables hs vs = record { hs = hs; vs = vs }
 
@@ -46,6 +47,7 @@ unfoldable pub exactOrigin : ℕ → ℕ → ValueTables → ℕ
 unfolding valueOf
 exactOrigin L M X = firstOrigin L M (X .hs) (X .vs) (valueOf (X .hs)) (valueOf (X .vs))
 
+-- the summary of the transform t with the tables X
 unfoldable pub exactSummary : ℕ → ℕ → ℕ → ValueTables → TransformSummary
 unfolding summaryBy exactOrigin valueOf
 exactSummary L M t X = summaryBy L M t (byHits (valueOf (X .hs))) (byHits (valueOf (X .vs))) (exactOrigin L M X)
@@ -64,6 +66,7 @@ unfoldable pub taken : ExactCandidate → ExactCandidate → ExactCandidate
 taken kept c = cond (ltb 0 (c .placing .listed) && leb (c .value) (kept .value)) kept c
 
 -- ---- the scan
+-- of no transforms
 unfoldable pub emptyExact : ExactScan
 unfolding emptyScan
 emptyExact = record { positions = emptyScan; best = record { value = 0; placing = record { listed = 0; row = 0; col = 0 } } }

@@ -19,7 +19,7 @@ use Rattle.hard.specs.SelectTheorems.{hitsAtKey, selected-in-range, selected-mo
 use Rattle.scan.specs.declared.scan.Candidate.{Candidate}
 use Rattle.scan.specs.declared.scan.RunnerUp.{RunnerUp}
 use Rattle.hard.specs.declared.select.Selection.the-variants.{Selected}
-use Rattle.demand.specs.Demand.{OnBoard, Same, Leads, RunsUp, RunnerUpExists}
+use Rattle.demand.specs.Demand.{OnBoard, Leads, RunsUp, RunnerUpExists}
 use Rattle.demand.specs.DemandLaws.{same-key, hits-key, sole-leads, most-runs-up, most-exists}
 
 -- the placing of a runner-up at list position p

@@ -1,16 +1,16 @@
 -- C-15, one list, in terms of placings: what is selected is the winner, with its hits and its weight (`exact-winner`); there is one (`winner-exists`) and only one (`winner-once`); 10 and 11 mean what
--- they say (`exact-10`, `exact-11`); and another placing has the runner-up's hits, and no third more (`exact-runner-up`).
+-- they say (`exact-10`, `exact-11`, `exact-selects`); and another placing has the runner-up's hits, and no third more (`exact-runner-up`).
 use mathlib.Core.Path.{_≡_, refl, sym, ap, ap₂, subst, _∙_}
 use mathlib.Core.Bool.{Bool, true, false, cond}
 use mathlib.Core.List.{List}
-use mathlib.Core.Logic.{_⊎_, inl, inr, ⊎-elim}
-use Prim.Native.Nat.{ℕ, suc, _+_, _*_, _/_, _%_, _^_, _≤_, _<_}
+use mathlib.Core.Logic.{_⊎_, ⊎-elim}
+use Prim.Native.Nat.{ℕ, suc, _+_, _*_, _^_, _≤_, _<_}
 use native.Mathlib.Nat.{mul-le-mul-right}
 use native.Mathlib.Omega.{arith}
 use lib.ListN.{getD, length}
 use lib.Ieee.{Float}
-use borrow.Author.Tests.{eqb-true, eq-eqb}
-use Rattle.laws.specs.Tests.{clash, compared, not-so}
+use borrow.Author.Tests.{eqb-true}
+use Rattle.laws.specs.Tests.{compared}
 use Rattle.laws.specs.Words.{fold}
 use Rattle.refusals.specs.Numbers.{numbered}
 use Rattle.refusals.specs.Numbers as why
@@ -23,23 +23,24 @@ use Rattle.board.specs.Domain.{ListOk, BoardOk}
 use Rattle.grid.specs.BoardGrid.{period-h, period-v}
 use Rattle.scan.specs.Scan.{overLimit, runnerUp}
 use Rattle.scan.specs.declared.scan.RunnerUp.{RunnerUp}
-use Rattle.hard.specs.OneList.{keyAt, originNumber}
+use Rattle.hard.specs.OneList.{originNumber}
 use Rattle.hard.specs.Placings.{MostOther}
 use Rattle.hard.specs.PlacingsLaws.{most-other-ext}
-use Rattle.hard.specs.RateLaws.{fewer-over}
+use Rattle.hard.specs.RateLaws.{fewer-over, more-within}
 use Rattle.hard.specs.SelectTheorems.{hitsAtKey}
 use Rattle.units.specs.Units.{unitAt}
+use Rattle.units.specs.UnitsTheorems.{value-reads}
 use Rattle.values.specs.Values.{hitsOf, weightOf}
-use Rattle.exact_scan.specs.Exact.{ValueTables, finished}
-use Rattle.exact_scan.specs.FirstLaws.{valueBy, hitsBy, First, runner-up-other}
+use Rattle.exact_scan.specs.Exact.{ValuesOk, finished}
+use Rattle.exact_scan.specs.FirstLaws.{valueBy, hitsBy, First, runner-up-other, runner-up-place, runner-up-own}
 use Rattle.exact_scan.specs.declared.kept.ExactScan.{ExactScan}
 use Rattle.exact_scan.specs.declared.kept.ExactWinner.{ExactWinner}
-use Rattle.exact_scan.specs.declared.kept.ExactSelection.{ExactSelection}
 use Rattle.exact_scan.specs.declared.kept.ExactSelection.the-variants.{Refused, Selected}
-use Rattle.demand.specs.Demand.{OnBoard, Same, RunnerUpExists}
-use Rattle.demand.specs.DemandLaws.{keyOf, key-below, row-back, col-back, most-exists}
-use Rattle.exact.specs.Select.{unitsTo, noUnits, valueTablesOf, exactScanOf, exactSelection}
-use Rattle.exact.specs.SelectLaws.{origin-value, weight-few, origin-hits, tables-ok, tab, kept, scan-first, kept-hits, kept-count}
+use Rattle.demand.specs.Demand.{OnBoard, Same, WithinLimit, RunsUp, RunnerUpExists}
+use Rattle.demand.specs.DemandLaws.{keyOf, key-below, row-back, col-back, same-key, hits-key, placing-on, most-runs-up, most-exists}
+use Rattle.demand.specs.Winners.{runnerAt}
+use Rattle.exact.specs.Select.{unitsTo, noUnits, exactScanOf, exactSelection}
+use Rattle.exact.specs.SelectLaws.{origin-value, weight-few, origin-hits, tables-ok, tab, kept, scan-first, kept-count}
 use Rattle.exact.specs.Winner.{weightAt, IsWinner}
 
 -- ---- only one placing is the winner
@@ -67,13 +68,6 @@ apart-rows r c s d n l e = ⊎-elim (λ g. absurd (below g)) (λ g. g) (compared
 
 same-row : (r c s d n : ℕ) → s ≡ r → r * n + c ≤ s * n + d → c ≤ d
 same-row r c s d n l e = let m : s * n ≡ r * n = ap (λ (x : ℕ). x * n) l in omega (arith, m)
-
--- the hits and the weight of a value
-value-hits-of : (h w : ℕ) → w ≤ 2 ^ 37 → hitsOf (h * 2 ^ 38 + w) ≡ h
-value-hits-of h w l = omega arith
-
-value-weight-of : (h w : ℕ) → w ≤ 2 ^ 37 → weightOf (h * 2 ^ 38 + w) ≡ w
-value-weight-of h w l = omega arith
 
 -- ---- an accepted list, with one to eight transforms
 module _ (B : Board) (E : EdgeList) (ts : List ℕ) (board : BoardOk B) (list : ListOk E) (some : 0 < length ts) where
@@ -131,10 +125,10 @@ module _ (B : Board) (E : EdgeList) (ts : List ℕ) (board : BoardOk B) (list : 
   }
 
   kept-hits-at : hitsOf (kept B E ts board list some .value) ≡ hitsAt B E ts P
-  kept-hits-at = ap hitsOf kept-value ∙ value-hits-of (hitsAt B E ts P) (weightAt B E ts P) (placing-weight P kept-on)
+  kept-hits-at = ap hitsOf kept-value ∙ value-reads (hitsAt B E ts P) (weightAt B E ts P) (omega (arith, placing-weight P kept-on)) .0
 
   kept-weight-at : weightOf (kept B E ts board list some .value) ≡ weightAt B E ts P
-  kept-weight-at = ap weightOf kept-value ∙ value-weight-of (hitsAt B E ts P) (weightAt B E ts P) (placing-weight P kept-on)
+  kept-weight-at = ap weightOf kept-value ∙ value-reads (hitsAt B E ts P) (weightAt B E ts P) (omega (arith, placing-weight P kept-on)) .1
 
   -- ---- what the selection comes to
   module _ (limit : Float) where
@@ -168,6 +162,14 @@ module _ (B : Board) (E : EdgeList) (ts : List ℕ) (board : BoardOk B) (list : 
         go true q e = q
         go false q e = let z : _≡_ {A = ℕ} 0 1 = cc in absurd (omega arith)
 
+    -- and where a placing is within the limit, one is selected
+    pub exact-selects : noUnits E ≡ false → (Q : Placing) → WithinLimit B E ts limit Q → (w : ExactWinner) × (r : RunnerUp) × (exactSelection B E ts limit ≡ Selected w r)
+    unfolding exactSelection finished
+    exact-selects u Q q = (record { hits = hitsOf (scan .best .value); weight = weightOf (scan .best .value); placing = P }, runnerUp (scan .positions .summaries) (P .listed) (scan .positions .count), rw (u, within))
+      where
+        within : over ≡ false
+        within = ap (overLimit (size E) limit) kept-hits-at ∙ more-within (size E) limit (hitsAt B E ts Q) (hitsAt B E ts P) (list .few) (winner-exists .most-hits Q (q .0)) (hits-le B E (getD ts (P .listed) 0) (P .row) (P .col)) (q .1)
+
     -- what is selected, off the scan
     module _ (w : ExactWinner) (r : RunnerUp) (e : exactSelection B E ts limit ≡ Selected w r) where
       told : (noUnits E ≡ false) × (over ≡ false) × (record { hits = hitsOf (scan .best .value); weight = weightOf (scan .best .value); placing = P } ≡ w) × (runnerUp (scan .positions .summaries) (P .listed) (scan .positions .count) ≡ r)
@@ -186,12 +188,57 @@ module _ (B : Board) (E : EdgeList) (ts : List ℕ) (board : BoardOk B) (list : 
           subst (λ (x : ExactWinner). IsWinner B E ts (x .placing) × (x .hits ≡ hitsAt B E ts (x .placing)) × (x .weight ≡ weightAt B E ts (x .placing)) × (overLimit (size E) limit (hitsAt B E ts (x .placing)) ≡ false)) (told .2)
           (winner-exists, kept-hits-at, kept-weight-at, ap (overLimit (size E) limit) (sym kept-hits-at) ∙ told .1)
 
-      -- ANOTHER PLACING HAS THE RUNNER-UP'S HITS, AND NO THIRD HAS MORE
-      pub exact-runner-up : length ts ≤ 8 → RunnerUpExists B E ts (w .placing) (r .hits)
-      unfolding exactScanOf
-      exact-runner-up few =
-          subst (λ (x : ExactWinner). RunnerUpExists B E ts (x .placing) (r .hits)) (told .2)
-          (subst (λ (x : RunnerUp). RunnerUpExists B E ts P (x .hits)) (told .3)
-          (most-exists B board ts E limit P (runnerUp (scan .positions .summaries) (P .listed) (scan .positions .count) .hits) kept-on
-          (most-other-ext (length ts) (originNumber L M) (size E) limit (λ i k. hitsBy L M (tab B E ts board list some i) k) (hitsAtKey B E ts) (λ i k hi hk. origin-hits B E (getD ts i 0) board list k) (P .listed) (key P) (runnerUp (scan .positions .summaries) (P .listed) (scan .positions .count) .hits)
-          (rw (kept-count B E ts board list some) (runner-up-other L M (λ p. getD ts p 0) (tab B E ts board list some) (period-h B board) (period-v B board) (length ts) few (λ i l. tables-ok B E (getD ts i 0) board list) (kept B E ts board list some) F (size E) limit)))))
+      -- ---- the runner-up
+      module _ (few : length ts ≤ 8) where
+        abbrev runner : RunnerUp
+        runner = runnerUp (scan .positions .summaries) (P .listed) (length ts)
+
+        runner-is : runner ≡ r
+        runner-is = ap (runnerUp (scan .positions .summaries) (P .listed)) (sym (kept-count B E ts board list some)) ∙ told .3
+
+        abbrev all-ok : (i : ℕ) → i < length ts → ValuesOk L M (tab B E ts board list some i)
+        all-ok i l = tables-ok B E (getD ts i 0) board list
+
+        most-other : MostOther (length ts) (originNumber L M) (size E) limit (hitsAtKey B E ts) (P .listed) (key P) (runner .hits)
+        unfolding exactScanOf
+        most-other =
+            most-other-ext (length ts) (originNumber L M) (size E) limit (λ i k. hitsBy L M (tab B E ts board list some i) k) (hitsAtKey B E ts) (λ i k hi hk. origin-hits B E (getD ts i 0) board list k) (P .listed) (key P) (runner .hits)
+            (runner-up-other L M (λ p. getD ts p 0) (tab B E ts board list some) (period-h B board) (period-v B board) (length ts) few all-ok (kept B E ts board list some) F (size E) limit)
+
+        -- ANOTHER PLACING HAS THE RUNNER-UP'S HITS, AND NO THIRD HAS MORE
+        pub exact-runner-up : RunnerUpExists B E ts (w .placing) (r .hits)
+        exact-runner-up =
+            subst (λ (x : ExactWinner). RunnerUpExists B E ts (x .placing) (r .hits)) (told .2)
+            (subst (λ (x : RunnerUp). RunnerUpExists B E ts P (x .hits)) runner-is (most-exists B board ts E limit P (runner .hits) kept-on most-other))
+
+        -- the runner-up names a listed transform and an origin on the board
+        on : (p : ℕ) × (p < length ts) × (getD ts p 0 ≡ runner .transform) × (runner .row < 3 * L) × (runner .col < 3 * M)
+        unfolding exactScanOf
+        on =
+            let n = runner-up-place L M (λ p. getD ts p 0) (tab B E ts board list some) (period-h B board) (period-v B board) (length ts) few all-ok (kept B E ts board list some) F in
+            let o = placing-on B board ts (n .0) (n .1) (n .2) (n .3) in
+            (n .0, n .2, n .4, omega (arith, n .5, o .row), omega (arith, n .6, o .col))
+
+        pub exact-runner-up-on : (p : ℕ) × (p < length ts) × (getD ts p 0 ≡ r .transform) × (r .row < 3 * L) × (r .col < 3 * M)
+        exact-runner-up-on = subst (λ (x : RunnerUp). (p : ℕ) × (p < length ts) × (getD ts p 0 ≡ x .transform) × (x .row < 3 * L) × (x .col < 3 * M)) runner-is on
+
+        -- and, where it has fewer hits than the winner, it names such a placing itself
+        abbrev Named : Placing → RunnerUp → Type 0
+        Named Q x = (p : ℕ) × (p < length ts) × (getD ts p 0 ≡ x .transform) × RunsUp B E ts Q (runnerAt p x) × (hitsAt B E ts (runnerAt p x) ≡ x .hits)
+
+        own : runner .hits < hitsAt B E ts P → Named P runner
+        unfolding exactScanOf
+        own b =
+            let c = kept B E ts board list some in
+            let t = origin-hits B E (getD ts (P .listed) 0) board list (key P) ∙ hits-key B board ts E limit P kept-on in
+            let n = runner-up-own L M (λ p. getD ts p 0) (tab B E ts board list some) (period-h B board) (period-v B board) (length ts) few all-ok c F (omega (arith, b, t)) in
+            let Q = runnerAt (n .0) runner in
+            let o : OnBoard B ts Q = record { in-list = n .1; row = on .3; col = on .4 } in
+            let h = sym (hits-key B board ts E limit Q o) ∙ sym (origin-hits B E (getD ts (n .0) 0) board list (key Q)) ∙ n .5 in
+            (n .0, n .1, n .2, most-runs-up B board ts E limit P Q (runner .hits) kept-on o (λ s. n .4 (same-key B board ts Q P s)) h most-other, h)
+
+        pub exact-runner-up-named : r .hits < w .hits → (p : ℕ) × (p < length ts) × (getD ts p 0 ≡ r .transform) × RunsUp B E ts (w .placing) (runnerAt p r) × (hitsAt B E ts (runnerAt p r) ≡ r .hits)
+        exact-runner-up-named l =
+            subst (λ (x : ExactWinner). Named (x .placing) r) (told .2)
+            (subst (λ (x : RunnerUp). Named P x) runner-is
+            (own (omega (arith, l, exact-winner .1, ap (λ (x : RunnerUp). x .hits) runner-is, ap (λ (x : ExactWinner). hitsAt B E ts (x .placing)) (told .2)))))

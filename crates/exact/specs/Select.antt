@@ -24,7 +24,7 @@ use Rattle.exact_scan.specs.declared.kept.ExactSelection.the-variants.{Refused}
 unfoldable pub unitsTo : List Float → ℕ → ℕ
 unitsTo cs n = fold _+_ 0 n all (λ i. unitOf (getD cs i nan))
 
--- "refused by 10 where the list's unit sum is 0"
+-- the list has no confidence: its unit sum is 0
 unfoldable pub noUnits : EdgeList → Bool
 noUnits E = eqb (unitsTo (E .confidences) (length (E .confidences))) 0
 
@@ -37,9 +37,13 @@ pub record UnitsToReady (cs : List Float) : Type 0 where
 unfoldable pub valueTablesOf : Board → EdgeList → ℕ → ValueTables
 valueTablesOf B E t = valueTables (valuesOf B E t true) (valuesOf B E t false)
 
+-- the transform whose values are built for list position p
+abbrev pub builtAt : List ℕ → ℕ → ℕ
+builtAt ts p = getD ts p 0
+
 -- the scan over the first n transforms of the list ts
 unfoldable pub exactScanOf : Board → EdgeList → List ℕ → ℕ → ExactScan
-exactScanOf B E ts n = exactScanned (periodOf B true) (periodOf B false) (λ p. getD ts p 0) (λ p. valueTablesOf B E (getD ts p 0)) n
+exactScanOf B E ts n = exactScanned (periodOf B true) (periodOf B false) (λ p. getD ts p 0) (λ p. valueTablesOf B E (builtAt ts p)) n
 
 -- the selection on one list: refused without confidence, then where the kept placing is over the limit, else the winner with its runner-up
 unfoldable pub exactSelection : Board → EdgeList → List ℕ → Float → ExactSelection
@@ -57,7 +61,7 @@ pub record ExactSelectReady (B : Board) (E : EdgeList) (ts : List ℕ) (a : List
 -- after n transforms the room holds the values of the last of them, as built in the room that was lent; before the first it is as it was
 unfoldable pub ValueRoom : Board → EdgeList → List ℕ → ℕ → List ℕ → List ℕ → Type 0
 ValueRoom B E ts zero a a' = a' ≡ a
-ValueRoom B E ts (suc p) a a' = UnitsBuilt B E (getD ts p 0) a a'
+ValueRoom B E ts (suc p) a a' = UnitsBuilt B E (builtAt ts p) a a'
 
 -- how many transforms' values are built
 unfoldable pub valuesTo : EdgeList → List ℕ → ℕ

@@ -1,15 +1,14 @@
 -- Laws of the exact selection on one list: its values are as the fold asks, the room after each transform, and the scan one transform further.
 use mathlib.Core.Path.{_≡_, refl, sym, ap, ap₂, subst, _∙_}
-use mathlib.Core.Bool.{Bool, true, false, cond}
+use mathlib.Core.Bool.{Bool, true, false}
 use mathlib.Core.List.{List}
 use Prim.Native.Nat.{ℕ, zero, suc, _+_, _*_, _/_, _%_, _^_, _≤_, _<_}
 use native.Mathlib.Numerals.{add-one}
 use native.Mathlib.Nat.{le-refl}
 use native.Mathlib.Omega.{arith}
-use lib.Dec.{eqb}
 use lib.ListN.{getD, length}
 use lib.Ieee.{Float, nan}
-use borrow.Author.Tests.{eq-eqb, ne-eqb}
+use borrow.Author.Tests.{ne-eqb}
 use Rattle.laws.specs.Words.{fold, all, Weight, origins}
 use Rattle.laws.specs.Fold.{fold-zero, fold-hit}
 use Rattle.laws.specs.Part.{view}
@@ -20,12 +19,12 @@ use Rattle.board.specs.Hits.{EdgeList, Board, size, hit, hits}
 use Rattle.board.specs.Sides.{periodOf}
 use Rattle.board.specs.Domain.{ListOk, BoardOk}
 use Rattle.board.specs.HitsLaws.{hits-le}
-use Rattle.room.specs.Room.{used, tablesRoom}
+use Rattle.room.specs.Room.{used}
 use Rattle.cells.specs.Cells.{cellCount}
 use Rattle.unit_terms.specs.Values.{unitOf, valueOf}
 use Rattle.unit_terms.specs.ValuesLaws.{unit-small, value-is}
-use Rattle.units.specs.Units.{unitAt, cellValue, cellUnits, valuesOf, UnitsReady, UnitsBuilt}
-use Rattle.units.specs.UnitsLaws.{sum-most, units-few}
+use Rattle.units.specs.Units.{unitAt, cellUnits, valuesOf, UnitsReady, UnitsBuilt}
+use Rattle.units.specs.UnitsLaws.{units-few}
 use Rattle.units.specs.UnitsTheorems.{value-splits, weight-small, length-values, value-in, pair-splits, read-values, built-unique, units-again}
 use Rattle.tables.specs.TablesTheorems.{count-at, key-hits, counts-few}
 use Rattle.best.specs.CellTables.{Period}
@@ -37,7 +36,7 @@ use Rattle.exact_scan.specs.declared.kept.ExactCandidate.{ExactCandidate}
 use Rattle.exact_scan.specs.declared.kept.ExactScan.{ExactScan}
 use Rattle.exact_scan.specs.declared.kept.ExactSelection.{ExactSelection}
 use Rattle.exact_scan.specs.declared.kept.ExactSelection.the-variants.{Refused}
-use Rattle.exact.specs.Select.{unitsTo, noUnits, UnitsToReady, valueTablesOf, exactScanOf, exactSelection, ExactSelectReady, ValueRoom, valuesTo, ExactDone}
+use Rattle.exact.specs.Select.{unitsTo, noUnits, UnitsToReady, valueTablesOf, builtAt, exactScanOf, exactSelection, ExactSelectReady, ValueRoom, valuesTo, ExactDone}
 
 -- ---- the unit sum
 module _ (cs : List Float) where
@@ -162,17 +161,17 @@ module _ (B : Board) (E : EdgeList) (ts : List ℕ) (a : List ℕ) (R : ExactSel
   value-room-beyond (suc p) a' d = record { len = d .len; same = λ k h. d .surplus k h }
 
   -- what the next transform's values ask
-  pub value-rooms-ready : (n : ℕ) (a' : List ℕ) → ValueRoom B E ts n a a' → n < length ts → UnitsReady B E (getD ts n 0) a'
+  pub value-rooms-ready : (n : ℕ) (a' : List ℕ) → ValueRoom B E ts n a a' → n < length ts → UnitsReady B E (builtAt ts n) a'
   value-rooms-ready n a' d h = record { list = R .list; board = R .board; transform = R .small n h; room = omega (arith, R .room, value-room-beyond n a' d .len) }
 
   -- built once more, in the room that was lent
-  pub value-rooms-more : (n : ℕ) (a' a'' : List ℕ) → ValueRoom B E ts n a a' → UnitsBuilt B E (getD ts n 0) a' a'' → ValueRoom B E ts (n + 1) a a''
+  pub value-rooms-more : (n : ℕ) (a' a'' : List ℕ) → ValueRoom B E ts n a a' → UnitsBuilt B E (builtAt ts n) a' a'' → ValueRoom B E ts (n + 1) a a''
   unfolding ValueRoom
   value-rooms-more n a' a'' d b = rw add-one (go n d b)
     where
-      go : (m : ℕ) → ValueRoom B E ts m a a' → UnitsBuilt B E (getD ts n 0) a' a'' → UnitsBuilt B E (getD ts n 0) a a''
-      go zero e u = subst (λ (x : List ℕ). UnitsBuilt B E (getD ts n 0) x a'') e u
-      go (suc p) e u = units-again B E E (getD ts p 0) (getD ts n 0) a a' a'' e u
+      go : (m : ℕ) → ValueRoom B E ts m a a' → UnitsBuilt B E (builtAt ts n) a' a'' → UnitsBuilt B E (builtAt ts n) a a''
+      go zero e u = subst (λ (x : List ℕ). UnitsBuilt B E (builtAt ts n) x a'') e u
+      go (suc p) e u = units-again B E E (builtAt ts p) (builtAt ts n) a a' a'' e u
 
 -- ---- the scan
 -- what a scan of the first n transforms did: its record is the definition's, and the room holds the last one's values
@@ -187,18 +186,18 @@ module _ (B : Board) (E : EdgeList) (ts : List ℕ) (a : List ℕ) where
 
   pub scan-count : (n : ℕ) (a' : List ℕ) (r : ExactScan) → ExactScanDone B E ts n a a' r → r .positions .count ≡ n
   unfolding exactScanOf
-  scan-count n a' r d = ap (λ (s : ExactScan). s .positions .count) (d .answer) ∙ exact-count (periodOf B true) (periodOf B false) (λ p. getD ts p 0) (λ p. valueTablesOf B E (getD ts p 0)) n
+  scan-count n a' r d = ap (λ (s : ExactScan). s .positions .count) (d .answer) ∙ exact-count (periodOf B true) (periodOf B false) (λ p. getD ts p 0) (λ p. valueTablesOf B E (builtAt ts p)) n
 
-  further : (n : ℕ) → foldExact (periodOf B true) (periodOf B false) (getD ts n 0) (valueTablesOf B E (getD ts n 0)) (exactScanOf B E ts n) ≡ exactScanOf B E ts (n + 1)
+  further : (n : ℕ) → foldExact (periodOf B true) (periodOf B false) (getD ts n 0) (valueTablesOf B E (builtAt ts n)) (exactScanOf B E ts n) ≡ exactScanOf B E ts (n + 1)
   unfolding exactScanOf exactScanned
   further n = rw (add-one n)
 
-  pub scan-more : (R : ExactSelectReady B E ts a) (n : ℕ) (a' a'' : List ℕ) (r r' : ExactScan) → n < length ts → ExactScanDone B E ts n a a' r → UnitsBuilt B E (getD ts n 0) a' a''
+  pub scan-more : (R : ExactSelectReady B E ts a) (n : ℕ) (a' a'' : List ℕ) (r r' : ExactScan) → n < length ts → ExactScanDone B E ts n a a' r → UnitsBuilt B E (builtAt ts n) a' a''
       → r' ≡ foldExact (periodOf B true) (periodOf B false) (getD ts n 0) (roomValues (periodOf B true) (periodOf B false) a'') r → ExactScanDone B E ts (n + 1) a a'' r'
   scan-more R n a' a'' r r' h d b e = record {
     answer =
         e
-        ∙ ap₂ (λ (X : ValueTables) (x : ExactScan). foldExact (periodOf B true) (periodOf B false) (getD ts n 0) X x) (built-values B E (getD ts n 0) a' a'' (value-rooms-ready B E ts a R n a' (d .room) h) b) (d .answer)
+        ∙ ap₂ (λ (X : ValueTables) (x : ExactScan). foldExact (periodOf B true) (periodOf B false) (getD ts n 0) X x) (built-values B E (builtAt ts n) a' a'' (value-rooms-ready B E ts a R n a' (d .room) h) b) (d .answer)
         ∙ further n;
     room = value-rooms-more B E ts a R n a' a'' (d .room) b;
   }
@@ -207,7 +206,7 @@ module _ (B : Board) (E : EdgeList) (ts : List ℕ) (a : List ℕ) where
 module _ (B : Board) (E : EdgeList) (ts : List ℕ) (board : BoardOk B) (list : ListOk E) (some : 0 < length ts) where
   -- the tables of list position p
   abbrev pub tab : ℕ → ValueTables
-  tab p = valueTablesOf B E (getD ts p 0)
+  tab p = valueTablesOf B E (builtAt ts p)
 
   -- what is kept of all positions
   abbrev pub kept : ExactCandidate
@@ -219,12 +218,12 @@ module _ (B : Board) (E : EdgeList) (ts : List ℕ) (board : BoardOk B) (list : 
     where
       go : (n : ℕ) → 0 < n → First (periodOf B true) (periodOf B false) (λ p. getD ts p 0) tab n (exactScanned (periodOf B true) (periodOf B false) (λ p. getD ts p 0) tab n .best)
       go zero l = absurd (omega arith)
-      go (suc n) l = kept-first (periodOf B true) (periodOf B false) (λ p. getD ts p 0) tab (period-h B board) (period-v B board) n (λ i m. tables-ok B E (getD ts i 0) board list)
+      go (suc n) l = kept-first (periodOf B true) (periodOf B false) (λ p. getD ts p 0) tab (period-h B board) (period-v B board) n (λ i m. tables-ok B E (builtAt ts i) board list)
 
   -- its hits, by its value
-  pub kept-hits : let k = keyOf (periodOf B false) kept in hitsOf (kept .value) ≡ hits B E (getD ts (kept .placing .listed) 0) (k / (3 * periodOf B false)) (k % (3 * periodOf B false))
+  pub kept-hits : let k = keyOf (periodOf B false) kept in hitsOf (kept .value) ≡ hits B E (builtAt ts (kept .placing .listed)) (k / (3 * periodOf B false)) (k % (3 * periodOf B false))
   kept-hits =
-      let t = getD ts (kept .placing .listed) 0 in
+      let t = builtAt ts (kept .placing .listed) in
       let k = keyOf (periodOf B false) kept in
       sym (ap hitsOf (scan-first .own .at)) ∙ value-hits (periodOf B true) (periodOf B false) (period-h B board) (period-v B board) (valueTablesOf B E t) (tables-ok B E t board list) k ∙ origin-hits B E t board list k
 
@@ -252,7 +251,7 @@ module _ (B : Board) (E : EdgeList) (ts : List ℕ) (limit : Float) (a : List �
   scan-sound R a' s d = subst (λ (x : ExactScan). SoundExact (size E) x) (sym (d .answer)) (record {
     few = omega (arith, kept-count B E ts (R .board) (R .list) (R .transforms .0), R .transforms .1);
     listed = omega (arith, kept-count B E ts (R .board) (R .list) (R .transforms .0), scan-first B E ts (R .board) (R .list) (R .transforms .0) .in-list);
-    hits = omega (arith, kept-hits B E ts (R .board) (R .list) (R .transforms .0), hits-le B E (getD ts (exactScanOf B E ts (length ts) .best .placing .listed) 0) (keyOf (periodOf B false) (exactScanOf B E ts (length ts) .best) / (3 * periodOf B false)) (keyOf (periodOf B false) (exactScanOf B E ts (length ts) .best) % (3 * periodOf B false)));
+    hits = omega (arith, kept-hits B E ts (R .board) (R .list) (R .transforms .0), hits-le B E (builtAt ts (exactScanOf B E ts (length ts) .best .placing .listed)) (keyOf (periodOf B false) (exactScanOf B E ts (length ts) .best) / (3 * periodOf B false)) (keyOf (periodOf B false) (exactScanOf B E ts (length ts) .best) % (3 * periodOf B false)));
     small = R .list .few;
   })
 
@@ -267,4 +266,4 @@ module _ (B : Board) (E : EdgeList) (ts : List ℕ) (limit : Float) (a : List �
     where
       rooms : (n : ℕ) → ValueRoom B E ts n a a' → ValueRoom B E ts n a b' → a' ≡ b'
       rooms zero x y = x ∙ sym y
-      rooms (suc n) x y = built-unique B E (getD ts n 0) a a' b' x y
+      rooms (suc n) x y = built-unique B E (builtAt ts n) a a' b' x y

@@ -1,4 +1,4 @@
--- C-15: "A placing's weight is the sum of its hits' units, counted edge by edge", and the winner of a list, in terms of placings alone. No table occurs.
+-- C-15: the weight of a placing, counted edge by edge, and the winner of a list, in terms of placings alone. No table occurs.
 use mathlib.Core.Path.{_≡_}
 use mathlib.Core.List.{List}
 use Prim.Native.Nat.{ℕ, _+_, _≤_}
@@ -13,7 +13,7 @@ use Rattle.demand.specs.Demand.{OnBoard}
 abbrev pub weightAt : Board → EdgeList → List ℕ → Placing → ℕ
 weightAt B E ts P = fold _+_ 0 (size E) (hit B E (getD ts (P .listed) 0) (P .row) (P .col)) (unitAt E)
 
--- "The winner of a list is the placing, over all list positions and all origins, with most hits, then most weight, then the earliest list position, then row, then column."
+-- the winner of a list: the placing, over all list positions and all origins, with most hits, then most weight, then the earliest list position, then row, then column
 pub record IsWinner (B : Board) (E : EdgeList) (ts : List ℕ) (P : Placing) : Type 0 where
   pub on-board : OnBoard B ts P
   pub most-hits : (Q : Placing) → OnBoard B ts Q → hitsAt B E ts Q ≤ hitsAt B E ts P

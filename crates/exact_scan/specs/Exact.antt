@@ -1,6 +1,5 @@
--- C-15, one list: "The winner of a list is the placing, over all list positions and all origins, with most hits, then most weight, then the earliest list position, then row, then column."
--- Here the scan that finds it, over the tables of values of each list position.
-use mathlib.Core.Bool.{true, false, cond, _&&_}
+-- C-15, one list: the scan over the tables of values of each list position. It keeps the placing of most hits, then most weight, then the earliest list position, then row, then column.
+use mathlib.Core.Bool.{cond, _&&_}
 use mathlib.Core.Path.{_≡_}
 use mathlib.Core.List.{List}
 use Prim.Native.Nat.{ℕ, zero, suc, _+_, _*_, _/_, _%_, _≤_, _<_}
@@ -26,6 +25,7 @@ pub record ValueTables : Type 0 where
   pub hs : List ℕ
   pub vs : List ℕ
 
+-- the two together
 abbrev pub valueTables : List ℕ → List ℕ → ValueTables
 valueTables hs vs = record { hs = hs; vs = vs }
 
@@ -47,6 +47,7 @@ unfoldable pub exactOrigin : ℕ → ℕ → ValueTables → ℕ
 unfolding valueOf
 exactOrigin L M X = firstOrigin L M (X .hs) (X .vs) (valueOf (X .hs)) (valueOf (X .vs))
 
+-- the summary of the transform t with the tables X
 unfoldable pub exactSummary : ℕ → ℕ → ℕ → ValueTables → TransformSummary
 unfolding summaryBy exactOrigin valueOf
 exactSummary L M t X = summaryBy L M t (byHits (valueOf (X .hs))) (byHits (valueOf (X .vs))) (exactOrigin L M X)
@@ -60,11 +61,12 @@ unfoldable pub exactCandidate : ℕ → ℕ → ℕ → ValueTables → ExactCan
 unfolding candidateAt exactOrigin valueOf
 exactCandidate L M listed X = candidateAt M listed (bestValue (valueOf (X .hs)) (valueOf (X .vs))) (exactOrigin L M X)
 
--- "then the earliest list position": what is kept stays, unless the candidate has a greater value or is the first
+-- the earliest list position wins a tie: what is kept stays, unless the candidate has a greater value or is the first
 unfoldable pub taken : ExactCandidate → ExactCandidate → ExactCandidate
 taken kept c = cond (ltb 0 (c .placing .listed) && leb (c .value) (kept .value)) kept c
 
 -- ---- the scan
+-- of no transforms
 unfoldable pub emptyExact : ExactScan
 unfolding emptyScan
 emptyExact = record { positions = emptyScan; best = record { value = 0; placing = record { listed = 0; row = 0; col = 0 } } }

@@ -1,10 +1,9 @@
 -- Laws of the exact scan: what is known of a transform's two tables of values, how large its keys are, what is kept, and the fold put together.
-use mathlib.Core.Path.{_≡_, refl}
-use mathlib.Core.Bool.{Bool, true, false, cond, _&&_}
+use mathlib.Core.Path.{_≡_}
+use mathlib.Core.Bool.{true, false}
 use mathlib.Core.List.{List}
 use Prim.Native.Nat.{ℕ, _+_, _*_, _≤_, _<_}
 use native.Mathlib.Omega.{arith}
-use lib.Dec.{ltb, leb}
 use lib.ListN.{length}
 use lib.Ieee.{Float}
 use borrow.Author.Tests.{lt-ltb, le-ltb, le-leb, lt-leb}
@@ -21,8 +20,8 @@ use Rattle.scan.specs.declared.scan.TransformSummary.{TransformSummary}
 use Rattle.scan.specs.declared.scan.HardScan.{HardScan}
 use Rattle.scan.specs.declared.scan.RunnerUp.{RunnerUp}
 use Rattle.scan.specs.declared.scan.Kept.the-variants.{Nobody}
-use Rattle.folding.specs.Transform.{BestOk, bestHits, runnerUpWithin, summaryOf}
-use Rattle.folding.specs.TransformLaws.{SaidOk, within-small}
+use Rattle.folding.specs.Transform.{BestOk, bestHits, runnerUpWithin, competitorOf, summaryOf}
+use Rattle.folding.specs.TransformLaws.{within-small}
 use Rattle.folding.specs.declared.transform.Ranked.{Ranked}
 use Rattle.values.specs.Values.{hitsOf, weightOf, vAt, nAt, valueBest, valueSecond, tiedValue, heldHits, valueOf, firstOrigin, bestValue, byHits}
 use Rattle.values.specs.ValuesLaws.{PairTop, cell-in, cell-top, second-inside}
@@ -102,17 +101,16 @@ module _ (L M : ℕ) (p : Period L) (q : Period M) (X : ValueTables) (ok : Value
   }
 
   -- ---- the fold from its parts
-  pub folded : (t : ℕ) (scan : ExactScan) (a b : ValueMax) (first : ℕ) (s : TransformSummary) (c best : ExactCandidate) (positions : HardScan)
+  pub folded : (t : ℕ) (scan : ExactScan) (a b : ValueMax) (first : ℕ) (s : TransformSummary) (best : ExactCandidate) (positions : HardScan)
       → a ≡ valueOf hs
       → b ≡ valueOf vs
       → first ≡ firstOrigin L M hs vs a b
       → s ≡ summaryBy L M t (byHits a) (byHits b) first
-      → c ≡ candidateAt M (scan .positions .count) (bestValue a b) first
-      → best ≡ taken (scan .best) c
+      → best ≡ taken (scan .best) (record { value = bestValue a b; placing = record { listed = scan .positions .count; row = s .best .row; col = s .best .col } })
       → positions ≡ pushed (scan .positions) s Nobody
       → record { positions = positions; best = best } ≡ foldExact L M t X scan
-  unfolding foldExact exactSummary exactCandidate exactOrigin
-  folded t scan a b first s c best positions ea eb ef es ec ek ep = rw (ep, ek, ec, es, ef, ea, eb)
+  unfolding foldExact exactSummary exactCandidate exactOrigin candidateAt summaryBy summaryOf competitorOf
+  folded t scan a b first s best positions ea eb ef es ek ep = rw (ep, ek, es, ef, ea, eb)
 
 -- ---- the summary by hits, from its parts
 module _ (L M : ℕ) (p : Period L) (q : Period M) (a b x y : LexMax) (first : ℕ) (within : Ranked) (ok : BestOk L M a b) (small : first ≤ 2250000) (ex : x ≡ a) (ey : y ≡ b) where

@@ -1,16 +1,16 @@
 -- What the exact scan keeps: of all placings the one of greatest value, of those the one at the earliest list position, and there the row-major first. And its runner-up: the most hits that another
 -- placing has.
-use mathlib.Core.Path.{_≡_, refl, sym, ap, ap₂, subst, _∙_}
-use mathlib.Core.Bool.{Bool, true, false}
+use mathlib.Core.Path.{_≡_, refl, sym, ap, subst, _∙_}
+use mathlib.Core.Bool.{Bool, true}
 use mathlib.Core.List.{List}
-use mathlib.Core.Logic.{_⊎_, inl, inr, ⊎-elim}
+use mathlib.Core.Logic.{_⊎_, ⊎-elim}
 use Prim.Native.Nat.{ℕ, zero, suc, _+_, _*_, _/_, _%_, _≤_, _<_}
 use native.Mathlib.Nat.{mod-lt, div-lt-iff-lt-mul, div-add-mod'}
 use native.Mathlib.Omega.{arith}
 use lib.ListN.{length, getD}
 use lib.Ieee.{Float}
 use Rattle.laws.specs.Tests.{compared, not-so, split}
-use Rattle.laws.specs.Words.{Grid, origins}
+use Rattle.laws.specs.Words.{origins}
 use Rattle.laws.specs.GridLaws.{Laws}
 use Rattle.best.specs.CellTables.{Period}
 use Rattle.grid.specs.BoardGrid.{grid}
@@ -24,7 +24,7 @@ use Rattle.hard.specs.OneList.{keyAt, originNumber}
 use Rattle.hard.specs.Placings.{MostOther}
 use Rattle.hard.specs.SummedLaws.{Summed, Said, BestPair, summed-by}
 use Rattle.hard.specs.RunnerUpLaws.{runner-up-inside, others-bounded, other-attains, runner-up-named, own-origin}
-use Rattle.values.specs.Values.{hitsOf, weightOf, vAt, nAt, valueBest, valueOf, pairValue, bestValue, byHits}
+use Rattle.values.specs.Values.{hitsOf, weightOf, vAt, nAt, valueBest, valueOf, pairValue, byHits}
 use Rattle.values.specs.ValuesLaws.{more-hits, best-top, cell-in, second-inside, second-other, second-most}
 use Rattle.values.specs.OriginLaws.{first-under, first-is, first-has, greatest, first-least}
 use Rattle.exact_scan.specs.Exact.{ValueTables, ValuesOk, summaryBy, exactOrigin, exactSummary, candidateAt, exactCandidate, taken, emptyExact, foldExact, exactScanned}

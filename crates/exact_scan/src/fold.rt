@@ -4,7 +4,7 @@ ghost use Prim.Native.Nat.{_≤_, _<_};
 ghost use Rattle.best.specs.CellTables.{Period};
 ghost use Rattle.values.specs.Values.{byHits};
 ghost use Rattle.folding.specs.Transform.{BestOk};
-ghost use Rattle.exact_scan.specs.Exact.{valueTables, summaryBy, candidateAt, taken, emptyExact, foldExact, ExactReady};
+ghost use Rattle.exact_scan.specs.Exact.{valueTables, summaryBy, taken, emptyExact, foldExact, ExactReady};
 use crate::kept::ExactCandidate;
 use crate::kept::ExactScan;
 use board::edge::Placing;
@@ -54,18 +54,6 @@ fn summarize(
     summary(best, within, periods.v, transform)
 }
 
-// The origin with a key, at a list position, with its value.
-fn candidate(value: u64, key: usize, period: usize, listed: usize) -> ExactCandidate
-    requires { ⌜ Period period × (key ≤ 2250000) ⌝ }
-    ensures { λ r. ⌜ r ≡ candidateAt period listed value key ⌝ }
-{
-    let columns = 3 * period;
-    let row = (key / columns) as u32;
-    let col = (key % columns) as u32;
-    let placing = Placing { listed, row, col };
-    ExactCandidate { value, placing }
-}
-
 // What is kept after the candidate of the list position c.placing.listed: the first one, then one of strictly greater value.
 fn take(kept: ExactCandidate, c: ExactCandidate) -> ExactCandidate
     ensures { λ r. ⌜ r ≡ taken kept c ⌝ }
@@ -96,7 +84,13 @@ pub fn fold_values<'a>(
     let value = a.top + b.top;
     let s = summarize(a, b, key, periods, transform);
     let old = scan.positions;
-    let c = candidate(value, key, periods.v, old.count);
+    let origin = s.best;
+    let placing = Placing {
+        listed: old.count,
+        row: origin.row,
+        col: origin.col,
+    };
+    let c = ExactCandidate { value, placing };
     let best = take(scan.best, c);
     let nobody = Kept::Nobody;
     let positions = push(old, s, nobody);

@@ -1,7 +1,7 @@
 -- C-15, tables of values: "The winner has most hits, then most weight". A value is hits · 2^38 + weight, and no weight reaches 2^38, so the greater value has more hits, or as many and more weight.
 use mathlib.Core.Bool.{Bool}
 use mathlib.Core.List.{List}
-use Prim.Native.Nat.{ℕ, _+_, _*_, _/_, _%_, _^_}
+use Prim.Native.Nat.{ℕ, _+_, _/_, _%_}
 use lib.Dec.{eqb}
 use lib.ListN.{getD, length}
 use Rattle.laws.specs.Words.{count, firstBest, above, second, Grid, origins, zeroF}

@@ -1,11 +1,11 @@
-use mathlib.Core.Path.{_≡_, sym, _∙_}
+use mathlib.Core.Path.{sym, _∙_}
 use mathlib.Core.List.{List}
 use Prim.Native.Nat.{ℕ}
 use native.Mathlib.Omega.{arith}
 use denote.Ref.{now}
 use borrow.Author.Needs.{needs}
 use Rattle.board.specs.Hits.{EdgeList, Board, edges, tables}
-use Rattle.exact.specs.SelectLaws.{list-units, exact-refused, exact-finished, scan-sound, value-room-beyond}
+use Rattle.exact.specs.SelectLaws.{list-units, exact-refused, exact-finished, scan-sound}
 use Rattle.exact.proofs.select.select_exact.Statement.{statement}
 use Rattle.exact.proofs.select.select_exact.Tie as tie
 

@@ -35,9 +35,6 @@ add-value c = record { fits = omega (arith, told (c .before .before) .value) }
 summarize-requires : tie.Need-summarize-requires
 summarize-requires c κs = let o = c .before .before in (st o .pre .0 .0, st o .pre .0 .1, told o .best, told o .small)
 
-candidate-requires : tie.Need-candidate-requires
-candidate-requires c κs = let o = c .before .before .before .before in (st o .pre .0 .1, told o .small)
-
 take-requires : tie.Need-take-requires
 take-requires c κs = search needs
 
@@ -48,7 +45,7 @@ returns : tie.Need-returns
 returns c =
     let o = c .before .before .before .before .before .before .before in
     let s = st o in
-    folded (s .args .periods .h) (s .args .periods .v) (s .pre .0 .0) (s .pre .0 .1) (X o) (s .pre .0 .2) (s .args .transform) (s .args .scan) (o .before .before .value-max .result) (o .before .value-max2 .result) (o .first-origin .result) (c .before .before .before .before .summarize .result) (c .before .before .candidate .result) (c .before .take .result) (c .push .result) (o .before .before .value-max .ensures) (o .before .value-max2 .ensures) (o .first-origin .ensures) (c .before .before .before .before .summarize .ensures) (c .before .before .candidate .ensures) (c .before .take .ensures) (c .push .ensures)
+    folded (s .args .periods .h) (s .args .periods .v) (s .pre .0 .0) (s .pre .0 .1) (X o) (s .pre .0 .2) (s .args .transform) (s .args .scan) (o .before .before .value-max .result) (o .before .value-max2 .result) (o .first-origin .result) (c .before .before .before .before .summarize .result) (c .before .take .result) (c .push .result) (o .before .before .value-max .ensures) (o .before .value-max2 .ensures) (o .first-origin .ensures) (c .before .before .before .before .summarize .ensures) (c .before .take .ensures) (c .push .ensures)
 
 pub fold-values-spec : {M : Type 1} → statement M
 fold-values-spec =
@@ -59,7 +56,6 @@ fold-values-spec =
     first-origin-requires
     add-value
     summarize-requires
-    candidate-requires
     take-requires
     push-requires
     returns)

@@ -1,4 +1,4 @@
-use mathlib.Core.Path.{_≡_, _∙_}
+use mathlib.Core.Path.{_∙_}
 use borrow.Author.Needs.{needs}
 use Rattle.values.specs.ValuesLaws.{sole-pair}
 use Rattle.values.proofs.origin.first_origin.Statement.{statement}

@@ -34,7 +34,7 @@ same-or-not P Q = go (eqb (P .listed) (Q .listed)) (eqb (P .row) (Q .row)) (eqb 
     go true true false e f g = inr (λ s. eqb-false (P .col) (Q .col) g (s .2))
 
 -- no two placings of one list lead
-leads-once : (B : Board) (E : EdgeList) (ts : List ℕ) (limit : Float) (P Q : Placing) → Leads B E ts limit P → Leads B E ts limit Q → Same P Q
+pub leads-once : (B : Board) (E : EdgeList) (ts : List ℕ) (limit : Float) (P Q : Placing) → Leads B E ts limit P → Leads B E ts limit Q → Same P Q
 leads-once B E ts limit P Q l m =
     ⊎-elim (λ s. s) (λ n. absurd (omega (arith, l .ahead Q (m .on-board) (λ s. n (sym (s .0), sym (s .1), sym (s .2))), m .ahead P (l .on-board) n))) (same-or-not P Q)
 

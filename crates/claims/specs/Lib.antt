@@ -9,3 +9,4 @@ pub mod NumbersToTry
 pub mod FoundLaws
 pub mod Ranges
 pub mod Witness
+pub mod Slides

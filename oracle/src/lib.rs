@@ -94,6 +94,22 @@ pub fn votes(edges: &[Edge]) -> Vec<Edge> {
     m0::votes(edges)
 }
 
+/// A file of calls with their answers, each with the number of its maps: by maps, so that each pair of tables stands once.
+pub fn write(mut made: Vec<(usize, file::Call, file::Words)>, path: &str) -> std::io::Result<()> {
+    made.sort_by_key(|m| m.0);
+    let mut file = file::File::default();
+    let mut before = usize::MAX;
+    for (map, call, answer) in made {
+        if map != before {
+            let (h, v) = patterns(map);
+            file.tables(&h, &v);
+            before = map;
+        }
+        file.call(&call, &answer);
+    }
+    file.write(path)
+}
+
 /// The two pattern tables, horizontal then vertical.
 pub fn patterns(map: usize) -> (Vec<u8>, Vec<u8>) {
     with_maps!(map, m => m::patterns())

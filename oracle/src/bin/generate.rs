@@ -4,7 +4,7 @@
 //! (what the stored sample has none of; one fresh case in twenty is such a one).
 
 use oracle::cases::{self, Pairs};
-use oracle::file::{self, Call, File, Words};
+use oracle::file::{self, Call, Words};
 use oracle::{Case, Random, Square};
 
 fn around_1024(r: &mut Random, pairs: &[Pairs]) -> Option<Case> {
@@ -120,16 +120,5 @@ fn main() {
         let at = cases::placing(&mut r);
         made.push(answered(kind, &case, &at));
     }
-    made.sort_by_key(|m| m.0);
-    let mut file = File::default();
-    let mut before = usize::MAX;
-    for (map, call, answer) in made {
-        if map != before {
-            let (h, v) = oracle::patterns(map);
-            file.tables(&h, &v);
-            before = map;
-        }
-        file.call(&call, &answer);
-    }
-    file.write(&words[4]).expect("the file");
+    oracle::write(made, &words[4]).expect("the file");
 }

@@ -11,14 +11,15 @@ use refusals::Admission;
 use refusals::ListName;
 use refusals::first_of;
 
-// The smallest length of a pole's horizontal table.
-const SMALLEST: usize = 4;
-
 // The length by which room is asked for: that of the horizontal table, or the smallest where the table may not have its own.
 pub fn asked_length(l: usize) -> usize
     ensures { λ r. ⌜ (r ≡ askedLength l) × (r ≤ 500) ⌝ }
 {
-    if ranges::pole_length(l) { l } else { SMALLEST }
+    if ranges::pole_length(l) {
+        l
+    } else {
+        ranges::LEAST_LENGTH
+    }
 }
 
 // Whether the room of a hard call with l horizontal patterns is too short.

@@ -11,7 +11,7 @@ const LAST: u8 = 7;
 const FLAT_LENGTH: usize = 167;
 
 // The least and the greatest length of a pole's horizontal table.
-const LEAST_LENGTH: usize = 4;
+pub const LEAST_LENGTH: usize = 4;
 
 const GREATEST_LENGTH: usize = 500;
 

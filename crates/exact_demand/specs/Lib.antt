@@ -1,0 +1,4 @@
+pub mod ExactDemand
+pub mod ExactDomain
+pub mod ExactSelections
+pub mod ExactEnds

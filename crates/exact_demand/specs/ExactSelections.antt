@@ -30,6 +30,11 @@ use Rattle.exact.specs.Winner.{weightAt, IsWinner}
 use Rattle.exact.specs.ExactTheorems as one-list
 use Rattle.exact_core.specs.ExactCore.{totalUnits}
 
+-- a placing that leads is the winner, whatever the weights
+pub leads-wins : (B : Board) (E : EdgeList) (ts : List ℕ) (limit : Float) (Q P : Placing) → Leads B E ts limit Q → IsWinner B E ts P → Same Q P
+leads-wins B E ts limit Q P l w =
+    ⊎-elim (λ s. s) (λ n. absurd (omega (arith, l .ahead P (w .on-board) (λ s. n (sym (s .0), sym (s .1), sym (s .2))), w .most-hits Q (l .on-board)))) (same-or-not Q P)
+
 -- a list with units is not without confidence
 has-units : (E : EdgeList) → 0 < totalUnits E → noUnits E ≡ false
 unfolding noUnits
@@ -93,11 +98,9 @@ module _ (B : Board) (E : EdgeList) (ts : List ℕ) (limit : Float) (board : Boa
 
     -- where it does not, no placing leads
     pub gate-none : passed (size E) (w .hits) (r .hits) ≡ false → NoneLeads B E ts limit
-    gate-none g Q l = ⊎-elim level (λ n. omega (arith, l .ahead P (wins .on-board) (λ s. n (sym (s .0), sym (s .1), sym (s .2))), wins .most-hits Q (l .on-board))) (same-or-not Q P)
-      where
-        level : Same Q P → ⊥
-        level s =
-            let R = runner-up .one in
-            let h : hitsAt B E ts Q ≡ hitsAt B E ts P = λ i. hits B E (getD ts (s .0 i) 0) (s .1 i) (s .2 i) in
-            let a = l .ahead R (runner-up .runs-up .on-board) (λ t. runner-up .runs-up .other (t .0 ∙ s .0, t .1 ∙ s .1, t .2 ∙ s .2)) in
-            omega (arith, a, h, hits-told, runner-up .with-hits, ltb-false (size E - w .hits) (w .hits - r .hits) g)
+    gate-none g Q l =
+        let s = leads-wins B E ts limit Q P l wins in
+        let R = runner-up .one in
+        let h : hitsAt B E ts Q ≡ hitsAt B E ts P = λ i. hits B E (getD ts (s .0 i) 0) (s .1 i) (s .2 i) in
+        let a = l .ahead R (runner-up .runs-up .on-board) (λ t. runner-up .runs-up .other (t .0 ∙ s .0, t .1 ∙ s .1, t .2 ∙ s .2)) in
+        omega (arith, a, h, hits-told, runner-up .with-hits, ltb-false (size E - w .hits) (w .hits - r .hits) g)

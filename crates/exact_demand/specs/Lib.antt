@@ -2,3 +2,5 @@ pub mod ExactDemand
 pub mod ExactDomain
 pub mod ExactSelections
 pub mod ExactEnds
+pub mod ExactTheorems
+pub mod ExactRange

@@ -25,13 +25,16 @@ use Rattle.exact_demand.specs.ExactDemand.{ExactWins, ExactAnswered}
 use Rattle.exact_demand.specs.ExactSelections.{leads-wins}
 use Rattle.exact_demand.specs.ExactEnds.{exact-answers, BothWin, ExactEnd, no-logical-units, none-within-limit, no-physical-units, winners-differ, none-leads, found, exact-ends}
 
--- a placing that leads on the logical list and wins on the physical one: the two winners have one transform and origin
-pub agreeing : (call : HardCall) (b : BothWin call) (Q : Placing) → Leads (call .board) (call .logical) (call .transforms) (call .error-limit) Q → ExactWins (call .board) (call .physical) (call .transforms) Q
+-- where a placing wins on both lists, the two winners have one transform and origin
+pub agreeing : (call : HardCall) (b : BothWin call) (Q : Placing) → ExactWins (call .board) (call .logical) (call .transforms) Q → ExactWins (call .board) (call .physical) (call .transforms) Q
     → SameSquare (call .transforms) (b .physical) (b .logical)
-agreeing call b Q l x =
-    let p = winner-once (call .board) (call .physical) (call .transforms) (b .physical) (x .winner) (b .physical-wins) (x .wins) in
-    let q = leads-wins (call .board) (call .logical) (call .transforms) (call .error-limit) Q (b .logical) l (b .logical-wins) in
-    (ap (λ (i : ℕ). getD (call .transforms) i 0) (p .0) ∙ x .square .0 ∙ ap (λ (i : ℕ). getD (call .transforms) i 0) (q .0), p .1 ∙ x .square .1 ∙ q .1, p .2 ∙ x .square .2 ∙ q .2)
+agreeing call b Q x y =
+    let p = winner-once (call .board) (call .physical) (call .transforms) (b .physical) (y .winner) (b .physical-wins) (y .wins) in
+    let q = winner-once (call .board) (call .logical) (call .transforms) (x .winner) (b .logical) (x .wins) (b .logical-wins) in (
+      ap (λ (i : ℕ). getD (call .transforms) i 0) (p .0) ∙ y .square .0 ∙ sym (x .square .0) ∙ ap (λ (i : ℕ). getD (call .transforms) i 0) (q .0),
+      p .1 ∙ y .square .1 ∙ sym (x .square .1) ∙ q .1,
+      p .2 ∙ y .square .2 ∙ sym (x .square .2) ∙ q .2,
+    )
 
 module _ (call : HardCall) (m n : ℕ) (A : HardAccepted call m n) where
   -- FOUND MEANS TRUE, and the logical list has units
@@ -51,11 +54,17 @@ module _ (call : HardCall) (m n : ℕ) (A : HardAccepted call m n) where
       → ExactWins (call .board) (call .physical) (call .transforms) Q → (d : ExactDecoded) × (exactCore call ≡ Found d)
   exact-complete u v Q l x = go (exactCore call) (exact-ends call m n A) refl
     where
+      -- who leads wins
+      leader : BothWin call → ExactWins (call .board) (call .logical) (call .transforms) Q
+      leader b =
+          let s = leads-wins (call .board) (call .logical) (call .transforms) (call .error-limit) Q (b .logical) l (b .logical-wins) in
+          record { winner = b .logical; wins = b .logical-wins; square = (ap (λ (i : ℕ). getD (call .transforms) i 0) (sym (s .0)), sym (s .1), sym (s .2)) }
+
       go : (a : ExactAnswer) → ExactEnd call a → exactCore call ≡ a → (d : ExactDecoded) × (exactCore call ≡ Found d)
       go a (no-logical-units z) q = absurd (omega (arith, u, z))
       go a (none-within-limit k h) q = clash (h Q (l .on-board)) (l .within)
       go a (no-physical-units k P h z) q = absurd (omega (arith, v, z))
-      go a (winners-differ b h) q = absurd (h (agreeing call b Q l x))
+      go a (winners-differ b h) q = absurd (h (agreeing call b Q (leader b) x))
       go a (none-leads b h k) q = absurd (k Q l)
       go a (found b h d y) q = (d, q)
 

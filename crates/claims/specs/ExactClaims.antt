@@ -2,10 +2,8 @@
 -- modes agree.
 use mathlib.Core.Path.{_≡_, refl, sym, ap, ap₂, subst, _∙_}
 use mathlib.Core.List.{List}
-use mathlib.Core.Logic.{_⊎_, inl, inr}
 use Prim.Native.Nat.{ℕ, _≤_, _<_}
-use native.Mathlib.Omega.{arith}
-use lib.ListN.{getD, length}
+use lib.ListN.{length}
 use Rattle.board.specs.declared.edge.Placing.{Placing}
 use Rattle.board.specs.Hits.{EdgeList, Board}
 use Rattle.board.specs.Domain.{BoardOk, ListOk}
@@ -15,7 +13,7 @@ use Rattle.refusals.specs.declared.Admission.{Admission}
 use Rattle.refusals.specs.declared.Admission.the-variants as admission
 use Rattle.room.specs.Room.{tablesRoom, tablesFor, pole-rooms}
 use Rattle.admission.specs.Calls.{HardCall, HardRoom}
-use Rattle.admission.specs.Refusals.{hardChecked}
+use Rattle.admission.specs.Refusals.{hardAdmission, hardChecked}
 use Rattle.admission.specs.PlaceTheorems.{hard-place}
 use Rattle.admission.specs.Document01Laws.{hard-document-01}
 use Rattle.admission.specs.Accepted.{HardAccepted, hard-accepted}
@@ -26,7 +24,6 @@ use Rattle.verdict.specs.Verdict.{whenAccepted}
 use Rattle.verdict.specs.Answers.{found-only}
 use Rattle.demand.specs.Demand.{Same, Leads, Names}
 use Rattle.demand.specs.DemandLaws.{leader-named}
-use Rattle.hard_core.specs.Hard.{hardCore}
 use Rattle.hard_core.specs.HardTheorems.{hard-sound}
 use Rattle.exact.specs.Winner.{IsWinner}
 use Rattle.exact.specs.ExactTheorems as one-list
@@ -179,7 +176,7 @@ module _ (call : HardCall) (before after : ExactRoom) (answer : ExactAnswer) (do
     modes-agree-always p q = go (exactChecked call before) refl
       where
         alike : hardChecked call lent ≡ exactChecked call before
-        alike = ap₂ (Rattle.admission.specs.Refusals.hardAdmission call) p q
+        alike = ap₂ (hardAdmission call) p q
 
         go : (a : Admission) → exactChecked call before ≡ a → ModesAgree answer-hard answer
         go admission.Accepted h = modes-agree (claims.hard-accepts call lent left answer-hard gave .0 (alike ∙ h)) (exact-accepts .0 h)

@@ -1,7 +1,7 @@
 -- An accepted exact call is found when it meets all conditions of `exactLate` (Late.antt), and else refused by the number of the first that it does not meet.
-use mathlib.Core.Path.{_≡_, refl}
+use mathlib.Core.Path.{refl}
 use mathlib.Core.Logic.{inl, inr}
-use Prim.Native.Nat.{ℕ, _<_}
+use Prim.Native.Nat.{ℕ}
 use native.Mathlib.Omega.{arith}
 use Rattle.board.specs.declared.edge.Placing.{Placing}
 use Rattle.refusals.specs.Numbers.{numbered}

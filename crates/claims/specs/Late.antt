@@ -36,8 +36,8 @@ softLate call =
 -- C-15: "10 here when a list's unit sum is 0", "each with its own physical winner". The winners are those by hits, weight, list position, row and column
 unfoldable pub exactLate : HardCall → List Condition
 exactLate call =
-    (10, 0 < totalUnits (call .logical))
-    ∷ (11, (P : Placing) × WithinLimit (call .board) (call .logical) (call .transforms) (call .error-limit) P)
-    ∷ (10, 0 < totalUnits (call .physical))
-    ∷ (12, (P : Placing) × ExactWins (call .board) (call .logical) (call .transforms) P × ExactWins (call .board) (call .physical) (call .transforms) P)
-    ∷ (13, (P : Placing) × Leads (call .board) (call .logical) (call .transforms) (call .error-limit) P) ∷ []
+    let B = call .board in
+    let ts = call .transforms in
+    (10, 0 < totalUnits (call .logical)) ∷ (11, (P : Placing) × WithinLimit B (call .logical) ts (call .error-limit) P)
+    ∷ (10, 0 < totalUnits (call .physical)) ∷ (12, (P : Placing) × ExactWins B (call .logical) ts P × ExactWins B (call .physical) ts P)
+    ∷ (13, (P : Placing) × Leads B (call .logical) ts (call .error-limit) P) ∷ []

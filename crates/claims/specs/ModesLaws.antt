@@ -1,6 +1,5 @@
 -- THE TWO HARD MODES ON ONE ACCEPTED CALL: by who leads, since no two placings of a list do, and by how each ends. No table occurs.
 use mathlib.Core.Path.{_≡_, refl, sym, ap₂, subst, _∙_}
-use mathlib.Core.Bool.{false}
 use mathlib.Core.List.{List}
 use mathlib.Core.Logic.{inl, inr}
 use Prim.Native.Nat.{ℕ, _≤_}

@@ -1,5 +1,5 @@
 -- HOW AN ACCEPTED EXACT CALL ENDS, in words of placings and lists and in document 01's order: "10 logical, 11, 10 physical, 12, 13".
-use mathlib.Core.Path.{_≡_, refl, sym, ap, subst, _∙_}
+use mathlib.Core.Path.{_≡_, refl, sym, ap}
 use mathlib.Core.Bool.{Bool, true, false, cond}
 use mathlib.Core.Logic.{_⊎_, inl, inr}
 use Prim.Native.Nat.{ℕ, _-_, _<_}
@@ -11,7 +11,6 @@ use Rattle.laws.specs.Words.{oneF}
 use Rattle.board.specs.declared.edge.Placing.{Placing}
 use Rattle.board.specs.Hits.{size, hitsAt}
 use Rattle.refusals.specs.declared.Refusal.{Refusal}
-use Rattle.refusals.specs.Numbers.{numbered}
 use Rattle.refusals.specs.Numbers as why
 use Rattle.admission.specs.Calls.{HardCall}
 use Rattle.admission.specs.Accepted.{HardAccepted}

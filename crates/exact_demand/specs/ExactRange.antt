@@ -1,14 +1,12 @@
 -- A found exact answer is in range.
-use mathlib.Core.Path.{_≡_, sym, ap, subst, _∙_}
+use mathlib.Core.Path.{_≡_, sym, subst}
 use Prim.Native.Nat.{ℕ, _+_, _-_, _^_, _≤_, _<_}
 use native.Mathlib.Nat.{le-refl}
 use native.Mathlib.Omega.{arith}
 use lib.ListN.{length, getD}
-use lib.Ieee.{Float}
 use Rattle.laws.specs.Words.{Finite, fold, all}
 use Rattle.laws.specs.Fold.{sum-some}
 use Rattle.laws.specs.WithinLaws.{within-finite}
-use Rattle.board.specs.declared.edge.Placing.{Placing}
 use Rattle.board.specs.Hits.{EdgeList, Board, size, hit, hitsAt}
 use Rattle.board.specs.HitsLaws.{hits-le}
 use Rattle.board.specs.Domain.{ListOk}
@@ -20,7 +18,7 @@ use Rattle.units.specs.Units.{unitAt}
 use Rattle.demand.specs.FoundRange.{WholesInRange, square-in-range}
 use Rattle.exact.specs.Select.{unitsTo}
 use Rattle.exact.specs.SelectLaws.{list-units, units-small}
-use Rattle.exact.specs.Winner.{weightOfSquare, weightAt}
+use Rattle.exact.specs.Winner.{weightOfSquare}
 use Rattle.exact_answer.specs.declared.ExactDecoded.{ExactDecoded}
 use Rattle.exact_answer.specs.declared.ExactAnswer.the-variants.{Found}
 use Rattle.exact_core.specs.ExactCore.{totalUnits, exactCore}

@@ -19,7 +19,7 @@ use Rattle.figures.specs.Gate.{passed}
 use Rattle.scan.specs.Scan.{overLimit}
 use Rattle.scan.specs.declared.scan.RunnerUp.{RunnerUp}
 use Rattle.hard.specs.RateLaws.{fewer-over}
-use Rattle.demand.specs.Demand.{OnBoard, Same, WithinLimit, Leads, RunnerUpExists}
+use Rattle.demand.specs.Demand.{Same, Leads, RunnerUpExists}
 use Rattle.demand.specs.DemandLaws.{same-or-not}
 use Rattle.demand.specs.OneSelection.{NoneWithinLimit, NoneLeads}
 use Rattle.exact_scan.specs.declared.kept.ExactWinner.{ExactWinner}

@@ -1,7 +1,7 @@
 -- THE PROMISES OF THE EXACT MODE ARE KEPT: each record of ExactPromises.antt follows from the contract of `decode_exact` (`ExactGave ..`), which has no `requires`, for all inputs; and the two hard
 -- modes agree.
 use mathlib.Core.Path.{_≡_, refl, sym, ap, ap₂, subst, _∙_}
-use mathlib.Core.List.{List}
+use mathlib.Core.List.{List, _++_}
 use Prim.Native.Nat.{ℕ, _≤_, _<_}
 use lib.ListN.{length}
 use Rattle.board.specs.declared.edge.Placing.{Placing}
@@ -16,6 +16,7 @@ use Rattle.admission.specs.Calls.{HardCall, HardRoom}
 use Rattle.admission.specs.Refusals.{hardAdmission, hardChecked}
 use Rattle.admission.specs.PlaceTheorems.{hard-place}
 use Rattle.admission.specs.Document01Laws.{hard-document-01}
+use Rattle.admission.specs.Conditions.{FirstFails}
 use Rattle.admission.specs.Accepted.{HardAccepted, hard-accepted}
 use Rattle.answer.specs.declared.Decoded.{Decoded}
 use Rattle.answer.specs.declared.Answer.{Answer}
@@ -41,7 +42,7 @@ use Rattle.decode_exact.specs.ExactAnswer.{exactAnswer}
 use Rattle.claims.specs.Late.{exactLate}
 use Rattle.claims.specs.Promises.{Emptied, InHardDomain, HardGave}
 use Rattle.claims.specs.ExactPromises.{OneWinner, ExactPromise, InExactDomain, ExactGave, ExactParticulars, SameFound, ModesAgree, both-refuse}
-use Rattle.claims.specs.DemandsLaws.{demands-met}
+use Rattle.claims.specs.DemandsLaws.{demands-met, refuses-by}
 use Rattle.claims.specs.Claims as claims
 use Rattle.claims.specs.ExactLateLaws.{exact-right}
 use Rattle.claims.specs.ModesLaws.{found-alike, hard-rate, cores-agree}
@@ -148,6 +149,10 @@ module _ (call : HardCall) (before after : ExactRoom) (answer : ExactAnswer) (do
     names-winner = λ d e. let w = exact-winner d e in (w .0, w .1, w .3);
   }
 
+  -- each number exactly when
+  pub exact-refused-exactly : (n : ℕ) → FirstFails (exactEarly call before ++ exactLate call) n → (refusal : Refusal) × (answer ≡ Refused refusal) × (refusal .number ≡ n)
+  exact-refused-exactly = refuses-by exact-answers (exact-promise .demands)
+
   pub exact-particulars : ExactParticulars call before after answer
   exact-particulars = record {
     early = record {
@@ -158,6 +163,7 @@ module _ (call : HardCall) (before after : ExactRoom) (answer : ExactAnswer) (do
       refuses = exact-refused-early;
     };
     refused-late = exact-refused-late;
+    refused-exactly = exact-refused-exactly;
     answer-in-range = exact-answer-in-range;
     no-influence = exact-no-influence;
     by-the-rules = exact-by-the-rules;

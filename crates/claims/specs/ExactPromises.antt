@@ -7,7 +7,7 @@
 --   answered    what a found answer says (`ExactAnswered`, ExactDemand.antt)
 use mathlib.Core.Path.{_≡_}
 use mathlib.Core.Logic.{_⊎_}
-use mathlib.Core.List.{List}
+use mathlib.Core.List.{List, _++_}
 use Prim.Native.Nat.{ℕ, _≤_, _<_}
 use lib.ListN.{length}
 use Rattle.board.specs.declared.edge.Placing.{Placing}
@@ -15,7 +15,7 @@ use Rattle.board.specs.Hits.{EdgeList, Board}
 use Rattle.refusals.specs.declared.Refusal.{Refusal}
 use Rattle.refusals.specs.declared.Place.the-variants.{Nowhere}
 use Rattle.admission.specs.Calls.{HardCall}
-use Rattle.admission.specs.Conditions.{Condition, AllMet}
+use Rattle.admission.specs.Conditions.{Condition, AllMet, FirstFails}
 use Rattle.admission.specs.PlaceTheorems.{hardCount, hardBad}
 use Rattle.admission.specs.Document01.{hardNumbers01}
 use Rattle.answer.specs.declared.Decoded.{Decoded}
@@ -71,6 +71,8 @@ pub record ExactParticulars (call : HardCall) (before after : ExactRoom) (answer
       (λ refusal. (answer ≡ Refused refusal) × (after .counts ≡ before .counts) × (after .units ≡ before .units))
   -- else it is refused by 10 to 13, if at all, and about no edge
   pub refused-late : InExactDomain call before → (refusal : Refusal) → answer ≡ Refused refusal → (10 ≤ refusal .number) × (refusal .number ≤ 13) × (refusal .place ≡ Nowhere)
+  -- and a call is refused by a number exactly when that is the number of the first condition that it does not meet (the other half is `refused` of its demands)
+  pub refused-exactly : (n : ℕ) → FirstFails (exactEarly call before ++ exactLate call) n → (refusal : Refusal) × (answer ≡ Refused refusal) × (refusal .number ≡ n)
   -- a found answer is in range: its whole numbers, and its error rate is no NaN and no infinity
   pub answer-in-range : (found : ExactDecoded) → answer ≡ Found found → ExactInRange (length (call .board .h)) found
   -- "What the room held before has no influence": the same call with room as long gives the same answer

@@ -8,6 +8,7 @@ pub mod Claims
 pub mod ExactLateLaws
 pub mod ModesLaws
 pub mod ExactClaims
+pub mod ExactNumbers
 pub mod FlatBoard
 pub mod NumbersToTry
 pub mod FoundLaws

@@ -35,16 +35,17 @@ abbrev pub exactEarly : HardCall → ExactRoom → List Condition
 exactEarly call room = exactEarlyBy call (length (room .counts)) (length (room .units))
 
 module _ (call : HardCall) (room : ExactRoom) where
-  -- f32 room as long as the u64 room
+  -- f32 room as long as the u64 room, for hard decode's laws
   abbrev as-long : HardRoom
   as-long = record { counts = room .counts; weights = replicate (length (room .units)) zeroF }
 
-  -- EXACT: accepted exactly when all conditions are met
+  -- with n places of u64 room: accepted exactly when all conditions are met
   abbrev Judged : ℕ → Type 0
   Judged n =
       (hardAdmission call (length (room .counts)) n ≡ Accepted → AllMet (exactEarlyBy call (length (room .counts)) n))
       × (AllMet (exactEarlyBy call (length (room .counts)) n) → hardAdmission call (length (room .counts)) n ≡ Accepted)
 
+  -- EXACT: accepted exactly when all conditions are met
   pub exact-domain : (exactChecked call room ≡ Accepted → AllMet (exactEarly call room)) × (AllMet (exactEarly call room) → exactChecked call room ≡ Accepted)
   unfolding hardEarly exactEarlyBy
   exact-domain = subst Judged (length-replicate (length (room .units)) zeroF) (hard-domain call as-long)

@@ -113,16 +113,18 @@ finished edges limit scan = finishedBy edges limit (scan .positions) (scan .best
 abbrev pub ExactReady : ℕ → ℕ → ValueTables → ExactScan → Type 0
 ExactReady L M X scan = (Period L × Period M × ValuesOk L M X) × (scan .positions .count < 8)
 
--- and what finishing asks: the kept placing, if there is one, stands at one of at most eight positions, with no more hits than edges
+-- ---- what finishing asks: the kept placing stands at one of at most eight positions, with no more hits than edges
 pub record SoundOne (edges : ℕ) (h : HardScan) (c : ExactCandidate) : Type 0 where
   pub few : h .count ≤ 8
   pub listed : c .placing .listed < h .count
   pub hits : hitsOf (c .value) ≤ edges
   pub small : edges ≤ 8192
 
+-- where there is one
 abbrev pub SoundKept : ℕ → HardScan → ExactKept → Type 0
 SoundKept edges h Nobody = Unit {0}
 SoundKept edges h (One c) = SoundOne edges h c
 
+-- of a scan
 abbrev pub SoundExact : ℕ → ExactScan → Type 0
 SoundExact edges scan = SoundKept edges (scan .positions) (scan .best)

@@ -96,7 +96,7 @@ wins-by-hits B E ts limit board list few = record { wins-most = agrees.wins-most
 -- ---- ROOM
 module _ {A : Type 0} (d zero : A) (n : ℕ) (a : Admission) (old : List A) where
   -- "After refusals 1 to 9 the lent room is untouched", nor after 16 and 17
-  left-untouched : (x : Refusal) → a ≡ admission.Refused x → left zero n a old ≡ old
+  pub left-untouched : (x : Refusal) → a ≡ admission.Refused x → left zero n a old ≡ old
   unfolding left
   left-untouched x h = ap (λ (y : Admission). left zero n y old) h
 
@@ -128,7 +128,7 @@ module _ (call : HardCall) (before after : HardRoom) (answer : Answer) (done : H
   )
 
   -- in the domain the answer is the decoder's
-  core : InHardDomain call before → answer ≡ hardCore call
+  pub core : InHardDomain call before → answer ≡ hardCore call
   unfolding hardAnswer
   core domain = done .answer ∙ ap (λ (y : Admission). whenAccepted Refused y (hardCore call)) (hard-accepts .1 domain)
 

@@ -8,7 +8,7 @@ use Rattle.refusals.specs.declared.Refusal.{Refusal}
 use Rattle.refusals.specs.declared.Admission.{Admission}
 use Rattle.refusals.specs.declared.Admission.the-variants as admission
 use Rattle.admission.specs.Conditions.{Condition, AllMet, FirstFails}
-use Rattle.admission.specs.ConditionLaws.{met-or-fails, met-both, met-parts, fails-early, fails-late}
+use Rattle.admission.specs.ConditionLaws.{met-or-fails, fails-once, met-both, met-parts, fails-early, fails-late}
 use Rattle.answer.specs.declared.MatchStats.{MatchStats}
 use Rattle.answer.specs.declared.StatsAnswer.{StatsAnswer}
 use Rattle.answer.specs.declared.StatsAnswer.the-variants as stats
@@ -72,3 +72,12 @@ module _ {Answer Told : Type 0} (refusing : Refusal → Answer) (finding : Told 
 
     pub demands-met : (AllMet early → emptied) → ((told : Told) → answer ≡ finding told → says told) → Demands refusing finding early late as-it-was emptied says answer
     demands-met zero says-so = record { refused = refused; untouched = untouched; room-zero = zero; found = λ told e. (all-met told e, says-so told e); finds = finds }
+
+-- AND A CALL IS REFUSED BY THE NUMBER OF THE CONDITION THAT FAILS FIRST: the demands say it of a refusal, so with them it is so exactly when
+pub refuses-by : {Answer Told : Type 0} {refusing : Refusal → Answer} {finding : Told → Answer} (ways : Answers refusing finding) {early late : List Condition} {as-it-was emptied : Type 0} {says : Told → Type 0} {answer : Answer}
+    → Demands refusing finding early late as-it-was emptied says answer → (n : ℕ) → FirstFails (early ++ late) n → (r : Refusal) × (answer ≡ refusing r) × (r .number ≡ n)
+refuses-by {refusing = refusing} {finding = finding} ways {early} {late} {answer = answer} demands n f = go (ways .either answer)
+  where
+    go : ((told : _) × (answer ≡ finding told)) ⊎ ((r : Refusal) × (answer ≡ refusing r)) → (r : Refusal) × (answer ≡ refusing r) × (r .number ≡ n)
+    go (inl x) = absurd (met-or-fails (early ++ late) n (demands .found (x .0) (x .1) .0) f)
+    go (inr x) = (x .0, x .1, fails-once (early ++ late) (x .0 .number) n (demands .refused (x .0) (x .1)) f)

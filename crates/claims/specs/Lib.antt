@@ -1,9 +1,14 @@
 pub mod TenFieldsTheorems
 pub mod Late
 pub mod Promises
+pub mod ExactPromises
 pub mod DemandsLaws
 pub mod LateLaws
 pub mod Claims
+pub mod ExactLateLaws
+pub mod ModesLaws
+pub mod ExactClaims
+pub mod ExactNumbers
 pub mod FlatBoard
 pub mod NumbersToTry
 pub mod FoundLaws

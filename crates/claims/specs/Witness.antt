@@ -1,13 +1,13 @@
 -- THAT THERE ARE CASES. On a small board, of periods 4 and 5, one list and one placing that leads and agrees with the physical winner, and that is best by
--- likelihood, clears a soft margin and leads: so no claim of demand 3 is true for want of a placing that meets its premises.
-use mathlib.Core.Path.{_≡_, refl}
+-- likelihood, clears a soft margin and leads: so no claim of demand 3 is true for want of a placing that meets its premises. The same of the exact mode.
+use mathlib.Core.Path.{_≡_, refl, sym, ap}
 use mathlib.Core.Bool.{Bool, true, false, not, _&&_, _||_}
 use mathlib.Core.List.{List, [], _∷_}
 use mathlib.Core.Logic.{_≢_}
 use Prim.Native.Nat.{ℕ, zero, suc, _%_, _≤_, _<_}
 use native.Mathlib.Omega.{arith}
 use lib.Dec.{eqb, ltb}
-use lib.ListN.{length, replicate}
+use lib.ListN.{getD, length, replicate}
 use lib.IntN.{ℤ, pos, negsuc, negℤ}
 use lib.Signed.{ltZ}
 use lib.Ieee.{fin, add, sub, div, ofInt, le, lt, eq, sum, round}
@@ -34,6 +34,12 @@ use Rattle.demand.specs.DemandLaws.{sole-leads}
 use Rattle.demand.specs.AgreesLaws.{most-agrees}
 use Rattle.soft_core.specs.SoftDemand.{marginOf, FirstByLikelihood, SecondByLikelihood, BestByLikelihood}
 use Rattle.soft_core.specs.SoftPlaces.{best-by-rows}
+use Rattle.unit_terms.specs.Values.{unitOf}
+use Rattle.exact.specs.Select.{unitsTo}
+use Rattle.exact_core.specs.ExactCore.{totalUnits}
+use Rattle.exact_demand.specs.ExactDemand.{ExactWins}
+use Rattle.exact_demand.specs.ExactSelections.{leads-wins}
+use Rattle.claims.specs.ExactClaims.{winner-exists}
 
 -- ---- the case
 -- four horizontal and five vertical patterns, so 12 rows of 15 columns
@@ -123,6 +129,17 @@ some-confidence = refl
 -- AND IT AGREES WITH THE WINNER OF THE PHYSICAL LIST, for it has more hits there than every other
 pub agrees : AgreesPhysical board list transforms place
 agrees = most-agrees board list transforms board-good list-good (omega arith) (omega arith) some-confidence place on-board (λ Q o n. let l = leads .ahead Q o n in omega arith)
+
+-- EXACT: both lists have units, and whoever leads has the winner's transform and origin
+pub some-units : 0 < totalUnits list
+unfolding unitsTo fold unitOf quantised halfUp
+some-units = omega arith
+
+pub exact-agrees : ExactWins board list transforms place
+exact-agrees =
+    let w = winner-exists board list transforms board-good list-good (omega arith) in
+    let s = leads-wins board list transforms zeroF place (w .0) leads (w .1) in
+    record { winner = w .0; wins = w .1; square = (ap (λ (i : ℕ). getD transforms i 0) (sym (s .0)), sym (s .1), sym (s .2)) }
 
 -- ---- soft: a hit adds nothing, a miss takes away 1
 abbrev pub odds : Likelihoods

@@ -28,10 +28,11 @@ use Rattle.hard.specs.Placings.{MostOther}
 use Rattle.hard.specs.PlacingsLaws.{most-other-ext}
 use Rattle.hard.specs.RateLaws.{fewer-over, more-within}
 use Rattle.hard.specs.SelectTheorems.{hitsAtKey}
+use Rattle.unit_terms.specs.Values.{oneHit}
 use Rattle.units.specs.Units.{unitAt}
 use Rattle.units.specs.UnitsTheorems.{value-reads}
 use Rattle.values.specs.Values.{hitsOf, weightOf}
-use Rattle.exact_scan.specs.Exact.{ValuesOk, finished}
+use Rattle.exact_scan.specs.Exact.{ValuesOk, finishedOne}
 use Rattle.exact_scan.specs.FirstLaws.{valueBy, hitsBy, First, runner-up-other, runner-up-place, runner-up-own}
 use Rattle.exact_scan.specs.declared.kept.ExactScan.{ExactScan}
 use Rattle.exact_scan.specs.declared.kept.ExactWinner.{ExactWinner}
@@ -40,7 +41,7 @@ use Rattle.demand.specs.Demand.{OnBoard, Same, WithinLimit, RunsUp, RunnerUpExi
 use Rattle.demand.specs.DemandLaws.{keyOf, key-below, row-back, col-back, same-key, hits-key, placing-on, most-runs-up, most-exists}
 use Rattle.demand.specs.Winners.{runnerAt}
 use Rattle.exact.specs.Select.{unitsTo, noUnits, exactScanOf, exactSelection}
-use Rattle.exact.specs.SelectLaws.{origin-value, weight-few, origin-hits, tables-ok, tab, kept, scan-first, kept-count}
+use Rattle.exact.specs.SelectLaws.{origin-value, weight-few, origin-hits, tables-ok, tab, kept, scan-first, kept-count, selection-is}
 use Rattle.exact.specs.Winner.{weightAt, IsWinner}
 
 -- ---- only one placing is the winner
@@ -54,10 +55,10 @@ winner-once B E ts P Q p q =
     (l, r, c)
 
 -- ---- numbers: values are ordered by hits and then by weight, and keys by row and then by column
-more-hits : (h w g v : ℕ) → v ≤ 2 ^ 37 → h * 2 ^ 38 + w ≤ g * 2 ^ 38 + v → h ≤ g
+more-hits : (h w g v : ℕ) → v ≤ 2 ^ 37 → h * oneHit + w ≤ g * oneHit + v → h ≤ g
 more-hits h w g v l e = omega arith
 
-more-weight : (h w g v : ℕ) → h ≡ g → h * 2 ^ 38 + w ≤ g * 2 ^ 38 + v → w ≤ v
+more-weight : (h w g v : ℕ) → h ≡ g → h * oneHit + w ≤ g * oneHit + v → w ≤ v
 more-weight h w g v l e = omega arith
 
 apart-rows : (r c s d n : ℕ) → d < n → r * n + c ≤ s * n + d → r ≤ s
@@ -91,10 +92,10 @@ module _ (B : Board) (E : EdgeList) (ts : List ℕ) (board : BoardOk B) (list : 
   kept-on = record { in-list = F .in-list; row = F .own .row; col = F .own .col }
 
   -- the value of a placing is its hits and its weight
-  placing-value : (Q : Placing) → OnBoard B ts Q → valueBy L M (tab B E ts board list some (Q .listed)) (key Q) ≡ hitsAt B E ts Q * 2 ^ 38 + weightAt B E ts Q
+  placing-value : (Q : Placing) → OnBoard B ts Q → valueBy L M (tab B E ts board list some (Q .listed)) (key Q) ≡ hitsAt B E ts Q * oneHit + weightAt B E ts Q
   placing-value Q o =
       origin-value B E (getD ts (Q .listed) 0) board list (key Q)
-      ∙ ap₂ (λ (r c : ℕ). hits B E (getD ts (Q .listed) 0) r c * 2 ^ 38 + fold _+_ 0 (size E) (hit B E (getD ts (Q .listed) 0) r c) (unitAt E)) (row-back B board ts Q o) (col-back B board ts Q o)
+      ∙ ap₂ (λ (r c : ℕ). hits B E (getD ts (Q .listed) 0) r c * oneHit + fold _+_ 0 (size E) (hit B E (getD ts (Q .listed) 0) r c) (unitAt E)) (row-back B board ts Q o) (col-back B board ts Q o)
 
   placing-weight : (Q : Placing) → OnBoard B ts Q → weightAt B E ts Q ≤ 2 ^ 37
   placing-weight Q o =
@@ -102,16 +103,16 @@ module _ (B : Board) (E : EdgeList) (ts : List ℕ) (board : BoardOk B) (list : 
       (ap₂ (λ (r c : ℕ). fold _+_ 0 (size E) (hit B E (getD ts (Q .listed) 0) r c) (unitAt E)) (row-back B board ts Q o) (col-back B board ts Q o))
       (weight-few B E (getD ts (Q .listed) 0) board list (key Q))
 
-  kept-value : kept B E ts board list some .value ≡ hitsAt B E ts P * 2 ^ 38 + weightAt B E ts P
+  kept-value : kept B E ts board list some .value ≡ hitsAt B E ts P * oneHit + weightAt B E ts P
   kept-value = sym (F .own .at) ∙ placing-value P kept-on
 
   -- no placing's value is greater
-  no-greater : (Q : Placing) → OnBoard B ts Q → hitsAt B E ts Q * 2 ^ 38 + weightAt B E ts Q ≤ hitsAt B E ts P * 2 ^ 38 + weightAt B E ts P
-  no-greater Q o = subst (λ (x : ℕ). x ≤ hitsAt B E ts P * 2 ^ 38 + weightAt B E ts P) (placing-value Q o) (subst (λ (x : ℕ). valueBy L M (tab B E ts board list some (Q .listed)) (key Q) ≤ x) kept-value (F .most (Q .listed) (key Q) (o .in-list)))
+  no-greater : (Q : Placing) → OnBoard B ts Q → hitsAt B E ts Q * oneHit + weightAt B E ts Q ≤ hitsAt B E ts P * oneHit + weightAt B E ts P
+  no-greater Q o = subst (λ (x : ℕ). x ≤ hitsAt B E ts P * oneHit + weightAt B E ts P) (placing-value Q o) (subst (λ (x : ℕ). valueBy L M (tab B E ts board list some (Q .listed)) (key Q) ≤ x) kept-value (F .most (Q .listed) (key Q) (o .in-list)))
 
   -- of those with as great a value the kept one stands first
   stands-first : (Q : Placing) → OnBoard B ts Q → hitsAt B E ts Q ≡ hitsAt B E ts P → weightAt B E ts Q ≡ weightAt B E ts P → (P .listed ≤ Q .listed) × (Q .listed ≡ P .listed → key P ≤ key Q)
-  stands-first Q o h w = F .earliest (Q .listed) (key Q) (o .in-list) (key-below B board ts Q o) (placing-value Q o ∙ ap₂ (λ (x y : ℕ). x * 2 ^ 38 + y) h w ∙ sym kept-value)
+  stands-first Q o h w = F .earliest (Q .listed) (key Q) (o .in-list) (key-below B board ts Q o) (placing-value Q o ∙ ap₂ (λ (x y : ℕ). x * oneHit + y) h w ∙ sym kept-value)
 
   -- THE WINNER EXISTS: it is the placing that the scan keeps
   pub winner-exists : IsWinner B E ts P
@@ -138,12 +139,20 @@ module _ (B : Board) (E : EdgeList) (ts : List ℕ) (board : BoardOk B) (list : 
     abbrev scan : ExactScan
     scan = exactScanOf B E ts (length ts)
 
+    -- what is kept, as a winner, and what the selection comes to
+    abbrev W : ExactWinner
+    W = let c = kept B E ts board list some in record { hits = hitsOf (c .value); weight = weightOf (c .value); placing = c .placing }
+
+    comes-to : exactSelection B E ts limit ≡ cond (noUnits E) (Refused (numbered why.noConfidence)) (cond over (Refused (numbered why.noneWithinLimit)) (Selected W (runnerUp (scan .positions .summaries) (P .listed) (scan .positions .count))))
+    unfolding finishedOne
+    comes-to = selection-is B E ts board list some limit
+
     -- 10 exactly when the unit sum is 0
     pub exact-10 : (exactSelection B E ts limit ≡ Refused (numbered why.noConfidence) → unitsTo (E .confidences) (length (E .confidences)) ≡ 0) × (unitsTo (E .confidences) (length (E .confidences)) ≡ 0 → exactSelection B E ts limit ≡ Refused (numbered why.noConfidence))
-    unfolding exactSelection noUnits finished
-    exact-10 = (λ e. eqb-true (unitsTo (E .confidences) (length (E .confidences))) 0 (go (noUnits E) over refl e), λ h. rw h)
+    unfolding noUnits
+    exact-10 = (λ e. eqb-true (unitsTo (E .confidences) (length (E .confidences))) 0 (go (noUnits E) over refl (sym comes-to ∙ e)), λ h. comes-to ∙ rw h)
       where
-        go : (b o : Bool) → noUnits E ≡ b → cond b (Refused (numbered why.noConfidence)) (cond o (Refused (numbered why.noneWithinLimit)) (Selected (record { hits = hitsOf (scan .best .value); weight = weightOf (scan .best .value); placing = P }) (runnerUp (scan .positions .summaries) (P .listed) (scan .positions .count)))) ≡ Refused (numbered why.noConfidence) → noUnits E ≡ true
+        go : (b o : Bool) → noUnits E ≡ b → cond b (Refused (numbered why.noConfidence)) (cond o (Refused (numbered why.noneWithinLimit)) (Selected (W) (runnerUp (scan .positions .summaries) (P .listed) (scan .positions .count)))) ≡ Refused (numbered why.noConfidence) → noUnits E ≡ true
         go true o q e = q
         go false true q e = let z : numbered why.noneWithinLimit ≡ numbered why.noConfidence = cc in let n : why.noneWithinLimit ≡ why.noConfidence = ap (λ (r : Refusal). r .number) z in absurd (omega arith)
         go false false q e = let z : _≡_ {A = ℕ} 0 1 = cc in absurd (omega arith)
@@ -152,32 +161,29 @@ module _ (B : Board) (E : EdgeList) (ts : List ℕ) (board : BoardOk B) (list : 
     pub exact-11 : noUnits E ≡ false
         → (exactSelection B E ts limit ≡ Refused (numbered why.noneWithinLimit) → (Q : Placing) → OnBoard B ts Q → overLimit (size E) limit (hitsAt B E ts Q) ≡ true)
         × (((Q : Placing) → OnBoard B ts Q → overLimit (size E) limit (hitsAt B E ts Q) ≡ true) → exactSelection B E ts limit ≡ Refused (numbered why.noneWithinLimit))
-    unfolding exactSelection finished
     exact-11 u = (
-      λ e Q o. fewer-over (size E) limit (hitsAt B E ts Q) (hitsAt B E ts P) (list .few) (winner-exists .most-hits Q o) (hits-le B E (getD ts (P .listed) 0) (P .row) (P .col)) (ap (overLimit (size E) limit) (sym kept-hits-at) ∙ go over refl (rw u at e)),
-      λ all. rw (u, kept-hits-at, all P kept-on),
+      λ e Q o. fewer-over (size E) limit (hitsAt B E ts Q) (hitsAt B E ts P) (list .few) (winner-exists .most-hits Q o) (hits-le B E (getD ts (P .listed) 0) (P .row) (P .col)) (ap (overLimit (size E) limit) (sym kept-hits-at) ∙ go over refl (rw u at (sym comes-to ∙ e))),
+      λ all. comes-to ∙ rw (u, kept-hits-at, all P kept-on),
     )
       where
-        go : (o : Bool) → over ≡ o → cond o (Refused (numbered why.noneWithinLimit)) (Selected (record { hits = hitsOf (scan .best .value); weight = weightOf (scan .best .value); placing = P }) (runnerUp (scan .positions .summaries) (P .listed) (scan .positions .count))) ≡ Refused (numbered why.noneWithinLimit) → over ≡ true
+        go : (o : Bool) → over ≡ o → cond o (Refused (numbered why.noneWithinLimit)) (Selected (W) (runnerUp (scan .positions .summaries) (P .listed) (scan .positions .count))) ≡ Refused (numbered why.noneWithinLimit) → over ≡ true
         go true q e = q
         go false q e = let z : _≡_ {A = ℕ} 0 1 = cc in absurd (omega arith)
 
     -- and where a placing is within the limit, one is selected
     pub exact-selects : noUnits E ≡ false → (Q : Placing) → WithinLimit B E ts limit Q → (w : ExactWinner) × (r : RunnerUp) × (exactSelection B E ts limit ≡ Selected w r)
-    unfolding exactSelection finished
-    exact-selects u Q q = (record { hits = hitsOf (scan .best .value); weight = weightOf (scan .best .value); placing = P }, runnerUp (scan .positions .summaries) (P .listed) (scan .positions .count), rw (u, within))
+    exact-selects u Q q = (W, runnerUp (scan .positions .summaries) (P .listed) (scan .positions .count), comes-to ∙ rw (u, within))
       where
         within : over ≡ false
         within = ap (overLimit (size E) limit) kept-hits-at ∙ more-within (size E) limit (hitsAt B E ts Q) (hitsAt B E ts P) (list .few) (winner-exists .most-hits Q (q .0)) (hits-le B E (getD ts (P .listed) 0) (P .row) (P .col)) (q .1)
 
     -- what is selected, off the scan
     module _ (w : ExactWinner) (r : RunnerUp) (e : exactSelection B E ts limit ≡ Selected w r) where
-      told : (noUnits E ≡ false) × (over ≡ false) × (record { hits = hitsOf (scan .best .value); weight = weightOf (scan .best .value); placing = P } ≡ w) × (runnerUp (scan .positions .summaries) (P .listed) (scan .positions .count) ≡ r)
-      unfolding exactSelection finished
-      told = go (noUnits E) over refl refl e
+      told : (noUnits E ≡ false) × (over ≡ false) × (W ≡ w) × (runnerUp (scan .positions .summaries) (P .listed) (scan .positions .count) ≡ r)
+      told = go (noUnits E) over refl refl (sym comes-to ∙ e)
         where
-          go : (b o : Bool) → noUnits E ≡ b → over ≡ o → cond b (Refused (numbered why.noConfidence)) (cond o (Refused (numbered why.noneWithinLimit)) (Selected (record { hits = hitsOf (scan .best .value); weight = weightOf (scan .best .value); placing = P }) (runnerUp (scan .positions .summaries) (P .listed) (scan .positions .count)))) ≡ Selected w r
-              → (noUnits E ≡ false) × (over ≡ false) × (record { hits = hitsOf (scan .best .value); weight = weightOf (scan .best .value); placing = P } ≡ w) × (runnerUp (scan .positions .summaries) (P .listed) (scan .positions .count) ≡ r)
+          go : (b o : Bool) → noUnits E ≡ b → over ≡ o → cond b (Refused (numbered why.noConfidence)) (cond o (Refused (numbered why.noneWithinLimit)) (Selected (W) (runnerUp (scan .positions .summaries) (P .listed) (scan .positions .count)))) ≡ Selected w r
+              → (noUnits E ≡ false) × (over ≡ false) × (W ≡ w) × (runnerUp (scan .positions .summaries) (P .listed) (scan .positions .count) ≡ r)
           go true o q s d = let z : _≡_ {A = ℕ} 0 1 = cc in absurd (omega arith)
           go false true q s d = let z : _≡_ {A = ℕ} 0 1 = cc in absurd (omega arith)
           go false false q s d = (q, s, cc, cc)

@@ -1,6 +1,6 @@
 -- Laws of the exact selection on one list: its values are as the fold asks, the room after each transform, and the scan one transform further.
 use mathlib.Core.Path.{_≡_, refl, sym, ap, ap₂, subst, _∙_}
-use mathlib.Core.Bool.{Bool, true, false}
+use mathlib.Core.Bool.{Bool, true, false, cond}
 use mathlib.Core.List.{List}
 use Prim.Native.Nat.{ℕ, zero, suc, _+_, _*_, _/_, _%_, _^_, _≤_, _<_}
 use native.Mathlib.Numerals.{add-one}
@@ -21,7 +21,7 @@ use Rattle.board.specs.Domain.{ListOk, BoardOk}
 use Rattle.board.specs.HitsLaws.{hits-le}
 use Rattle.room.specs.Room.{used}
 use Rattle.cells.specs.Cells.{cellCount}
-use Rattle.unit_terms.specs.Values.{unitOf, valueOf}
+use Rattle.unit_terms.specs.Values.{unitOf, oneHit, valueOf}
 use Rattle.unit_terms.specs.ValuesLaws.{unit-small, value-is}
 use Rattle.units.specs.Units.{unitAt, cellUnits, valuesOf, UnitsReady, UnitsBuilt}
 use Rattle.units.specs.UnitsLaws.{units-few}
@@ -30,9 +30,11 @@ use Rattle.tables.specs.TablesTheorems.{count-at, key-hits, counts-few}
 use Rattle.best.specs.CellTables.{Period}
 use Rattle.grid.specs.BoardGrid.{period-h, period-v, grid}
 use Rattle.values.specs.Values.{hitsOf, weightOf, vAt, nAt}
-use Rattle.exact_scan.specs.Exact.{ValueTables, valueTables, ValuesOk, emptyExact, foldExact, exactScanned, finished, SoundExact}
-use Rattle.exact_scan.specs.FirstLaws.{exact-count, First, kept-first, value-hits, hitsBy, valueBy, keyOf}
+use Rattle.exact_scan.specs.Exact.{ValueTables, valueTables, ValuesOk, emptyExact, foldExact, exactScanned, finishedOne, finishedBy, finished, SoundKept, SoundExact}
+use Rattle.exact_scan.specs.FirstLaws.{exact-count, First, KeptFirst, kept-first, value-hits, hitsBy, valueBy, keyOf}
 use Rattle.exact_scan.specs.declared.kept.ExactCandidate.{ExactCandidate}
+use Rattle.exact_scan.specs.declared.kept.ExactKept.{ExactKept}
+use Rattle.exact_scan.specs.declared.kept.ExactKept.the-variants.{One}
 use Rattle.exact_scan.specs.declared.kept.ExactScan.{ExactScan}
 use Rattle.exact_scan.specs.declared.kept.ExactSelection.{ExactSelection}
 use Rattle.exact_scan.specs.declared.kept.ExactSelection.the-variants.{Refused}
@@ -93,7 +95,7 @@ module _ (B : Board) (E : EdgeList) (t : ℕ) (board : BoardOk B) (list : ListOk
   v-cell k = grid L M (period-h B board) (period-v B board) .v-in k
 
   -- the value of an origin is its hits and its weight
-  pub origin-value : (k : ℕ) → valueBy L M (valueTablesOf B E t) k ≡ hits B E t (row k) (col k) * 2 ^ 38 + weight k
+  pub origin-value : (k : ℕ) → valueBy L M (valueTablesOf B E t) k ≡ hits B E t (row k) (col k) * oneHit + weight k
   unfolding valueTablesOf
   origin-value k = ap₂ _+_ (value-in B E t true (origins L M .hOf k) (h-cell k)) (value-in B E t false (origins L M .vOf k) (v-cell k)) ∙ pair-splits B E t board (row k) (col k)
 
@@ -108,7 +110,7 @@ module _ (B : Board) (E : EdgeList) (t : ℕ) (board : BoardOk B) (list : ListOk
       ∙ sym (key-hits B E t board k)
 
   -- so the weights of two cells are together less than a hit
-  adds-at : (x y n w : ℕ) → x + y ≡ n * 2 ^ 38 + w → hitsOf x + hitsOf y ≡ n → w ≤ 2 ^ 37 → weightOf x + weightOf y < 274877906944
+  adds-at : (x y n w : ℕ) → x + y ≡ n * oneHit + w → hitsOf x + hitsOf y ≡ n → w ≤ 2 ^ 37 → weightOf x + weightOf y < oneHit
   adds-at x y n w e h l = omega arith
 
   -- the tables are as the fold asks
@@ -121,13 +123,13 @@ module _ (B : Board) (E : EdgeList) (t : ℕ) (board : BoardOk B) (list : ListOk
     bounded = λ i j li lj. omega (arith, hits-in true i li, hits-in false j lj, count-at B E t true i li, count-at B E t false j lj, counts-few B E t i j li lj, list .few);
   }
     where
-      adds-cells : (i j : ℕ) → i < 3 * L → j < 3 * M → weightOf (vAt (valuesOf B E t true) i) + weightOf (vAt (valuesOf B E t false) j) < 274877906944
+      adds-cells : (i j : ℕ) → i < 3 * L → j < 3 * M → weightOf (vAt (valuesOf B E t true) i) + weightOf (vAt (valuesOf B E t false) j) < oneHit
       adds-cells i j li lj =
           let g = grid L M (period-h B board) (period-v B board) in
           let k = origins L M .key i j in
           let d = adds-at (vAt (valuesOf B E t true) (origins L M .hOf k)) (vAt (valuesOf B E t false) (origins L M .vOf k)) (hits B E t (row k) (col k)) (weight k) (origin-value k) (origin-hits k) (weight-few k) in
-          subst (λ (x : ℕ). weightOf (vAt (valuesOf B E t true) x) + weightOf (vAt (valuesOf B E t false) j) < 274877906944) (g .h-key i j li lj)
-          (subst (λ (y : ℕ). weightOf (vAt (valuesOf B E t true) (origins L M .hOf k)) + weightOf (vAt (valuesOf B E t false) y) < 274877906944) (g .v-key i j li lj) d)
+          subst (λ (x : ℕ). weightOf (vAt (valuesOf B E t true) x) + weightOf (vAt (valuesOf B E t false) j) < oneHit) (g .h-key i j li lj)
+          (subst (λ (y : ℕ). weightOf (vAt (valuesOf B E t true) (origins L M .hOf k)) + weightOf (vAt (valuesOf B E t false) y) < oneHit) (g .v-key i j li lj) d)
 
 -- ---- the two tables in a room: horizontal cells, then vertical cells
 unfoldable pub roomValues : ℕ → ℕ → List ℕ → ValueTables
@@ -209,17 +211,24 @@ module _ (B : Board) (E : EdgeList) (ts : List ℕ) (board : BoardOk B) (list : 
   abbrev pub tab : ℕ → ValueTables
   tab p = valueTablesOf B E (builtAt ts p)
 
-  -- what is kept of all positions
-  abbrev pub kept : ExactCandidate
-  kept = exactScanOf B E ts (length ts) .best
-
-  pub scan-first : First (periodOf B true) (periodOf B false) (λ p. getD ts p 0) tab (length ts) kept
-  unfolding exactScanOf
-  scan-first = go (length ts) some
+  -- one is kept of all positions
+  pub one-kept : KeptFirst (periodOf B true) (periodOf B false) (λ p. getD ts p 0) tab (period-h B board) (period-v B board) (length ts)
+  one-kept = go (length ts) some
     where
-      go : (n : ℕ) → 0 < n → First (periodOf B true) (periodOf B false) (λ p. getD ts p 0) tab n (exactScanned (periodOf B true) (periodOf B false) (λ p. getD ts p 0) tab n .best)
+      go : (n : ℕ) → 0 < n → KeptFirst (periodOf B true) (periodOf B false) (λ p. getD ts p 0) tab (period-h B board) (period-v B board) n
       go zero l = absurd (omega arith)
       go (suc n) l = kept-first (periodOf B true) (periodOf B false) (λ p. getD ts p 0) tab (period-h B board) (period-v B board) n (λ i m. tables-ok B E (builtAt ts i) board list)
+
+  -- which it is
+  abbrev pub kept : ExactCandidate
+  kept = one-kept .one
+
+  pub kept-is : exactScanOf B E ts (length ts) .best ≡ One kept
+  unfolding exactScanOf
+  kept-is = one-kept .kept
+
+  pub scan-first : First (periodOf B true) (periodOf B false) (λ p. getD ts p 0) tab (length ts) kept
+  scan-first = one-kept .first
 
   -- its hits, by its value
   pub kept-hits : let k = keyOf (periodOf B false) kept in hitsOf (kept .value) ≡ hits B E (builtAt ts (kept .placing .listed)) (k / (3 * periodOf B false)) (k % (3 * periodOf B false))
@@ -232,6 +241,11 @@ module _ (B : Board) (E : EdgeList) (ts : List ℕ) (board : BoardOk B) (list : 
   pub kept-count : exactScanOf B E ts (length ts) .positions .count ≡ length ts
   unfolding exactScanOf
   kept-count = exact-count (periodOf B true) (periodOf B false) (λ p. getD ts p 0) tab (length ts)
+
+  -- what the selection comes to, by what is kept
+  pub selection-is : (limit : Float) → exactSelection B E ts limit ≡ cond (noUnits E) (Refused (numbered why.noConfidence)) (finishedOne (size E) limit (exactScanOf B E ts (length ts) .positions) kept)
+  unfolding exactSelection finished
+  selection-is limit = ap (λ (k : ExactKept). cond (noUnits E) (Refused (numbered why.noConfidence)) (finishedBy (size E) limit (exactScanOf B E ts (length ts) .positions) k)) kept-is
 
 -- ---- the two ends of a selection
 module _ (B : Board) (E : EdgeList) (ts : List ℕ) (limit : Float) (a : List ℕ) where
@@ -249,12 +263,18 @@ module _ (B : Board) (E : EdgeList) (ts : List ℕ) (limit : Float) (a : List �
 
   -- the scan may be finished
   pub scan-sound : ExactSelectReady B E ts a → (a' : List ℕ) (s : ExactScan) → ExactScanDone B E ts (length ts) a a' s → SoundExact (size E) s
-  scan-sound R a' s d = subst (λ (x : ExactScan). SoundExact (size E) x) (sym (d .answer)) (record {
-    few = omega (arith, kept-count B E ts (R .board) (R .list) (R .transforms .0), R .transforms .1);
-    listed = omega (arith, kept-count B E ts (R .board) (R .list) (R .transforms .0), scan-first B E ts (R .board) (R .list) (R .transforms .0) .in-list);
-    hits = omega (arith, kept-hits B E ts (R .board) (R .list) (R .transforms .0), hits-le B E (builtAt ts (exactScanOf B E ts (length ts) .best .placing .listed)) (keyOf (periodOf B false) (exactScanOf B E ts (length ts) .best) / (3 * periodOf B false)) (keyOf (periodOf B false) (exactScanOf B E ts (length ts) .best) % (3 * periodOf B false)));
-    small = R .list .few;
-  })
+  scan-sound R a' s d =
+      subst (λ (x : ExactScan). SoundExact (size E) x) (sym (d .answer))
+      (subst (SoundKept (size E) (exactScanOf B E ts (length ts) .positions)) (sym (kept-is B E ts (R .board) (R .list) (R .transforms .0)))
+      (record {
+        few = omega (arith, kept-count B E ts (R .board) (R .list) (R .transforms .0), R .transforms .1);
+        listed = omega (arith, kept-count B E ts (R .board) (R .list) (R .transforms .0), scan-first B E ts (R .board) (R .list) (R .transforms .0) .in-list);
+        hits =
+            let c = kept B E ts (R .board) (R .list) (R .transforms .0) in
+            let k = keyOf (periodOf B false) c in
+            omega (arith, kept-hits B E ts (R .board) (R .list) (R .transforms .0), hits-le B E (builtAt ts (c .placing .listed)) (k / (3 * periodOf B false)) (k % (3 * periodOf B false)));
+        small = R .list .few;
+      }))
 
   -- whatever it comes to, the surplus of the room is what it was
   pub exact-beyond : (R : ExactSelectReady B E ts a) (a' : List ℕ) (r : ExactSelection) → ExactDone B E ts limit a a' r → SameBeyond 0 (used (periodOf B) 1) a a'

@@ -1,9 +1,9 @@
 -- C-15, one list: the scan over the tables of values of each list position. It keeps the placing of most hits, then most weight, then the earliest list position, then row, then column.
-use mathlib.Core.Bool.{cond, _&&_}
+use mathlib.Core.Bool.{cond}
 use mathlib.Core.Path.{_≡_}
 use mathlib.Core.List.{List}
 use Prim.Native.Nat.{ℕ, zero, suc, _+_, _*_, _/_, _%_, _≤_, _<_}
-use lib.Dec.{ltb, leb}
+use lib.Dec.{leb}
 use lib.ListN.{length}
 use lib.Ieee.{Float}
 use Rattle.refusals.specs.Numbers.{numbered}
@@ -12,10 +12,14 @@ use Rattle.best.specs.CellTables.{Period}
 use Rattle.best.specs.declared.lex.LexMax.{LexMax}
 use Rattle.scan.specs.Scan.{overLimit, emptyScan, pushed, runnerUp}
 use Rattle.scan.specs.declared.scan.TransformSummary.{TransformSummary}
-use Rattle.scan.specs.declared.scan.Kept.the-variants.{Nobody}
+use Rattle.scan.specs.declared.scan.HardScan.{HardScan}
+use Rattle.scan.specs.declared.scan.Kept.the-variants as old
 use Rattle.folding.specs.Transform.{bestHits, runnerUpWithin, summaryOf}
-use Rattle.values.specs.Values.{oneHit, hitsOf, weightOf, vAt, nAt, valueOf, firstOrigin, bestValue, byHits}
+use Rattle.unit_terms.specs.Values.{oneHit}
+use Rattle.values.specs.Values.{hitsOf, weightOf, vAt, nAt, valueOf, firstOrigin, bestValue, byHits}
 use Rattle.exact_scan.specs.declared.kept.ExactCandidate.{ExactCandidate}
+use Rattle.exact_scan.specs.declared.kept.ExactKept.{ExactKept}
+use Rattle.exact_scan.specs.declared.kept.ExactKept.the-variants.{Nobody, One}
 use Rattle.exact_scan.specs.declared.kept.ExactScan.{ExactScan}
 use Rattle.exact_scan.specs.declared.kept.ExactSelection.{ExactSelection}
 use Rattle.exact_scan.specs.declared.kept.ExactSelection.the-variants.{Refused, Selected}
@@ -61,20 +65,25 @@ unfoldable pub exactCandidate : ℕ → ℕ → ℕ → ValueTables → ExactCan
 unfolding candidateAt exactOrigin valueOf
 exactCandidate L M listed X = candidateAt M listed (bestValue (valueOf (X .hs)) (valueOf (X .vs))) (exactOrigin L M X)
 
--- the earliest list position wins a tie: what is kept stays, unless the candidate has a greater value or is the first
-unfoldable pub taken : ExactCandidate → ExactCandidate → ExactCandidate
-taken kept c = cond (ltb 0 (c .placing .listed) && leb (c .value) (kept .value)) kept c
+-- the earlier list position wins a tie: k stays, unless the later c has a greater value
+unfoldable pub betterOf : ExactCandidate → ExactCandidate → ExactCandidate
+betterOf k c = cond (leb (c .value) (k .value)) k c
+
+-- what is kept after c: the first one, then the better one
+abbrev pub taken : ExactKept → ExactCandidate → ExactKept
+taken Nobody c = One c
+taken (One k) c = One (betterOf k c)
 
 -- ---- the scan
 -- of no transforms
 unfoldable pub emptyExact : ExactScan
 unfolding emptyScan
-emptyExact = record { positions = emptyScan; best = record { value = 0; placing = record { listed = 0; row = 0; col = 0 } } }
+emptyExact = record { positions = emptyScan; best = Nobody }
 
 -- the transform t, with the tables X, at the scan's next list position
 unfoldable pub foldExact : ℕ → ℕ → ℕ → ValueTables → ExactScan → ExactScan
-unfolding exactSummary exactCandidate taken pushed
-foldExact L M t X scan = record { positions = pushed (scan .positions) (exactSummary L M t X) Nobody; best = taken (scan .best) (exactCandidate L M (scan .positions .count) X) }
+unfolding exactSummary exactCandidate pushed
+foldExact L M t X scan = record { positions = pushed (scan .positions) (exactSummary L M t X) old.Nobody; best = taken (scan .best) (exactCandidate L M (scan .positions .count) X) }
 
 -- the first n list positions, of which position p has the transform ts p and the tables tab p
 unfoldable pub exactScanned : ℕ → ℕ → (ℕ → ℕ) → (ℕ → ValueTables) → ℕ → ExactScan
@@ -82,21 +91,40 @@ unfolding emptyExact foldExact
 exactScanned L M ts tab zero = emptyExact
 exactScanned L M ts tab (suc p) = foldExact L M (ts p) (tab p) (exactScanned L M ts tab p)
 
--- what a list of so many edges comes to: refused where the kept placing is over the limit, else the winner with its runner-up
-unfoldable pub finished : ℕ → Float → ExactScan → ExactSelection
+-- what a list of so many edges comes to where c is kept: refused where c is over the limit, else c with its runner-up
+unfoldable pub finishedOne : ℕ → Float → HardScan → ExactCandidate → ExactSelection
 unfolding overLimit runnerUp
-finished edges limit scan =
-    cond (overLimit edges limit (hitsOf (scan .best .value)))
+finishedOne edges limit h c =
+    cond (overLimit edges limit (hitsOf (c .value)))
     (Refused (numbered why.noneWithinLimit))
-    (Selected (record { hits = hitsOf (scan .best .value); weight = weightOf (scan .best .value); placing = scan .best .placing }) (runnerUp (scan .positions .summaries) (scan .best .placing .listed) (scan .positions .count)))
+    (Selected (record { hits = hitsOf (c .value); weight = weightOf (c .value); placing = c .placing }) (runnerUp (h .summaries) (c .placing .listed) (h .count)))
+
+-- and by what is kept: nobody is within any limit
+abbrev pub finishedBy : ℕ → Float → HardScan → ExactKept → ExactSelection
+finishedBy edges limit h Nobody = Refused (numbered why.noneWithinLimit)
+finishedBy edges limit h (One c) = finishedOne edges limit h c
+
+-- what the scan comes to
+unfoldable pub finished : ℕ → Float → ExactScan → ExactSelection
+unfolding finishedOne
+finished edges limit scan = finishedBy edges limit (scan .positions) (scan .best)
 
 -- ---- what folding a transform asks: tables of a list over two periods, and a place left in the scan
 abbrev pub ExactReady : ℕ → ℕ → ValueTables → ExactScan → Type 0
 ExactReady L M X scan = (Period L × Period M × ValuesOk L M X) × (scan .positions .count < 8)
 
--- and what finishing asks: the kept placing stands at one of at most eight positions, with no more hits than edges
-pub record SoundExact (edges : ℕ) (scan : ExactScan) : Type 0 where
-  pub few : scan .positions .count ≤ 8
-  pub listed : scan .best .placing .listed < scan .positions .count
-  pub hits : hitsOf (scan .best .value) ≤ edges
+-- ---- what finishing asks: the kept placing stands at one of at most eight positions, with no more hits than edges
+pub record SoundOne (edges : ℕ) (h : HardScan) (c : ExactCandidate) : Type 0 where
+  pub few : h .count ≤ 8
+  pub listed : c .placing .listed < h .count
+  pub hits : hitsOf (c .value) ≤ edges
   pub small : edges ≤ 8192
+
+-- where there is one
+abbrev pub SoundKept : ℕ → HardScan → ExactKept → Type 0
+SoundKept edges h Nobody = Unit {0}
+SoundKept edges h (One c) = SoundOne edges h c
+
+-- of a scan
+abbrev pub SoundExact : ℕ → ExactScan → Type 0
+SoundExact edges scan = SoundKept edges (scan .positions) (scan .best)

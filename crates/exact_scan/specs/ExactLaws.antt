@@ -6,7 +6,7 @@ use Prim.Native.Nat.{ℕ, _+_, _*_, _≤_, _<_}
 use native.Mathlib.Omega.{arith}
 use lib.ListN.{length}
 use lib.Ieee.{Float}
-use borrow.Author.Tests.{lt-ltb, le-ltb, le-leb, lt-leb}
+use borrow.Author.Tests.{le-leb, lt-leb}
 use Rattle.refusals.specs.Numbers.{numbered}
 use Rattle.refusals.specs.Numbers as why
 use Rattle.laws.specs.Words.{origins}
@@ -23,11 +23,13 @@ use Rattle.scan.specs.declared.scan.Kept.the-variants.{Nobody}
 use Rattle.folding.specs.Transform.{BestOk, bestHits, runnerUpWithin, competitorOf, summaryOf}
 use Rattle.folding.specs.TransformLaws.{within-small}
 use Rattle.folding.specs.declared.transform.Ranked.{Ranked}
+use Rattle.unit_terms.specs.Values.{oneHit}
 use Rattle.values.specs.Values.{hitsOf, weightOf, vAt, nAt, valueBest, valueSecond, tiedValue, heldHits, valueOf, firstOrigin, bestValue, byHits}
 use Rattle.values.specs.ValuesLaws.{PairTop, cell-in, cell-top, second-inside}
 use Rattle.values.specs.declared.table.ValueMax.{ValueMax}
-use Rattle.exact_scan.specs.Exact.{ValueTables, ValuesOk, summaryBy, exactOrigin, exactSummary, candidateAt, exactCandidate, taken, foldExact, finished}
+use Rattle.exact_scan.specs.Exact.{ValueTables, ValuesOk, summaryBy, exactOrigin, exactSummary, candidateAt, exactCandidate, betterOf, taken, foldExact, finishedOne}
 use Rattle.exact_scan.specs.declared.kept.ExactCandidate.{ExactCandidate}
+use Rattle.exact_scan.specs.declared.kept.ExactKept.{ExactKept}
 use Rattle.exact_scan.specs.declared.kept.ExactScan.{ExactScan}
 use Rattle.exact_scan.specs.declared.kept.ExactSelection.the-variants.{Refused, Selected}
 
@@ -86,7 +88,7 @@ module _ (L M : ℕ) (p : Period L) (q : Period M) (X : ValueTables) (ok : Value
       }
 
   -- hits and weights of a pair add up
-  together : (x y : ℕ) → hitsOf x + hitsOf y ≤ 8192 → weightOf x + weightOf y < 274877906944 → x + y ≤ 2 * 4503599627370496
+  together : (x y : ℕ) → hitsOf x + hitsOf y ≤ 8192 → weightOf x + weightOf y < oneHit → x + y ≤ 2 * 4503599627370496
   together x y n m = omega arith
 
   value-ok : valueOf hs .top + valueOf vs .top ≤ 2 * 4503599627370496
@@ -101,7 +103,7 @@ module _ (L M : ℕ) (p : Period L) (q : Period M) (X : ValueTables) (ok : Value
   }
 
   -- ---- the fold from its parts
-  pub folded : (t : ℕ) (scan : ExactScan) (a b : ValueMax) (first : ℕ) (s : TransformSummary) (best : ExactCandidate) (positions : HardScan)
+  pub folded : (t : ℕ) (scan : ExactScan) (a b : ValueMax) (first : ℕ) (s : TransformSummary) (best : ExactKept) (positions : HardScan)
       → a ≡ valueOf hs
       → b ≡ valueOf vs
       → first ≡ firstOrigin L M hs vs a b
@@ -125,27 +127,23 @@ module _ (L M : ℕ) (p : Period L) (q : Period M) (a b x y : LexMax) (first : �
   unfolding summaryBy
   summarized t s en es = rw (es, en, ex, ey)
 
--- ---- what is kept
-module _ (kept c : ExactCandidate) where
-  pub stays : 0 < c .placing .listed → c .value ≤ kept .value → kept ≡ taken kept c
-  unfolding taken
-  stays l m = rw (lt-ltb 0 (c .placing .listed) l, le-leb (c .value) (kept .value) m)
+-- ---- the better of two
+module _ (k c : ExactCandidate) where
+  pub stays : c .value ≤ k .value → k ≡ betterOf k c
+  unfolding betterOf
+  stays m = rw (le-leb (c .value) (k .value) m)
 
-  pub greater : 0 < c .placing .listed → kept .value < c .value → c ≡ taken kept c
-  unfolding taken
-  greater l m = rw (lt-ltb 0 (c .placing .listed) l, lt-leb (c .value) (kept .value) m)
-
-  pub earliest : c .placing .listed ≤ 0 → c ≡ taken kept c
-  unfolding taken
-  earliest l = rw (le-ltb 0 (c .placing .listed) l)
+  pub greater : k .value < c .value → c ≡ betterOf k c
+  unfolding betterOf
+  greater m = rw (lt-leb (c .value) (k .value) m)
 
 -- ---- what the scan comes to
-module _ (edges : ℕ) (limit : Float) (scan : ExactScan) (hits : ℕ) (e : hits ≡ hitsOf (scan .best .value)) where
-  pub finish-over : overLimit edges limit hits ≡ true → Refused (numbered why.noneWithinLimit) ≡ finished edges limit scan
-  unfolding finished
+module _ (edges : ℕ) (limit : Float) (h : HardScan) (c : ExactCandidate) (hits : ℕ) (e : hits ≡ hitsOf (c .value)) where
+  pub finish-over : overLimit edges limit hits ≡ true → Refused (numbered why.noneWithinLimit) ≡ finishedOne edges limit h c
+  unfolding finishedOne
   finish-over t = rw (← e, t)
 
-  pub finish-within : (weight : ℕ) (r : RunnerUp) → overLimit edges limit hits ≡ false → weight ≡ weightOf (scan .best .value) → r ≡ runnerUp (scan .positions .summaries) (scan .best .placing .listed) (scan .positions .count)
-      → Selected (record { hits = hits; weight = weight; placing = scan .best .placing }) r ≡ finished edges limit scan
-  unfolding finished
+  pub finish-within : (weight : ℕ) (r : RunnerUp) → overLimit edges limit hits ≡ false → weight ≡ weightOf (c .value) → r ≡ runnerUp (h .summaries) (c .placing .listed) (h .count)
+      → Selected (record { hits = hits; weight = weight; placing = c .placing }) r ≡ finishedOne edges limit h c
+  unfolding finishedOne
   finish-within weight r t ew er = rw (← e, t, ← ew, ← er)

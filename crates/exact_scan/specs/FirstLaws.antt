@@ -24,12 +24,15 @@ use Rattle.hard.specs.OneList.{keyAt, originNumber}
 use Rattle.hard.specs.Placings.{MostOther}
 use Rattle.hard.specs.SummedLaws.{Summed, Said, BestPair, summed-by}
 use Rattle.hard.specs.RunnerUpLaws.{runner-up-inside, others-bounded, other-attains, runner-up-named, own-origin}
+use Rattle.unit_terms.specs.Values.{oneHit}
 use Rattle.values.specs.Values.{hitsOf, weightOf, vAt, nAt, valueBest, valueOf, pairValue, byHits}
 use Rattle.values.specs.ValuesLaws.{more-hits, best-top, cell-in, second-inside, second-other, second-most}
 use Rattle.values.specs.OriginLaws.{first-under, first-is, first-has, greatest, first-least}
-use Rattle.exact_scan.specs.Exact.{ValueTables, ValuesOk, summaryBy, exactOrigin, exactSummary, candidateAt, exactCandidate, taken, emptyExact, foldExact, exactScanned}
-use Rattle.exact_scan.specs.ExactLaws.{h-two, v-two, stays, greater, earliest}
+use Rattle.exact_scan.specs.Exact.{ValueTables, ValuesOk, summaryBy, exactOrigin, exactSummary, candidateAt, exactCandidate, betterOf, taken, emptyExact, foldExact, exactScanned}
+use Rattle.exact_scan.specs.ExactLaws.{h-two, v-two, stays, greater}
 use Rattle.exact_scan.specs.declared.kept.ExactCandidate.{ExactCandidate}
+use Rattle.exact_scan.specs.declared.kept.ExactKept.{ExactKept}
+use Rattle.exact_scan.specs.declared.kept.ExactKept.the-variants.{One}
 use Rattle.exact_scan.specs.declared.kept.ExactScan.{ExactScan}
 
 -- the value of the origin with the key k, by one transform's tables, and its hits
@@ -100,7 +103,7 @@ module _ (L M : ℕ) (p : Period L) (q : Period M) (X : ValueTables) (ok : Value
       (said (X .hs) (h-two L M p q X ok)) (said (X .vs) (v-two L M p q X ok)) (exactOrigin L M X) best-pair
 
   -- the hits of a value are those of its two cells
-  both : (x y : ℕ) → weightOf x + weightOf y < 274877906944 → hitsOf (x + y) ≡ hitsOf x + hitsOf y
+  both : (x y : ℕ) → weightOf x + weightOf y < oneHit → hitsOf (x + y) ≡ hitsOf x + hitsOf y
   both x y l = omega arith
 
   pub value-hits : (k : ℕ) → hitsOf (valueBy L M X k) ≡ hitsBy L M X k
@@ -161,20 +164,29 @@ module _ (L M : ℕ) (ts : ℕ → ℕ) (tab : ℕ → ValueTables) where
       earliest = λ i k l m e. ⊎-elim (λ z. (omega (arith, F .in-list), λ d. absurd (omega (arith, F .in-list)))) (λ z. F .earliest i k z m e) (split i n l);
     }
 
-    pub kept-first : (n : ℕ) → ((i : ℕ) → i < suc n → ValuesOk L M (tab i)) → First (suc n) (scan (suc n) .best)
-    kept-first zero ok =
-        let o = own-best L M p q (tab 0) (ok 0 (omega arith)) 0 in
-        subst (First 1) (earliest (scan 0 .best) (exactCandidate L M 0 (tab 0)) (omega (arith, o .listed)) ∙ sym (best-more 0)) (first-one (exactCandidate L M 0 (tab 0)) o)
+    -- one is kept of the first n positions, and it is the first best
+    pub record KeptFirst (n : ℕ) : Type 0 where
+      pub one : ExactCandidate
+      pub kept : scan n .best ≡ One one
+      pub first : First n one
+
+    pub kept-first : (n : ℕ) → ((i : ℕ) → i < suc n → ValuesOk L M (tab i)) → KeptFirst (suc n)
+    unfolding exactScanned emptyExact
+    kept-first zero ok = record { one = exactCandidate L M 0 (tab 0); kept = best-more 0; first = first-one (exactCandidate L M 0 (tab 0)) (own-best L M p q (tab 0) (ok 0 (omega arith)) 0) }
     kept-first (suc n) ok =
         let o = own-best L M p q (tab (suc n)) (ok (suc n) (omega arith)) (suc n) in
-        let F = kept-first n (λ i l. ok i (omega arith)) in
-        let kept = scan (suc n) .best in
+        let K = kept-first n (λ i l. ok i (omega arith)) in
+        let k = K .one in
         let c = exactCandidate L M (suc n) (tab (suc n)) in
-        let l : 0 < c .placing .listed = omega (arith, o .listed) in
-        ⊎-elim
-        (λ g. subst (First (suc (suc n))) (greater kept c l g ∙ sym (best-more (suc n))) (first-new (suc n) kept c F o g))
-        (λ g. subst (First (suc (suc n))) (stays kept c l g ∙ sym (best-more (suc n))) (first-old (suc n) kept c F o g))
-        (compared (kept .value) (c .value))
+        record {
+          one = betterOf k c;
+          kept = best-more (suc n) ∙ ap (λ (x : ExactKept). taken x c) (K .kept);
+          first =
+              ⊎-elim
+              (λ g. subst (First (suc (suc n))) (greater k c g) (first-new (suc n) k c (K .first) o g))
+              (λ g. subst (First (suc (suc n))) (stays k c g) (first-old (suc n) k c (K .first) o g))
+              (compared (k .value) (c .value));
+        }
 
     -- ---- the runner-up
     module _ (n : ℕ) (few : n ≤ 8) (ok : (i : ℕ) → i < n → ValuesOk L M (tab i)) (c : ExactCandidate) (F : First n c) where

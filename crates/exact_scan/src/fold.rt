@@ -4,8 +4,9 @@ ghost use Prim.Native.Nat.{_≤_, _<_};
 ghost use Rattle.best.specs.CellTables.{Period};
 ghost use Rattle.values.specs.Values.{byHits};
 ghost use Rattle.folding.specs.Transform.{BestOk};
-ghost use Rattle.exact_scan.specs.Exact.{valueTables, summaryBy, taken, emptyExact, foldExact, ExactReady};
+ghost use Rattle.exact_scan.specs.Exact.{valueTables, summaryBy, betterOf, taken, emptyExact, foldExact, ExactReady};
 use crate::kept::ExactCandidate;
+use crate::kept::ExactKept;
 use crate::kept::ExactScan;
 use board::edge::Placing;
 use folding::transform::Ranked;
@@ -26,12 +27,7 @@ pub fn empty_exact() -> ExactScan
     ensures { λ r. ⌜ r ≡ emptyExact ⌝ }
 {
     let positions = empty();
-    let placing = Placing {
-        listed: 0,
-        row: 0,
-        col: 0,
-    };
-    let best = ExactCandidate { value: 0, placing };
+    let best = ExactKept::Nobody;
     ExactScan { positions, best }
 }
 
@@ -54,17 +50,27 @@ fn summarize(
     summary(best, within, periods.v, transform)
 }
 
-// What is kept after the candidate of the list position c.placing.listed: the first one, then one of strictly greater value.
-fn take(kept: ExactCandidate, c: ExactCandidate) -> ExactCandidate
-    ensures { λ r. ⌜ r ≡ taken kept c ⌝ }
+// The better of two placings: the earlier one, unless the later one has a greater value.
+fn better(k: ExactCandidate, c: ExactCandidate) -> ExactCandidate
+    ensures { λ r. ⌜ r ≡ betterOf k c ⌝ }
 {
-    let placing = c.placing;
-    if placing.listed > 0 {
-        if c.value <= kept.value {
-            return kept;
-        }
+    if c.value <= k.value {
+        return k;
     }
     c
+}
+
+// What is kept after the placing c of the next list position.
+fn take(kept: ExactKept, c: ExactCandidate) -> ExactKept
+    ensures { λ r. ⌜ r ≡ taken kept c ⌝ }
+{
+    match kept {
+        ExactKept::Nobody => ExactKept::One(c),
+        ExactKept::One(k) => {
+            let best = better(k, c);
+            ExactKept::One(best)
+        }
+    }
 }
 
 // The transform at the next list position: its summary is stored, and its best origin is offered.
@@ -91,7 +97,8 @@ pub fn fold_values<'a>(
         col: origin.col,
     };
     let c = ExactCandidate { value, placing };
-    let best = take(scan.best, c);
+    let kept = scan.best;
+    let best = take(kept, c);
     let nobody = Kept::Nobody;
     let positions = push(old, s, nobody);
     ExactScan { positions, best }

@@ -10,10 +10,16 @@ pub struct ExactCandidate {
     pub placing: Placing,
 }
 
-// Up to eight transforms: their summaries and how many there are, as document 01's scan holds them (that scan keeps nobody), and the kept placing.
+// What is kept of the placings so far: nobody before the first transform.
+pub enum ExactKept {
+    Nobody,
+    One(ExactCandidate),
+}
+
+// Up to eight transforms: their summaries and how many there are, as document 01's scan holds them (that scan keeps nobody), and what is kept.
 pub struct ExactScan {
     pub positions: HardScan,
-    pub best: ExactCandidate,
+    pub best: ExactKept,
 }
 
 // The winner of a list: its hits, its weight in units, and where it is.

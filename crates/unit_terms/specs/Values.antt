@@ -1,5 +1,5 @@
 -- Request C-15: the units of a confidence, and hits and weight of edges in one number.
-use Prim.Native.Nat.{ℕ, _+_, _^_}
+use Prim.Native.Nat.{ℕ, _+_}
 use lib.IntN.{natAbs}
 use lib.Ieee.{Float}
 use Rattle.likelihood.specs.Likelihood.{quantised}
@@ -8,7 +8,11 @@ use Rattle.likelihood.specs.Likelihood.{quantised}
 unfoldable pub unitOf : Float → ℕ
 unitOf x = natAbs (quantised x)
 
--- what an edge of that confidence is worth: a hit, which counts for 2^38, and its units. A list has at most 2^13 edges of at most 2^24 units, so that all units of a
--- list are below what one hit counts for, and the order of sums of values is the order by hits and then by weight
+-- what one hit counts for in a value: 2^38. A list has at most 2^13 edges of at most 2^24 units, so that all units of a list are below it, and the order of sums of values is the order by hits and
+-- then by weight
+abbrev pub oneHit : ℕ
+oneHit = 274877906944
+
+-- what an edge of that confidence is worth: a hit, and its units
 unfoldable pub valueOf : Float → ℕ
-valueOf x = 2 ^ 38 + unitOf x
+valueOf x = oneHit + unitOf x

@@ -10,7 +10,7 @@ use lib.Ieee.Fits.{down-pos}
 use Rattle.laws.specs.Words.{Weight}
 use Rattle.likelihood.specs.Likelihood.{acceptable, halfUp, quantised}
 use Rattle.likelihood.specs.LikelihoodLaws.{Within, within-acceptable, half-le}
-use Rattle.unit_terms.specs.Values.{unitOf, valueOf}
+use Rattle.unit_terms.specs.Values.{unitOf, oneHit, valueOf}
 
 weight-within : (x : Float) → Weight x 1 → Within x
 weight-within (fin true m e) h = rw h (omega (arith, zero-mul (up e)))
@@ -44,6 +44,6 @@ pub unit-small : (x : Float) → Weight x 1 → unitOf x ≤ 2 ^ 24
 unfolding unitOf
 unit-small x h = quantised-weight x h .1
 
-pub value-is : (x : Float) → valueOf x ≡ 2 ^ 38 + unitOf x
+pub value-is : (x : Float) → valueOf x ≡ oneHit + unitOf x
 unfolding valueOf
 value-is x = refl

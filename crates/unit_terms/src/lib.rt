@@ -7,8 +7,8 @@ ghost use Rattle.terms.specs.Terms.{placesN, termC};
 ghost use Rattle.unit_terms.specs.Values.{valueOf};
 ghost use Rattle.unit_terms.specs.UnitTerms.{SixValues, valueRow, ValueTerms};
 
-// What a hit counts for before its units: more than the units of a whole list.
-const HIT: u64 = 274877906944;
+// What a hit counts for before its units, 2^38: more than the units of a whole list.
+pub const HIT: u64 = 274877906944;
 
 // The value of an edge with this confidence: a hit, and the confidence in units of 2^-24.
 pub fn value_of(confidence: f32) -> u64

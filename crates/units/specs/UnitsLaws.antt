@@ -13,6 +13,7 @@ use Rattle.board.specs.Sides.{onSide, tableOf, periodOf}
 use Rattle.board.specs.Domain.{ListOk}
 use Rattle.board.specs.HitsLaws.{hit-class}
 use Rattle.groups.specs.Groups.{confidenceAt, groupSum, groupCount}
+use Rattle.unit_terms.specs.Values.{oneHit}
 use Rattle.unit_terms.specs.ValuesLaws.{unit-small, value-is}
 use Rattle.cells.specs.Cells.{longClass, shortClass, cellSum, family, familyOf, familyC}
 use Rattle.tables.specs.CellsLaws.{cell-same, term-all, group-none, class-by-edges}
@@ -39,7 +40,7 @@ values-split x y w e p (suc n) = go (p n) (values-split x y w e p n)
     go false ih = ih
 
 module _ (E : EdgeList) where
-  pub value-at : (i : ℕ) → valueAt E i ≡ 2 ^ 38 + unitAt E i
+  pub value-at : (i : ℕ) → valueAt E i ≡ oneHit + unitAt E i
   value-at i = value-is (confidenceAt E i)
 
   module _ (list : ListOk E) where
@@ -52,7 +53,7 @@ module _ (E : EdgeList) where
 
     -- their values are far below 2^64
     pub values-few : (n : ℕ) (p : ℕ → Bool) → n ≤ size E → fold _+_ 0 n p (valueAt E) < 2 ^ 52
-    values-few n p h = omega (arith, values-split (valueAt E) (unitAt E) (2 ^ 38) value-at p n, units-few n p h, count-le p n, list .few)
+    values-few n p h = omega (arith, values-split (valueAt E) (unitAt E) (oneHit) value-at p n, units-few n p h, count-le p n, list .few)
 
 -- ---- the values are those of the edges
 module _ (B : Board) (E : EdgeList) (t : ℕ) where

@@ -21,6 +21,7 @@ use Rattle.board.specs.Domain.{ListOk, BoardOk}
 use Rattle.board.specs.HitsLaws.{side-some}
 use Rattle.cells.specs.Listed.{length-listed, getD-listed, view-listed}
 use Rattle.cells.specs.Cells.{width, cellCount}
+use Rattle.unit_terms.specs.Values.{oneHit}
 use Rattle.room.specs.Room.{cellsAt, used}
 use Rattle.room.specs.RoomLaws.{cells-in, laid-again, laid-cleared, laid-used, laid-same}
 use Rattle.tables.specs.TablesTheorems.{hCell, vCell}
@@ -29,28 +30,28 @@ use Rattle.units.specs.UnitsLaws.{values-split, value-at, units-few, val
 
 -- ---- hits and weight in one number, where the weight is less than one hit counts for
 -- they are read off it
-pub value-reads : (h w : ℕ) → w < 2 ^ 38 → ((h * 2 ^ 38 + w) / 2 ^ 38 ≡ h) × ((h * 2 ^ 38 + w) % 2 ^ 38 ≡ w)
+pub value-reads : (h w : ℕ) → w < oneHit → ((h * oneHit + w) / oneHit ≡ h) × ((h * oneHit + w) % oneHit ≡ w)
 value-reads h w few = (digits-div h few, digits-mod h few)
 
 -- THE ORDER OF VALUES IS THE ORDER BY HITS AND THEN BY WEIGHT
-pub value-order : (h w : ℕ → ℕ) → ((k : ℕ) → w k < 2 ^ 38) → (i j : ℕ) → above (λ k. h k * 2 ^ 38 + w k) i j ≡ lexBeats h (above w) i j
+pub value-order : (h w : ℕ → ℕ) → ((k : ℕ) → w k < oneHit) → (i j : ℕ) → above (λ k. h k * oneHit + w k) i j ≡ lexBeats h (above w) i j
 value-order h w few i j = go (apart (h j) (h i))
   where
-    level : h j ≡ h i → (w j < w i) ⊎ (w i ≤ w j) → ltb (h j * 2 ^ 38 + w j) (h i * 2 ^ 38 + w i) ≡ (ltb (h j) (h i) || (eqb (h i) (h j) && ltb (w j) (w i)))
-    level e (inl l) = lt-ltb (h j * 2 ^ 38 + w j) (h i * 2 ^ 38 + w i) (omega arith) ∙ sym (rw (le-ltb (h j) (h i) (omega arith), eq-eqb (h i) (h j) (sym e), lt-ltb (w j) (w i) l))
-    level e (inr l) = le-ltb (h j * 2 ^ 38 + w j) (h i * 2 ^ 38 + w i) (omega arith) ∙ sym (rw (le-ltb (h j) (h i) (omega arith), eq-eqb (h i) (h j) (sym e), le-ltb (w j) (w i) l))
+    level : h j ≡ h i → (w j < w i) ⊎ (w i ≤ w j) → ltb (h j * oneHit + w j) (h i * oneHit + w i) ≡ (ltb (h j) (h i) || (eqb (h i) (h j) && ltb (w j) (w i)))
+    level e (inl l) = lt-ltb (h j * oneHit + w j) (h i * oneHit + w i) (omega arith) ∙ sym (rw (le-ltb (h j) (h i) (omega arith), eq-eqb (h i) (h j) (sym e), lt-ltb (w j) (w i) l))
+    level e (inr l) = le-ltb (h j * oneHit + w j) (h i * oneHit + w i) (omega arith) ∙ sym (rw (le-ltb (h j) (h i) (omega arith), eq-eqb (h i) (h j) (sym e), le-ltb (w j) (w i) l))
 
-    go : (h j ≡ h i) ⊎ ((h j < h i) ⊎ (h i < h j)) → ltb (h j * 2 ^ 38 + w j) (h i * 2 ^ 38 + w i) ≡ (ltb (h j) (h i) || (eqb (h i) (h j) && ltb (w j) (w i)))
+    go : (h j ≡ h i) ⊎ ((h j < h i) ⊎ (h i < h j)) → ltb (h j * oneHit + w j) (h i * oneHit + w i) ≡ (ltb (h j) (h i) || (eqb (h i) (h j) && ltb (w j) (w i)))
     go (inl e) = level e (compared (w j) (w i))
-    go (inr (inl l)) = lt-ltb (h j * 2 ^ 38 + w j) (h i * 2 ^ 38 + w i) (omega (arith, few j)) ∙ sym (rw (lt-ltb (h j) (h i) l))
-    go (inr (inr l)) = le-ltb (h j * 2 ^ 38 + w j) (h i * 2 ^ 38 + w i) (omega (arith, few i)) ∙ sym (rw (le-ltb (h j) (h i) (omega arith), ne-eqb (h i) (h j) (λ e. omega arith)))
+    go (inr (inl l)) = lt-ltb (h j * oneHit + w j) (h i * oneHit + w i) (omega (arith, few j)) ∙ sym (rw (lt-ltb (h j) (h i) l))
+    go (inr (inr l)) = le-ltb (h j * oneHit + w j) (h i * oneHit + w i) (omega (arith, few i)) ∙ sym (rw (le-ltb (h j) (h i) (omega arith), ne-eqb (h i) (h j) (λ e. omega arith)))
 
 -- ---- one cell
 module _ (B : Board) (E : EdgeList) (t : ℕ) (s : Bool) (k : ℕ) where
   -- A VALUE IS HITS AND WEIGHT: the cell's count times 2^38, and its units
-  pub value-splits : cellValue B E t s k ≡ cellCount B E t s k * 2 ^ 38 + cellUnits B E t s k
+  pub value-splits : cellValue B E t s k ≡ cellCount B E t s k * oneHit + cellUnits B E t s k
   unfolding cellValue cellUnits cellCount sideSum sideHits
-  value-splits = values-split (valueAt E) (unitAt E) (2 ^ 38) (value-at E) _ (size E)
+  value-splits = values-split (valueAt E) (unitAt E) (oneHit) (value-at E) _ (size E)
 
   module _ (list : ListOk E) where
     -- and is below 2^52
@@ -89,9 +90,9 @@ module _ (B : Board) (E : EdgeList) (t : ℕ) (ok : BoardOk B) (r c : ℕ) where
       ∙ sym (sum-by-class (valueAt E) B E t (side-some B ok) r c)
 
   -- and so its hits and its weight
-  pub pair-splits : cellValue B E t true (hCell B r c) + cellValue B E t false (vCell B r c) ≡ hits B E t r c * 2 ^ 38 + fold _+_ 0 (size E) (hit B E t r c) (unitAt E)
+  pub pair-splits : cellValue B E t true (hCell B r c) + cellValue B E t false (vCell B r c) ≡ hits B E t r c * oneHit + fold _+_ 0 (size E) (hit B E t r c) (unitAt E)
   unfolding hits
-  pair-splits = pair-value ∙ values-split (valueAt E) (unitAt E) (2 ^ 38) (value-at E) (hit B E t r c) (size E)
+  pair-splits = pair-value ∙ values-split (valueAt E) (unitAt E) (oneHit) (value-at E) (hit B E t r c) (size E)
 
 -- ---- the same by the tables
 module _ (B : Board) (E : EdgeList) (t : ℕ) (ok : BoardOk B) where

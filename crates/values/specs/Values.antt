@@ -5,13 +5,10 @@ use Prim.Native.Nat.{ℕ, _+_, _/_, _%_}
 use lib.Dec.{eqb}
 use lib.ListN.{getD, length}
 use Rattle.laws.specs.Words.{count, firstBest, above, second, Grid, origins, zeroF}
+use Rattle.unit_terms.specs.Values.{oneHit}
 use Rattle.grid.specs.RowMajor.{rowMajor}
 use Rattle.best.specs.declared.lex.LexMax.{LexMax}
 use Rattle.values.specs.declared.table.ValueMax.{ValueMax}
-
--- what one hit adds to a value
-abbrev pub oneHit : ℕ
-oneHit = 274877906944
 
 -- the hits of a value, and its weight
 abbrev pub hitsOf : ℕ → ℕ

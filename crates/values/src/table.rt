@@ -5,9 +5,7 @@ ghost use lib.ListN.{length};
 ghost use Rattle.values.specs.Values.{hitsOf, weightOf, valueBest, valueAround, valueOf, byHits};
 ghost use Rattle.values.specs.ValuesLaws.{Top};
 use best::lex::LexMax;
-
-// What one hit adds to a value: 2^38, more than all weights of a list together.
-const ONE_HIT: u64 = 274877906944;
+use unit_terms::HIT;
 
 // What one table says: the first cell of greatest value, that value, how many cells have it, how many have as many hits, and the first best of the other cells by hits, with its hits.
 pub struct ValueMax {
@@ -23,14 +21,14 @@ pub struct ValueMax {
 pub fn hits_of(value: u64) -> u64
     ensures { λ r. ⌜ r ≡ hitsOf value ⌝ }
 {
-    value / ONE_HIT
+    value / HIT
 }
 
 // The weight of a value, in units.
 pub fn weight_of(value: u64) -> u64
     ensures { λ r. ⌜ r ≡ weightOf value ⌝ }
 {
-    value % ONE_HIT
+    value % HIT
 }
 
 // The first cell of greatest value.

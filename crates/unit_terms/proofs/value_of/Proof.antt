@@ -7,7 +7,7 @@ use lib.Ieee.{Float}
 use mir.Syntax.{w64}
 use Rattle.laws.specs.Signed.{read, read-at}
 use Rattle.likelihood.specs.Signs.{cast-size}
-use Rattle.unit_terms.specs.Values.{unitOf}
+use Rattle.unit_terms.specs.Values.{unitOf, oneHit}
 use Rattle.unit_terms.specs.ValuesLaws.{weight-acceptable, quantised-unit, unit-small, value-is}
 use Rattle.unit_terms.proofs.value_of.Statement.{statement}
 use Rattle.unit_terms.proofs.value_of.Tie as tie
@@ -33,7 +33,7 @@ add-result : tie.Need-add-result
 add-result c = omega (arith, few c, ap natAbs (back c))
 
 returns : tie.Need-returns
-returns c = ap (λ z. 274877906944 + natAbs z) (back c) ∙ sym (value-is (x c))
+returns c = ap (λ z. oneHit + natAbs z) (back c) ∙ sym (value-is (x c))
 
 pub value-of-spec : {M : Type 1} → statement M
 value-of-spec = tie.close (tie.spec quantize-ll-requires cast-units add-result returns)

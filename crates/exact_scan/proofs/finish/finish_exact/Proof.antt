@@ -1,44 +1,29 @@
-use mathlib.Core.Path.{sym, _∙_}
-use Rattle.exact_scan.specs.ExactLaws.{finish-over, finish-within}
+use Rattle.exact_scan.specs.Exact.{finished}
 use borrow.Author.Needs.{needs}
 use Rattle.exact_scan.proofs.finish.finish_exact.Statement.{statement}
 use Rattle.exact_scan.proofs.finish.finish_exact.Tie as tie
 
-hits-of-requires : tie.Need-hits-of-requires
-hits-of-requires c κs = search needs
+enum-told : tie.Need-enum-told
+enum-told c = search needs
 
-cast-hits : tie.Need-cast-hits
-cast-hits c = search needs
+none-within-requires : tie.Need-none-within-requires
+none-within-requires c κs = search needs
 
-over-limit-requires : tie.Need-over-limit-requires
-over-limit-requires c κs = search needs
+enum-known-kept : tie.Need-enum-known-kept
+enum-known-kept c = search needs
+
+finish-one-requires : tie.Need-finish-one-requires
+finish-one-requires c κs = rw (c .before .kept .given .1) at (c .before .before .before .pre)
 
 returns : tie.Need-returns
-returns c =
-    let s = c .before .before .before .before in
-    let h = c .before .before .hits-of in
-    finish-over (s .args .edges) (s .args .error-limit) (s .args .scan) (h .result) (h .ensures) (sym (c .before .over-limit .ensures) ∙ c .if1 .taken)
-
-weight-of-requires : tie.Need-weight-of-requires
-weight-of-requires c κs = search needs
-
-runner-up-requires : tie.Need-runner-up-requires
-runner-up-requires c κs = search needs
+unfolding finished
+returns c = rw (c .before .enum-told .given .1, c .none-within .ensures)
 
 returns-2 : tie.Need-returns-2
-returns-2 c =
-    let s = c .before .before .before .before .before .before .before in
-    let h = c .before .before .before .before .before .hits-of in
-    finish-within (s .args .edges) (s .args .error-limit) (s .args .scan) (h .result) (h .ensures) (c .before .before .weight-of .result) (c .runner-up .result) (sym (c .before .before .before .before .over-limit .ensures) ∙ c .before .before .before .if1 .left) (c .before .before .weight-of .ensures) (c .runner-up .ensures)
+unfolding finished
+returns-2 c = rw (c .before .before .kept .given .1, c .finish-one .ensures)
 
 pub finish-exact-spec : {M : Type 1} → statement M
 finish-exact-spec =
     tie.close
-    (tie.spec
-    hits-of-requires
-    cast-hits
-    over-limit-requires
-    returns
-    weight-of-requires
-    runner-up-requires
-    returns-2)
+    (tie.spec enum-told none-within-requires enum-known-kept finish-one-requires returns returns-2)

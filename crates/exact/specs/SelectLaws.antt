@@ -39,6 +39,10 @@ use Rattle.exact_scan.specs.declared.kept.ExactSelection.the-variants.{Refused}
 use Rattle.exact.specs.Select.{unitsTo, noUnits, UnitsToReady, valueTablesOf, builtAt, exactScanOf, exactSelection, ExactSelectReady, ValueRoom, valuesTo, ExactDone}
 
 -- ---- the unit sum
+-- the weight of an edge's value is its units
+pub value-weight : (x : Float) → Weight x 1 → weightOf (valueOf x) ≡ unitOf x
+value-weight x w = omega (arith, value-is x, unit-small x w)
+
 module _ (cs : List Float) where
   pub units-none : unitsTo cs 0 ≡ 0
   unfolding unitsTo
@@ -47,10 +51,7 @@ module _ (cs : List Float) where
   -- one confidence more, by the weight of its value
   pub units-more : (n s : ℕ) → Weight (getD cs n nan) 1 → s ≡ unitsTo cs n → s + weightOf (valueOf (getD cs n nan)) ≡ unitsTo cs (n + 1)
   unfolding unitsTo
-  units-more n s w e =
-      let x = getD cs n nan in
-      let u : weightOf (valueOf x) ≡ unitOf x = omega (arith, value-is x, unit-small x w) in
-      ap₂ _+_ e u ∙ sym (fold-hit _+_ 0 all (λ i. unitOf (getD cs i nan)) n refl)
+  units-more n s w e = ap₂ _+_ e (value-weight (getD cs n nan) w) ∙ sym (fold-hit _+_ 0 all (λ i. unitOf (getD cs i nan)) n refl)
 
   pub units-small : UnitsToReady cs → (n : ℕ) → n ≤ length cs → unitsTo cs n ≤ n * 2 ^ 24
   unfolding unitsTo fold

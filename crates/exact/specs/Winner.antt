@@ -9,9 +9,13 @@ use Rattle.board.specs.Hits.{EdgeList, Board, size, hit, hitsAt}
 use Rattle.units.specs.Units.{unitAt}
 use Rattle.demand.specs.Demand.{OnBoard}
 
--- the weight of a placing, in units: the units of the edges that are its hits
+-- the weight of the square at (row, col) under the transform t, in units: the units of the edges that are hits there
+abbrev pub weightOfSquare : Board → EdgeList → ℕ → ℕ → ℕ → ℕ
+weightOfSquare B E t row col = fold _+_ 0 (size E) (hit B E t row col) (unitAt E)
+
+-- the weight of a placing: that of its square
 abbrev pub weightAt : Board → EdgeList → List ℕ → Placing → ℕ
-weightAt B E ts P = fold _+_ 0 (size E) (hit B E (getD ts (P .listed) 0) (P .row) (P .col)) (unitAt E)
+weightAt B E ts P = weightOfSquare B E (getD ts (P .listed) 0) (P .row) (P .col)
 
 -- the winner of a list: the placing, over all list positions and all origins, with most hits, then most weight, then the earliest list position, then row, then column
 pub record IsWinner (B : Board) (E : EdgeList) (ts : List ℕ) (P : Placing) : Type 0 where

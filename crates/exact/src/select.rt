@@ -18,7 +18,7 @@ use unit_terms::value_of;
 use values::table::weight_of;
 
 // The total confidence of a list in units of 2^-24: the weights of its edges' values, added up.
-fn unit_sum(confidences: &[f32]) -> u64
+pub fn unit_sum(confidences: &[f32]) -> u64
     requires { ⌜ UnitsToReady (now confidences) ⌝ }
     ensures { λ r. ⌜ r ≡ unitsTo (now (confidences .entry)) (length (now (confidences .entry))) ⌝ }
 {

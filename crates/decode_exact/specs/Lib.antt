@@ -1,0 +1,2 @@
+pub mod ExactAnswer
+pub mod ExactAnswerLaws

@@ -1,0 +1,3 @@
+pub mod ExactCore
+pub mod ExactReady
+pub mod ExactCoreLaws

@@ -1,12 +1,12 @@
 -- Laws of an accepted exact call: the ways in which it ends, and that its promise determines the result.
-use mathlib.Core.Path.{_≡_, refl, sym, ap, subst, _∙_}
+use mathlib.Core.Path.{_≡_, refl, sym, ap, ap₂, subst, _∙_}
 use mathlib.Core.List.{List}
 use Prim.Native.Nat.{ℕ, _≤_}
 use native.Mathlib.Nat.{le-trans, le-of-eq}
-use lib.ListN.{length}
-use lib.Ieee.{Float}
+use lib.ListN.{getD, length}
 use Rattle.laws.specs.Words.{oneF}
 use Rattle.laws.specs.Cleared.{SameBeyond, beyond-trans}
+use Rattle.board.specs.Hits.{EdgeList, Board, size}
 use Rattle.room.specs.Room.{tablesRoom}
 use Rattle.refusals.specs.declared.Refusal.{Refusal}
 use Rattle.admission.specs.Calls.{HardCall}
@@ -19,8 +19,14 @@ use Rattle.exact.specs.Select.{exactSelection, ExactDone}
 use Rattle.exact.specs.SelectLaws.{exact-beyond, exact-unique}
 use Rattle.exact_answer.specs.declared.ExactAnswer.{ExactAnswer}
 use Rattle.exact_answer.specs.declared.ExactAnswer.the-variants.{Refused}
-use Rattle.exact_core.specs.ExactCore.{judgedWinners, exactAfterPhysical, exactAfterLogical, exactCore, PhysicalValues, ExactCoreRoom, ExactCoreDone}
+use Rattle.exact_verdict.specs.ExactVerdict.{exactJudged}
+use Rattle.exact_core.specs.ExactCore.{totalUnits, runnerWeight, judgedWinners, exactAfterPhysical, exactAfterLogical, exactCore, PhysicalValues, ExactCoreRoom, ExactCoreDone}
 use Rattle.exact_core.specs.ExactReady.{ready-logical, ready-physical}
+
+-- ---- the winners judged, with the total and the runner-up's weight that were counted
+pub winners-judged : (B : Board) (L : EdgeList) (ts : List ℕ) (w : ExactWinner) (runner : RunnerUp) (p : ExactWinner) (total weight : ℕ) (a : ExactAnswer) → total ≡ totalUnits L → weight ≡ runnerWeight B L runner
+    → a ≡ exactJudged (getD ts (w .placing .listed) 0) w runner (getD ts (p .placing .listed) 0) p (size L) total weight → a ≡ judgedWinners B L ts w runner p
+winners-judged B L ts w runner p total weight a t r e = e ∙ ap₂ (λ (x y : ℕ). exactJudged (getD ts (w .placing .listed) 0) w runner (getD ts (p .placing .listed) 0) p (size L) x y) t r
 
 -- ---- the three ways in which the core ends
 module _ (call : HardCall) (m n : ℕ) (A : HardAccepted call m n) (u : List ℕ) (room : tablesRoom (call .board) ≤ length u) where

@@ -15,8 +15,8 @@
  * Boards. The vertical pattern table has 167 bytes. The horizontal one has L: 167 on the flat board, and on a target that is wrapped round a pole any
  * L from 4 to 500 that is no multiple of 3. Rows of an origin go from 0 to 3L - 1, where row 0 comes next (the seam), columns from 0 to 500.
  *
- * Refusals. `refusal` is 0 when found. On a refusal every field but `refusal`, `list` and `position` is SAMBUREXT_NOTHING or NaN:
- * there is no square in it. Refusals 4, 16, 17, 5 and 6 are about an edge: `list` is a number of samburext_list, and `position` is the
+ * Refusals. `refusal` is 0 when found. On a refusal every field but `refusal`, `list` and `position` is SAMBUREXT_NOTHING, SAMBUREXT_NO_WEIGHT
+ * or NaN: there is no square in it. Refusals 4, 16, 17, 5 and 6 are about an edge: `list` is a number of samburext_list, and `position` is the
  * place of the first bad edge of that kind in that list, counting from 0; where both lists have one, the logical list's. `list` and
  * `position` are both SAMBUREXT_NOTHING after every other refusal, which is about no edge, and in a found answer.
  * After refusals 1 to 9, 16 and 17 the room is untouched; after every other call its used part is zero. A surplus never changes.
@@ -33,8 +33,9 @@ extern "C" {
 
 /* The number of a function's form is part of its name in the library, so that a program which was compiled for another form does not link: the
    structs of another form have other fields. A program calls the functions by the names without a number. Hard and soft decode are in their
-   third form; match statistics are in their second, since their struct stayed what it was. */
+   third form, in which exact decode came; match statistics are in their second, since their struct stayed what it was. */
 #define samburext_decode_hard samburext_decode_hard_3
+#define samburext_decode_exact samburext_decode_exact_3
 #define samburext_decode_soft samburext_decode_soft_3
 #define samburext_match_stats samburext_match_stats_2
 
@@ -49,12 +50,14 @@ extern "C" {
 /* The least lengths of the room slices where the horizontal pattern table has L bytes; what they hold before has no influence. Longer slices are
    taken too: room for SAMBUREXT_MAX_POLE_LENGTH serves every board. */
 #define SAMBUREXT_ROOM_COUNTS_FOR(L) (9 * (L) + 1503)  /* u32 */
-#define SAMBUREXT_ROOM_WEIGHTS_FOR(L) (9 * (L) + 1503) /* f32 */
+#define SAMBUREXT_ROOM_WEIGHTS_FOR(L) (9 * (L) + 1503) /* f32, hard and soft decode */
+#define SAMBUREXT_ROOM_UNITS_FOR(L) (9 * (L) + 1503)   /* u64, exact decode alone */
 #define SAMBUREXT_ROOM_SUMS_FOR(L) (15 * (L) + 2505)   /* i64, soft decode alone */
 
 /* The same for the flat board. */
 #define SAMBUREXT_ROOM_COUNTS SAMBUREXT_ROOM_COUNTS_FOR(SAMBUREXT_TABLE_LENGTH)   /* 3,006 */
 #define SAMBUREXT_ROOM_WEIGHTS SAMBUREXT_ROOM_WEIGHTS_FOR(SAMBUREXT_TABLE_LENGTH) /* 3,006 */
+#define SAMBUREXT_ROOM_UNITS SAMBUREXT_ROOM_UNITS_FOR(SAMBUREXT_TABLE_LENGTH)     /* 3,006 */
 #define SAMBUREXT_ROOM_SUMS SAMBUREXT_ROOM_SUMS_FOR(SAMBUREXT_TABLE_LENGTH)       /* 5,010 */
 
 #define SAMBUREXT_TABLE_LENGTH 167    /* bytes of the vertical pattern table, and of the flat board's horizontal one, each 0 to 7 */
@@ -66,6 +69,8 @@ extern "C" {
 #define SAMBUREXT_BOARD_SQUARES 501   /* columns of an origin go from 0 to one less, and on the flat board rows too */
 #define SAMBUREXT_BOARD_ROWS_FOR(L) (3 * (L)) /* rows of an origin go from 0 to one less, where the horizontal pattern table has L bytes */
 #define SAMBUREXT_NOTHING 0xFFFFFFFFu /* a whole number that an answer does not have */
+#define SAMBUREXT_NO_WEIGHT UINT64_C(0xFFFFFFFFFFFFFFFF) /* a weight that an answer does not have */
+#define SAMBUREXT_UNITS 16777216      /* units of weight in a confidence of 1: 2^24. No list weighs more than 2^37 */
 
 /* Why a call was refused: of 1, 2, 3, 4, 16, 17, 5, 6, 7, 8, 9 the first in this order that applies, over all lists, else one of
    10 to 15. In earlier versions 4 stood for 16 and 17 too: a program that tests for 4 must now also know these two. */
@@ -82,7 +87,7 @@ enum samburext_refusal {
     SAMBUREXT_BAD_TRANSFORM = 7,        /* no transforms, more than eight, or one above 7 */
     SAMBUREXT_BAD_TABLE = 8,            /* the horizontal table has no pole length, the vertical one not 167 bytes, or a byte is above 7 */
     SAMBUREXT_BAD_SETTING = 9,          /* error limit or soft margin out of range, or a given origin's row from 3L or column from 501 on */
-    SAMBUREXT_NO_CONFIDENCE = 10,       /* a list has no confidence at all */
+    SAMBUREXT_NO_CONFIDENCE = 10,       /* a list has no confidence at all; to exact decode, none of 2^-25 or more: what is below counts as 0 there */
     SAMBUREXT_NONE_WITHIN_LIMIT = 11,   /* no listed transform comes within the error limit */
     SAMBUREXT_LISTS_DISAGREE = 12,      /* the logical and the physical list point to different squares */
     SAMBUREXT_NOT_FAR_AHEAD = 13,       /* the best square is not far enough ahead of the next */
@@ -92,7 +97,7 @@ enum samburext_refusal {
 
 /* The lists by number. A call with one list has the only one. */
 enum samburext_list {
-    SAMBUREXT_LOGICAL_LIST = 1,  /* the logical list of hard and soft decode */
+    SAMBUREXT_LOGICAL_LIST = 1,  /* the logical list of hard, exact and soft decode */
     SAMBUREXT_PHYSICAL_LIST = 2, /* their physical list, with its likelihoods */
     SAMBUREXT_ONLY_LIST = 3      /* the list of match statistics */
 };
@@ -117,6 +122,29 @@ typedef struct samburext_answer {
     uint32_t runner_up_hits;      /* and its hits */
     uint32_t margin_hits;         /* hits ahead of the runner-up: hits - runner_up_hits */
 } samburext_answer;
+
+/* The answer of exact decode. Weights are whole numbers of units, and a unit is a confidence of 2^-24: each confidence counts as the nearest whole
+   number of units, a half as the one above, and these are added without rounding. Fourteen fields of four bytes stand before three of eight, so
+   there are no unused bytes between or after them. */
+typedef struct samburext_exact_answer {
+    uint32_t refusal;             /* 0 when found, else a number of samburext_refusal */
+    uint32_t list;                /* the list of the edge that the refusal is about: a number of samburext_list, or SAMBUREXT_NOTHING */
+    uint32_t position;            /* the place of that edge in its list, counting from 0, or SAMBUREXT_NOTHING */
+    uint32_t transform;           /* the transform's number, 0 to 7 */
+    uint32_t row;                 /* the origin's row on the board, 0 to 3L - 1: 500 on the flat board */
+    uint32_t col;                 /* the origin's column, 0 to 500 */
+    uint32_t hits;                /* edges of the logical list whose bit is the one that the board predicts there */
+    uint32_t edges;               /* edges of the logical list */
+    float error_rate;             /* misses over edges */
+    uint32_t runner_up_transform; /* the best competitor by hits on the logical list: its transform, */
+    uint32_t runner_up_row;       /* its row, */
+    uint32_t runner_up_col;       /* its column */
+    uint32_t runner_up_hits;      /* and its hits */
+    uint32_t margin_hits;         /* hits ahead of the runner-up: hits - runner_up_hits */
+    uint64_t weight;              /* units of the hits */
+    uint64_t total;               /* units of all edges of the logical list */
+    uint64_t runner_up_weight;    /* units of the runner-up's hits; may be more than `weight`, since hits come first */
+} samburext_exact_answer;
 
 /* The answer of soft decode. Each score and the margin is a log likelihood, each .._hits a count of edges: to subtract one from the other gives
    nothing. The second is second by likelihood on the physical list, the runner-up is second by hits on the logical one; they may be two
@@ -174,6 +202,27 @@ samburext_answer samburext_decode_hard(
     float error_limit,                                   /* the largest error rate that is taken, 0 to 1 */
     uint32_t *counts, size_t counts_length,              /* room, at least SAMBUREXT_ROOM_COUNTS_FOR(horizontal_length) */
     float *weights, size_t weights_length);              /* room, at least SAMBUREXT_ROOM_WEIGHTS_FOR(horizontal_length) */
+
+/* Exact decode: the square by hits and, where hits are equal, by weights that add without rounding. The logical list decides, with the error limit; the
+   physical list must agree. Lists, tables and refusals are hard decode's, but for 10, which is given where all confidences of a list are below
+   2^-25. Where both modes find a square, it is the same one. Room is u32 and u64: the counts are asked for and left zero, as in hard decode. */
+samburext_exact_answer samburext_decode_exact(
+    const int32_t *logical_rows, size_t logical_rows_length,                 /* the logical list: rows */
+    const int32_t *logical_columns, size_t logical_columns_length,           /* its columns */
+    const uint8_t *logical_orientations, size_t logical_orientations_length, /* its orientations, 0 or 1 */
+    const uint8_t *logical_bits, size_t logical_bits_length,                 /* its bits, 0 or 1 */
+    const float *logical_confidences, size_t logical_confidences_length,     /* its confidences, 0 to 1 */
+    const int32_t *physical_rows, size_t physical_rows_length,                 /* the physical list: rows */
+    const int32_t *physical_columns, size_t physical_columns_length,           /* its columns */
+    const uint8_t *physical_orientations, size_t physical_orientations_length, /* its orientations */
+    const uint8_t *physical_bits, size_t physical_bits_length,                 /* its bits */
+    const float *physical_confidences, size_t physical_confidences_length,     /* its confidences */
+    const uint8_t *transforms, size_t transforms_length, /* 1 to 8 transform numbers in search order, each 0 to 7 */
+    const uint8_t *horizontal, size_t horizontal_length, /* the horizontal pattern table: L bytes, each 0 to 7, of a pole length L; 167 on the flat board */
+    const uint8_t *vertical, size_t vertical_length,     /* the vertical pattern table: 167 bytes, each 0 to 7 */
+    float error_limit,                                   /* the largest error rate that is taken, 0 to 1 */
+    uint32_t *counts, size_t counts_length,              /* room, at least SAMBUREXT_ROOM_COUNTS_FOR(horizontal_length) */
+    uint64_t *units, size_t units_length);               /* room, at least SAMBUREXT_ROOM_UNITS_FOR(horizontal_length) */
 
 /* Soft decode: the square by the likelihoods of the physical list; the hits of the logical list must confirm it.
    The logical list comes first, as in hard decode. In earlier versions the physical list and its likelihoods came first: a program

@@ -1,9 +1,10 @@
-/* A window of a small made-up board, decoded by hits (hard) and by likelihoods (soft): each once as it is, and once so that it is refused, by an
- * error limit that no call takes and by a soft margin that no window has; and once more by hits, with one bit that is none. It prints all five
- * answers whole, so that what a refusal holds can be seen, and how the window fits its square; and last a window of a target that is wrapped round a
- * pole. Compiled and run by .ci/tests/boundary, which compares what it prints. */
+/* A window of a small made-up board, decoded by hits (hard), by hits and weights that add without rounding (exact) and by likelihoods (soft): each
+ * once as it is, and once so that it is refused, by an error limit that no call takes, by confidences that are too small to weigh anything, and by
+ * a soft margin that no window has; and once more by hits, with one bit that is none. It prints all seven answers whole, so that what a refusal
+ * holds can be seen, and how the window fits its square; and last a window of a target that is wrapped round a pole. Compiled and run by .ci/tests/boundary, which compares what it prints. */
 #include "samburext.h"
 
+#include <inttypes.h>
 #include <stdio.h>
 
 enum { CORNERS = 12, EDGES = 2 * CORNERS * (CORNERS - 1), ROW = 123, COLUMN = 456, POLE = 200, POLE_ROW = 3 * POLE - 5 };
@@ -14,6 +15,7 @@ static uint8_t orientations[EDGES], bits[EDGES];
 static float confidences[EDGES], matches[EDGES], mismatches[EDGES];
 static uint32_t counts[SAMBUREXT_ROOM_COUNTS_FOR(POLE)]; /* the longer board's room serves both */
 static float weights[SAMBUREXT_ROOM_WEIGHTS_FOR(POLE)];
+static uint64_t units[SAMBUREXT_ROOM_UNITS];
 static int64_t sums[SAMBUREXT_ROOM_SUMS];
 static const uint8_t transforms[] = {0, 1, 2, 3};
 
@@ -60,6 +62,8 @@ static const char *float_or_nan(float x, char text[32])
 
 static void print_whole(const char *name, uint32_t x) { printf("  %s %u\n", name, (unsigned)x); }
 
+static void print_weight(const char *name, uint64_t x) { printf("  %s %" PRIu64 "\n", name, x); }
+
 static void print_float(const char *name, float x)
 {
     char text[32];
@@ -87,6 +91,29 @@ static void print_hard(const samburext_answer *a)
     print_whole("runner_up_col", a->runner_up_col);
     print_whole("runner_up_hits", a->runner_up_hits);
     print_whole("margin_hits", a->margin_hits);
+}
+
+/* Weights are whole numbers here: SAMBUREXT_UNITS of them are a confidence of 1. */
+static void print_exact(const samburext_exact_answer *a)
+{
+    printf("exact: %s\n", a->refusal == SAMBUREXT_FOUND ? "found" : "refused");
+    print_whole("refusal", a->refusal);
+    print_whole("list", a->list);
+    print_whole("position", a->position);
+    print_whole("transform", a->transform);
+    print_whole("row", a->row);
+    print_whole("col", a->col);
+    print_whole("hits", a->hits);
+    print_whole("edges", a->edges);
+    print_float("error_rate", a->error_rate);
+    print_whole("runner_up_transform", a->runner_up_transform);
+    print_whole("runner_up_row", a->runner_up_row);
+    print_whole("runner_up_col", a->runner_up_col);
+    print_whole("runner_up_hits", a->runner_up_hits);
+    print_whole("margin_hits", a->margin_hits);
+    print_weight("weight", a->weight);
+    print_weight("total", a->total);
+    print_weight("runner_up_weight", a->runner_up_weight);
 }
 
 /* Scores and the margin are log likelihoods here; the second by these is another square than the runner-up by hits. */
@@ -135,6 +162,23 @@ static void hard_and_print(float error_limit)
     print_edge(answer.refusal, answer.list, answer.position);
 }
 
+static void exact_and_print(void)
+{
+    samburext_exact_answer answer = samburext_decode_exact(
+        rows, EDGES, columns, EDGES, orientations, EDGES, bits, EDGES, confidences, EDGES, /* the logical list */
+        rows, EDGES, columns, EDGES, orientations, EDGES, bits, EDGES, confidences, EDGES, /* the physical list: the same */
+        transforms, sizeof transforms, horizontal, sizeof horizontal, vertical, sizeof vertical, 0.1f,
+        counts, SAMBUREXT_ROOM_COUNTS, units, SAMBUREXT_ROOM_UNITS);
+    print_exact(&answer);
+    print_edge(answer.refusal, answer.list, answer.position);
+}
+
+static void set_confidences(float confidence)
+{
+    for (int i = 0; i < EDGES; i++)
+        confidences[i] = confidence;
+}
+
 static void soft_and_print(float soft_margin)
 {
     samburext_soft_answer answer = samburext_decode_soft(
@@ -153,6 +197,10 @@ int main(void)
     fill_window(horizontal, SAMBUREXT_TABLE_LENGTH, ROW);
     hard_and_print(0.1f);
     hard_and_print(1.5f);
+    exact_and_print();
+    set_confidences(1e-9f); /* below 2^-25, which is no unit */
+    exact_and_print();
+    set_confidences(0.75f);
     soft_and_print(0.02f);
     soft_and_print(100.0f);
     bits[41] += 2; /* a slip of whoever wrote the list */

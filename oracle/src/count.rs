@@ -1,6 +1,6 @@
-//! What document 01 says of a call on a board of any pole length, as request C-13 has it, worked out by counting: hits and likelihoods edge by edge at every placing, that is,
-//! at every listed transform and each of 3L by 501 origins. No class table is built, and nothing of the given files or of the library is used. What ties in hits leave to
-//! weights goes by document 01's order of rounding (`weights`).
+//! What document 01 says of a call on a board of any pole length, as request C-13 has it, and request C-15 of a call of the exact mode, worked out by counting: hits, likelihoods
+//! and units edge by edge at every placing, that is, at every listed transform and each of 3L by 501 origins. No class table is built, and nothing of the given files or of the
+//! library is used. What ties in hits leave to weights goes by document 01's order of rounding (`weights`), and in the exact mode by the units of the hits, added up.
 
 use crate::file;
 use crate::{Edge, Found, Selected, Soft, Square, Stats, MATRICES};
@@ -123,17 +123,27 @@ impl Board {
 /// An origin: its row and its column.
 type Origin = (usize, usize);
 
-/// One list under one transform.
-struct Placed<'a> {
+/// One list under one transform, by hits: those of every origin, the most, how many origins have them, and which of these is best by its weights.
+struct Ranked<'a> {
     board: &'a Board,
     hits: Vec<i64>,
-    horizontal: Vec<[f32; 3]>,
-    vertical: Vec<[f32; 3]>,
-    /// The most hits, how many origins have them, how many of these also have the largest weight on each side, and the first such origin.
     most: i64,
     tied: usize,
-    optimal: usize,
     best: Origin,
+}
+
+/// The same with document 01's weights, which are rounded: those of each side's classes, and how many of the origins with the most hits also have the largest on each side.
+struct Placed<'a> {
+    ranked: Ranked<'a>,
+    horizontal: Vec<[f32; 3]>,
+    vertical: Vec<[f32; 3]>,
+    optimal: usize,
+}
+
+/// The same with request C-15's weights: at every origin the units of the edges that are its hits.
+struct Weighed<'a> {
+    ranked: Ranked<'a>,
+    units: Vec<i64>,
 }
 
 /// All origins of a board, row by row.
@@ -174,35 +184,68 @@ fn second(board: &Board, values: &[i64], best: Origin) -> Origin {
     }
 }
 
-impl<'a> Placed<'a> {
-    fn new(board: &'a Board, edges: &[Edge], transform: u8) -> Self {
+impl<'a> Ranked<'a> {
+    /// By hits; of the origins with the most of them, row by row, `best` is chosen.
+    fn new(board: &'a Board, edges: &[Edge], transform: u8, best: impl FnOnce(&[Origin]) -> Origin) -> Self {
         let hits = board.at_every_origin(edges, transform, |_, hit| i64::from(hit));
         let most = *hits.iter().max().expect("a board has origins");
-        let horizontal = board.weights(edges, transform, true);
-        let vertical = board.weights(edges, transform, false);
-        let mut placed = Self { board, hits, horizontal, vertical, most, tied: 0, optimal: 0, best: (0, 0) };
-        let with_most: Vec<Origin> = origins(board).filter(|&o| placed.hits_at(o) == most).collect();
-        let largest = |weight: &dyn Fn(Origin) -> f32| with_most.iter().map(|&o| weight(o)).fold(0.0, f32::max);
-        let (h, v) = (largest(&|o| placed.sides(o).0), largest(&|o| placed.sides(o).1));
-        let optimal: Vec<Origin> = with_most.iter().copied().filter(|&o| placed.sides(o) == (h, v)).collect();
-        (placed.tied, placed.optimal, placed.best) = (with_most.len(), optimal.len(), optimal[0]);
-        placed
+        let with_most: Vec<Origin> = origins(board).filter(|&o| at(board, &hits, o) == most).collect();
+        Self { board, hits, most, tied: with_most.len(), best: best(&with_most) }
     }
 
     fn hits_at(&self, o: Origin) -> i64 {
         at(self.board, &self.hits, o)
     }
+}
 
-    /// The weights of the two classes of an origin.
-    fn sides(&self, (row, col): Origin) -> (f32, f32) {
-        let (l, m) = (self.board.h.len(), self.board.v.len());
-        (self.horizontal[row % l][col % 3], self.vertical[col % m][row % 3])
+/// The weights of the two classes of an origin.
+fn sides(horizontal: &[[f32; 3]], vertical: &[[f32; 3]], (row, col): Origin) -> (f32, f32) {
+    (horizontal[row % horizontal.len()][col % 3], vertical[col % vertical.len()][row % 3])
+}
+
+impl<'a> Placed<'a> {
+    /// "In each table take the largest count, then the largest weight; the classes with both are optimal. [..] its best origin is the row-major first over optimal pairs."
+    fn new(board: &'a Board, edges: &[Edge], transform: u8) -> Self {
+        let horizontal = board.weights(edges, transform, true);
+        let vertical = board.weights(edges, transform, false);
+        let mut optimal = 0;
+        let ranked = Ranked::new(board, edges, transform, |with_most| {
+            let sides = |o: &Origin| sides(&horizontal, &vertical, *o);
+            let h = with_most.iter().map(|o| sides(o).0).fold(0.0, f32::max);
+            let v = with_most.iter().map(|o| sides(o).1).fold(0.0, f32::max);
+            let best: Vec<&Origin> = with_most.iter().filter(|o| sides(o) == (h, v)).collect();
+            optimal = best.len();
+            *best[0]
+        });
+        Self { ranked, horizontal, vertical, optimal }
     }
 
     fn weight_at(&self, o: Origin) -> f32 {
-        let (h, v) = self.sides(o);
+        let (h, v) = sides(&self.horizontal, &self.vertical, o);
         h + v
     }
+}
+
+impl<'a> Weighed<'a> {
+    /// The best origin has the most hits, then the most weight, and is the row-major first of these.
+    fn new(board: &'a Board, edges: &[Edge], transform: u8) -> Self {
+        let own: Vec<i64> = edges.iter().map(|e| whole(e.confidence)).collect();
+        let units = board.at_every_origin(edges, transform, |i, hit| if hit { own[i] } else { 0 });
+        let ranked = Ranked::new(board, edges, transform, |with_most| {
+            let heavier = |kept: Origin, o: Origin| if at(board, &units, o) > at(board, &units, kept) { o } else { kept };
+            with_most.iter().copied().reduce(heavier).expect("some origin has the most hits")
+        });
+        Self { ranked, units }
+    }
+
+    fn weight_at(&self, o: Origin) -> i64 {
+        at(self.ranked.board, &self.units, o)
+    }
+}
+
+/// A number times 2^24 as "the nearest whole number, halves away from zero": of a likelihood, and of a confidence its units.
+fn whole(x: f32) -> i64 {
+    (f64::from(x) * f64::from(1 << 24)).round() as i64
 }
 
 /// "Rate = misses / edges, one f32 division".
@@ -242,6 +285,24 @@ fn total(edges: &[Edge]) -> f32 {
     edges.iter().fold(0.0, |sum, e| sum + e.confidence)
 }
 
+/// The runner-up of a winner at a list position: "inside the winner's transform, if more than one cell pair has the largest counts, hits equal the best (its place never shows,
+/// for the gate refuses). Else the better of [..]. Then each other list position, in order, with its best hits and best origin, replaces it only on strictly more hits;
+/// transforms over the rate limit take part."
+fn runner_up(lists: &[&Ranked], winner: usize) -> Runner {
+    let own = lists[winner];
+    let mut runner = Runner { listed: winner, hits: own.most, origin: None };
+    if own.tied == 1 {
+        let origin = second(own.board, &own.hits, own.best);
+        runner = Runner { hits: own.hits_at(origin), origin: Some(origin), ..runner };
+    }
+    for (listed, other) in lists.iter().enumerate() {
+        if listed != winner && other.most > runner.hits {
+            runner = Runner { listed, hits: other.most, origin: Some(other.best) };
+        }
+    }
+    runner
+}
+
 /// Hard selection on one list: the winner with its runner-up, or 10 or 11.
 fn select(board: &Board, edges: &[Edge], transforms: &[u8], limit: f32) -> Result<(Candidate, Runner), u32> {
     let total = total(edges);
@@ -251,35 +312,77 @@ fn select(board: &Board, edges: &[Edge], transforms: &[u8], limit: f32) -> Resul
     let lists: Vec<Placed> = transforms.iter().map(|&t| Placed::new(board, edges, t)).collect();
     let mut kept: Option<Candidate> = None;
     for (listed, placed) in lists.iter().enumerate() {
-        if rate(edges.len(), placed.most) > limit {
+        if rate(edges.len(), placed.ranked.most) > limit {
             continue;
         }
         let mut offer = |origin: Origin| {
-            let (hits, weight) = (placed.hits_at(origin), placed.weight_at(origin));
+            let (hits, weight) = (placed.ranked.hits_at(origin), placed.weight_at(origin));
             let c = Candidate { listed, origin, hits, weight, score: weight / total };
             if kept.is_none_or(|k| c.hits > k.hits || c.hits == k.hits && c.score > k.score) {
                 kept = Some(c);
             }
         };
         if placed.optimal <= 1024 {
-            offer(placed.best);
+            offer(placed.ranked.best);
         } else {
-            origins(board).filter(|&o| rate(edges.len(), placed.hits_at(o)) <= limit).for_each(&mut offer);
+            origins(board).filter(|&o| rate(edges.len(), placed.ranked.hits_at(o)) <= limit).for_each(&mut offer);
         }
     }
     let winner = kept.ok_or(11u32)?;
-    let own = &lists[winner.listed];
-    let mut runner = Runner { listed: winner.listed, hits: own.most, origin: None };
-    if own.tied == 1 {
-        let origin = second(board, &own.hits, own.best);
-        runner = Runner { hits: own.hits_at(origin), origin: Some(origin), ..runner };
+    let ranked: Vec<&Ranked> = lists.iter().map(|l| &l.ranked).collect();
+    Ok((winner, runner_up(&ranked, winner.listed)))
+}
+
+/// What an exact selection comes to: the winner's list position, origin, hits and weight, the list's units, and the runner-up with its weight.
+struct Exact {
+    listed: usize,
+    origin: Origin,
+    hits: i64,
+    weight: i64,
+    total: i64,
+    runner: Runner,
+    runner_weight: i64,
+}
+
+/// Request C-15's selection on one list: 10 where its units add up to 0, 11 where no placing is within the limit, else of all placings the one that "has most hits, then most weight,
+/// then the earliest list position, row and column", counted edge by edge at each of them.
+fn select_exact(board: &Board, edges: &[Edge], transforms: &[u8], limit: f32) -> Result<Exact, u32> {
+    let total = edges.iter().map(|e| whole(e.confidence)).sum();
+    if total == 0 {
+        return Err(10);
     }
-    for (listed, other) in lists.iter().enumerate() {
-        if listed != winner.listed && other.most > runner.hits {
-            runner = Runner { listed, hits: other.most, origin: Some(other.best) };
-        }
+    let lists: Vec<Weighed> = transforms.iter().map(|&t| Weighed::new(board, edges, t)).collect();
+    let placings = || (0..lists.len()).flat_map(|listed| origins(board).map(move |o| (listed, o)));
+    let counted = |(listed, o): (usize, Origin)| (lists[listed].ranked.hits_at(o), lists[listed].weight_at(o));
+    let (listed, origin) = placings().reduce(|kept, p| if counted(p) > counted(kept) { p } else { kept }).expect("a placing");
+    let (hits, weight) = counted((listed, origin));
+    if rate(edges.len(), hits) > limit {
+        return Err(11);
     }
-    Ok((winner, runner))
+    let ranked: Vec<&Ranked> = lists.iter().map(|l| &l.ranked).collect();
+    let runner = runner_up(&ranked, listed);
+    // whatever the rule on its place: it is another placing, no third has more hits, and those are its own
+    let most_other = placings().filter(|&p| p != (listed, origin)).map(|p| counted(p).0).max();
+    assert_eq!(most_other, Some(runner.hits), "the runner-up has the most hits of all others");
+    if let Some(o) = runner.origin {
+        assert!((runner.listed, o) != (listed, origin) && lists[runner.listed].ranked.hits_at(o) == runner.hits);
+    }
+    let runner_weight = runner.origin.map_or(0, |o| lists[runner.listed].weight_at(o));
+    Ok(Exact { listed, origin, hits, weight, total, runner, runner_weight })
+}
+
+/// What a found answer of the exact mode holds.
+#[derive(Clone, Copy, Debug, PartialEq)]
+pub struct ExactFound {
+    pub square: Square,
+    pub hits: u32,
+    pub edges: u32,
+    pub weight: u64,
+    pub total: u64,
+    pub rate: f32,
+    pub runner: Square,
+    pub runner_hits: u32,
+    pub runner_weight: u64,
 }
 
 /// "margin = best minus runner-up hits, not below 0; pass exactly if margin > misses."
@@ -325,31 +428,49 @@ impl Call<'_> {
 
     /// Hard decode: "10 logical, 11, 10 physical, 12, 13".
     pub fn hard(&self) -> Result<Found, u32> {
-        let (w, next) = select(self.board, self.logical, self.transforms, self.limit)?;
+        let Selected { square, hits, edges, weighted, rate, mean, runner_hits, runner } = self.selection()?;
         let (p, _) = select(self.board, self.physical, self.transforms, 1.0)?;
-        if self.square(w.listed, w.origin) != self.square(p.listed, p.origin) {
+        if square != self.square(p.listed, p.origin) {
             return Err(12);
         }
-        if !passes(self.logical.len(), w.hits, next.hits) {
+        if !passes(self.logical.len(), hits.into(), runner_hits.into()) {
             return Err(13);
         }
-        Ok(Found {
-            square: self.square(w.listed, w.origin),
+        let (next, margin) = (runner_hits as f32, (hits - runner_hits) as f32);
+        Ok(Found { square, hits, edges, weighted, rate, mean, best: weighted, next, margin, runner })
+    }
+
+    /// The exact mode, request C-15: the same steps with its own winners. "10 here when a list's unit sum is 0".
+    pub fn exact(&self) -> Result<ExactFound, u32> {
+        let w = select_exact(self.board, self.logical, self.transforms, self.limit)?;
+        let p = select_exact(self.board, self.physical, self.transforms, 1.0)?;
+        let square = self.square(w.listed, w.origin);
+        if square != self.square(p.listed, p.origin) {
+            return Err(12);
+        }
+        if !passes(self.logical.len(), w.hits, w.runner.hits) {
+            return Err(13);
+        }
+        Ok(ExactFound {
+            square,
             hits: w.hits as u32,
             edges: self.logical.len() as u32,
-            weighted: w.score,
+            weight: w.weight as u64,
+            total: w.total as u64,
             rate: rate(self.logical.len(), w.hits),
-            mean: mean(w.weight, w.hits),
-            best: w.score,
-            next: next.hits as f32,
-            margin: (w.hits - next.hits) as f32,
-            runner: self.runner_square(&next),
+            runner: self.runner_square(&w.runner),
+            runner_hits: w.runner.hits as u32,
+            runner_weight: w.runner_weight as u64,
         })
     }
 
-    /// The sums at every origin under one transform: "Each likelihood times 2^24 becomes the nearest whole number, halves away from zero."
+    /// The exact mode's winner on the physical list alone.
+    pub fn exact_physical(&self) -> Result<Square, u32> {
+        select_exact(self.board, self.physical, self.transforms, 1.0).map(|p| self.square(p.listed, p.origin))
+    }
+
+    /// The sums at every origin under one transform.
     fn sums(&self, transform: u8) -> Vec<i64> {
-        let whole = |x: f32| (f64::from(x) * f64::from(1 << 24)).round() as i64;
         let pairs: Vec<[i64; 2]> = self.likelihoods.iter().map(|p| [whole(p.1), whole(p.0)]).collect();
         self.board.at_every_origin(self.physical, transform, |i, hit| pairs[i][usize::from(hit)])
     }
@@ -392,7 +513,7 @@ impl Call<'_> {
             return Err(13);
         }
         let placed = Placed::new(self.board, self.physical, self.transforms[listed]);
-        let hits = placed.hits_at(origin);
+        let hits = placed.ranked.hits_at(origin);
         Ok(Found {
             square,
             hits: hits as u32,
@@ -427,6 +548,7 @@ pub fn answer(kind: u32, call: &Call, at: &Square) -> file::Words {
         file::HARD => decoded(call.hard()),
         file::SOFT => decoded(call.soft()),
         file::STATS => file::counted(&call.stats(at)),
+        file::EXACT => call.exact().map_or_else(file::refused, |f| file::exact(&f)),
         _ => call.selection().map_or_else(file::refused, |s| file::selected(&s)),
     }
 }
@@ -434,22 +556,11 @@ pub fn answer(kind: u32, call: &Call, at: &Square) -> file::Words {
 #[cfg(test)]
 mod tests {
     use super::*;
-    use crate::{cases, likelihoods, patterns, Case, Random, EITHER};
+    use crate::{cases, Case, Random, EITHER};
 
     /// What is counted of a case on the flat board, and what the given files say of it.
     fn both(kind: u32, case: &Case, at: &Square) -> [file::Words; 2] {
-        let (h, v) = patterns(case.map);
-        let given = crate::answer(kind, case, at);
-        let call = Call {
-            board: &Board { h, v },
-            logical: &case.logical,
-            physical: &case.physical,
-            likelihoods: &likelihoods(case),
-            transforms: &case.transforms,
-            limit: case.limit,
-            soft: &case.soft,
-        };
-        [answer(kind, &call, at), given]
+        [crate::counted(kind, case, at), crate::answer(kind, case, at)]
     }
 
     /// On the flat board the count and the given files say the same, in every word.

@@ -2,13 +2,14 @@
 //!
 //! First the number of entries. Then each entry: its kind and what it holds.
 //! - 0: two pattern tables, horizontal then vertical, each a length and its entries, for all calls that follow.
-//! - 1 hard decode, 2 soft decode, 3 match statistics of the physical list, 4 hard selection on the logical list before the gate:
-//!   a call (see `Call`), then the answer's 17 words.
+//! - 1 hard decode, 2 soft decode, 3 match statistics of the physical list, 4 hard selection on the logical list before the gate, 5 the exact mode of
+//!   request C-15: a call (see `Call`), then the answer's 17 words.
 //!
 //! A file of cells, which the program `poletables` reads, is of such words too. First the number of entries. Then each: two pattern tables, the columns of a list, its
 //! likelihoods of a match and of a mismatch (each a length and its entries), a transform, and the cells of its class tables, horizontal then vertical: all
 //! counts, all weights, and all sums. A sum is two words, of which the higher has the sign as its highest bit.
 
+use crate::count::ExactFound;
 use crate::{Case, Cells, Edge, Found, Selected, Square, Stats};
 
 pub const TABLES: u32 = 0;
@@ -16,6 +17,7 @@ pub const HARD: u32 = 1;
 pub const SOFT: u32 = 2;
 pub const STATS: u32 = 3;
 pub const SELECTION: u32 = 4;
+pub const EXACT: u32 = 5;
 
 /// What no answer holds: it stands in every place that a refusal, or a kind of call, leaves empty.
 pub const EMPTY: u32 = u32::MAX;
@@ -28,7 +30,7 @@ pub const ONLY: u32 = 3;
 /// The answer's words: 0 or the refusal's number, transform, row, column, hits, edges, weighted score, rate, mean, best score,
 /// runner-up's score (its hits as f32; before the gate as a whole number), margin (in hits, as f32, for hard decode), the runner-up's transform, row and
 /// column, and the list and the position (from 0) of the edge that a refusal is about. A found answer's are document 01's ten fields; the program `replay`
-/// derives them from our hard and soft answers, which say hits by whole numbers.
+/// derives them from our hard and soft answers, which say hits by whole numbers. Words 6 to 11, 15 and 16 of a found answer of the exact mode are others (`exact`).
 pub type Words = [u32; 17];
 
 fn square(words: &mut Words, at: usize, s: &Square) {
@@ -83,6 +85,23 @@ pub fn selected(s: &Selected) -> Words {
     words
 }
 
+/// A found answer of the exact mode: from word 6 on its weight and the list's units (each two words, the lower one first), the rate and the runner-up's hits; in the last two words the
+/// runner-up's weight, since a found answer is about no edge.
+pub fn exact(f: &ExactFound) -> Words {
+    let mut words = refused(0);
+    square(&mut words, 1, &f.square);
+    words[4] = f.hits;
+    words[5] = f.edges;
+    for (at, units) in [(6, f.weight), (8, f.total), (15, f.runner_weight)] {
+        words[at] = units as u32;
+        words[at + 1] = (units >> 32) as u32;
+    }
+    words[10] = f.rate.to_bits();
+    words[11] = f.runner_hits;
+    square(&mut words, 12, &f.runner);
+    words
+}
+
 pub fn counted(s: &Stats) -> Words {
     let mut words = refused(0);
     words[4] = s.hits;
@@ -126,7 +145,7 @@ impl Columns {
     }
 }
 
-/// One call as the file holds it: lengths of the lent room (u32, f32, i64), the logical list, the physical list, its likelihoods,
+/// One call as the file holds it: lengths of the lent room (u32, f32 or in the exact mode u64, i64), the logical list, the physical list, its likelihoods,
 /// transforms, limit, margin, and the placing for match statistics.
 #[derive(Clone, Debug)]
 pub struct Call {

@@ -5,6 +5,7 @@
 
 pub mod cases;
 pub mod count;
+pub mod exact;
 pub mod file;
 pub mod poles;
 
@@ -43,13 +44,20 @@ macro_rules! with_maps {
     };
 }
 
-/// The answer to a call of that kind, as the file's words; match statistics at the placing.
+/// The answer that is counted, with the case's maps as the board.
+fn counted(kind: u32, case: &Case, at: &Square) -> file::Words {
+    let (h, v) = patterns(case.map);
+    poles::counted(kind, &count::Board { h, v }, case, at).1
+}
+
+/// The answer to a call of that kind, as the file's words; match statistics at the placing. The exact mode, which the Rust has not, is counted.
 pub fn answer(kind: u32, case: &Case, at: &Square) -> file::Words {
     let decoded = |r: Result<Found, u32>| r.map_or_else(file::refused, |f| file::found(&f));
     match kind {
         file::HARD => decoded(hard(case)),
         file::SOFT => decoded(soft(case)),
         file::STATS => file::counted(&stats(case, at)),
+        file::EXACT => counted(kind, case, at),
         _ => selection(case).map_or_else(file::refused, |s| file::selected(&s)),
     }
 }

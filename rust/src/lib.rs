@@ -12,9 +12,13 @@ pub use refusal::{EdgePlace, List, Refusal, Refused};
 /// The length of the flat board's two pattern tables, and of every vertical one.
 pub const FLAT_LENGTH: usize = 167;
 
-/// The least lengths of the room's three slices on the flat board.
+/// The units of weight in a confidence of 1, in exact decode.
+pub const UNITS: u64 = 1 << 24;
+
+/// The least lengths of the slices of room on the flat board.
 pub const ROOM_COUNTS: usize = tables_for(FLAT_LENGTH);
 pub const ROOM_WEIGHTS: usize = tables_for(FLAT_LENGTH);
+pub const ROOM_UNITS: usize = tables_for(FLAT_LENGTH);
 pub const ROOM_SUMS: usize = sums_for(FLAT_LENGTH);
 
 /// Whether a horizontal pattern table may have this length L: 4 to 500, and no multiple of 3. The flat board's has 167.
@@ -31,7 +35,7 @@ const fn asked_length(length: usize) -> usize {
     }
 }
 
-/// The least length of the room's counts and weights where the horizontal table has length L: 9L + 1,503. Where L is no pole length, that of
+/// The least length of the room's counts, weights and units where the horizontal table has length L: 9L + 1,503. Where L is no pole length, that of
 /// the smallest pole: the call is then refused all the same.
 pub const fn tables_for(length: usize) -> usize {
     9 * asked_length(length) + 1503
@@ -109,7 +113,7 @@ pub struct Patterns<'a> {
     pub vertical: &'a [u8],
 }
 
-/// The room that the decoders work in, to be kept and lent again, for any board. What it holds has no influence on an answer. A call makes it
+/// The room that hard and soft decode work in, to be kept and lent again, for any board. What it holds has no influence on an answer. A call makes it
 /// longer where it is too short for the call's horizontal table, and never shorter.
 #[derive(Clone, Debug, PartialEq)]
 pub struct Room {
@@ -143,6 +147,33 @@ impl Default for Room {
     }
 }
 
+/// The room that exact decode works in, to be kept and lent again as a `Room` is.
+#[derive(Clone, Debug, PartialEq)]
+pub struct ExactRoom {
+    pub counts: Vec<u32>,
+    pub units: Vec<u64>,
+}
+
+impl ExactRoom {
+    /// Room for exact decode on the flat board.
+    pub fn new() -> ExactRoom {
+        ExactRoom { counts: vec![0; ROOM_COUNTS], units: vec![0; ROOM_UNITS] }
+    }
+
+    // The room that a call needs, where the horizontal table has this length.
+    fn grow(&mut self, length: usize) {
+        let least = tables_for(length);
+        self.counts.resize(least.max(self.counts.len()), 0);
+        self.units.resize(least.max(self.units.len()), 0);
+    }
+}
+
+impl Default for ExactRoom {
+    fn default() -> ExactRoom {
+        ExactRoom::new()
+    }
+}
+
 /// A transform by number, with an origin on the board: a row from 0 to 3L - 1 where the horizontal pattern table has length L (500 on the flat
 /// board), and a column from 0 to 500.
 #[derive(Clone, Copy, Debug, PartialEq, Eq)]
@@ -167,6 +198,27 @@ pub struct Decoded {
     /// The best competitor by hits.
     pub runner_up: Square,
     pub runner_up_hits: u32,
+    /// Hits ahead of the runner-up.
+    pub margin_hits: u32,
+}
+
+/// What a found exact answer holds, all of it of the logical list. Weights are whole numbers of units, of which a confidence of 1 has `UNITS`: each
+/// confidence counts as the nearest whole number of them, a half as the one above, and these are added without rounding.
+#[derive(Clone, Copy, Debug, PartialEq)]
+pub struct ExactDecoded {
+    pub square: Square,
+    pub hits: u32,
+    pub edges: u32,
+    /// The units of the hits.
+    pub weight: u64,
+    /// The units of all edges.
+    pub total: u64,
+    pub error_rate: f32,
+    /// The best competitor by hits.
+    pub runner_up: Square,
+    pub runner_up_hits: u32,
+    /// The units of the runner-up's hits. They may be more than `weight`, since hits come first.
+    pub runner_up_weight: u64,
     /// Hits ahead of the runner-up.
     pub margin_hits: u32,
 }
@@ -220,6 +272,25 @@ fn decoded(answer: raw::Answer) -> Result<Decoded, Refused> {
             best_score: answer.best_score,
             runner_up: Square { transform: answer.runner_up_transform, row: answer.runner_up_row, col: answer.runner_up_col },
             runner_up_hits: answer.runner_up_hits,
+            margin_hits: answer.margin_hits,
+        }),
+    }
+}
+
+// What the struct of exact decode says.
+fn exact_decoded(answer: raw::ExactAnswer) -> Result<ExactDecoded, Refused> {
+    match Refused::from_numbers(answer.refusal, answer.list, answer.position) {
+        Some(refused) => Err(refused),
+        None => Ok(ExactDecoded {
+            square: Square { transform: answer.transform, row: answer.row, col: answer.col },
+            hits: answer.hits,
+            edges: answer.edges,
+            weight: answer.weight,
+            total: answer.total,
+            error_rate: answer.error_rate,
+            runner_up: Square { transform: answer.runner_up_transform, row: answer.runner_up_row, col: answer.runner_up_col },
+            runner_up_hits: answer.runner_up_hits,
+            runner_up_weight: answer.runner_up_weight,
             margin_hits: answer.margin_hits,
         }),
     }
@@ -317,6 +388,68 @@ fn decode_hard_raw(
             room.counts.len(),
             room.weights.as_mut_ptr(),
             room.weights.len(),
+        )
+    }
+}
+
+/// Exact decode: the square by the hits of the logical list, within the error limit, and where hits are equal by weights that add without rounding; the
+/// physical list must agree. It is refused as hard decode is, but for `NoConfidence`, which is given where all confidences of a list are below
+/// 2^-25. The room is made as long as the board needs it.
+pub fn decode_exact(
+    logical: &EdgeList,
+    physical: &EdgeList,
+    transforms: &[u8],
+    patterns: Patterns,
+    error_limit: f32,
+    room: &mut ExactRoom,
+) -> Result<ExactDecoded, Refused> {
+    room.grow(patterns.horizontal.len());
+    exact_decoded(decode_exact_raw(logical, physical, transforms, patterns, error_limit, room))
+}
+
+// The same in room as it is, with the answer as the library gives it.
+fn decode_exact_raw(
+    logical: &EdgeList,
+    physical: &EdgeList,
+    transforms: &[u8],
+    patterns: Patterns,
+    error_limit: f32,
+    room: &mut ExactRoom,
+) -> raw::ExactAnswer {
+    // As above.
+    unsafe {
+        raw::samburext_decode_exact_3(
+            logical.rows.as_ptr(),
+            logical.rows.len(),
+            logical.cols.as_ptr(),
+            logical.cols.len(),
+            logical.orientations.as_ptr(),
+            logical.orientations.len(),
+            logical.bits.as_ptr(),
+            logical.bits.len(),
+            logical.confidences.as_ptr(),
+            logical.confidences.len(),
+            physical.rows.as_ptr(),
+            physical.rows.len(),
+            physical.cols.as_ptr(),
+            physical.cols.len(),
+            physical.orientations.as_ptr(),
+            physical.orientations.len(),
+            physical.bits.as_ptr(),
+            physical.bits.len(),
+            physical.confidences.as_ptr(),
+            physical.confidences.len(),
+            transforms.as_ptr(),
+            transforms.len(),
+            patterns.horizontal.as_ptr(),
+            patterns.horizontal.len(),
+            patterns.vertical.as_ptr(),
+            patterns.vertical.len(),
+            error_limit,
+            room.counts.as_mut_ptr(),
+            room.counts.len(),
+            room.units.as_mut_ptr(),
+            room.units.len(),
         )
     }
 }

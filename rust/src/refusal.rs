@@ -95,7 +95,7 @@ impl fmt::Display for Refusal {
                 "the horizontal pattern table has not 4 to 500 entries from 0 to 7, their number no multiple of 3, or the vertical one not 167"
             }
             Refusal::BadSetting => "the error limit, the soft margin or the given origin is out of range",
-            Refusal::NoConfidence => "a list has no confidence at all",
+            Refusal::NoConfidence => "a list has no confidence at all (to exact decode, none of 2^-25 or more)",
             Refusal::NoneWithinLimit => "no listed transform comes within the error limit",
             Refusal::ListsDisagree => "the logical and the physical list point to different squares",
             Refusal::NotFarAhead => "the best square is not far enough ahead of the next",
@@ -112,7 +112,7 @@ impl fmt::Display for Refusal {
 /// The list of a call that holds an edge.
 #[derive(Clone, Copy, Debug, PartialEq, Eq, Hash, PartialOrd, Ord)]
 pub enum List {
-    /// The logical list of hard and soft decode.
+    /// The logical list of hard, exact and soft decode.
     Logical,
     /// Their physical list, with its likelihoods.
     Physical,

@@ -1,6 +1,7 @@
-//! The three functions through the static library: found, each refusal, the edge that it is about, the room, and what a refusal holds.
+//! The four functions through the static library: found, each refusal, the edge that it is about, the room, and what a refusal holds.
 
 mod board;
+mod exact;
 mod poles;
 
 use crate::{

@@ -1,8 +1,8 @@
-//! The three functions as another crate calls them, with the types that it sees.
+//! The four functions as another crate calls them, with the types that it sees.
 
 use samburext::{
-    decode_hard, decode_soft, match_stats, pole_length, Decoded, Edge, EdgeList, EdgePlace, Likelihoods, List, Patterns, Refusal,
-    Refused, Room, SoftDecoded, Square,
+    decode_exact, decode_hard, decode_soft, match_stats, pole_length, Decoded, Edge, EdgeList, EdgePlace, ExactDecoded,
+    ExactRoom, Likelihoods, List, Patterns, Refusal, Refused, Room, SoftDecoded, Square, UNITS,
 };
 
 /// Two tables in which no two windows are alike, from a small generator, the horizontal one of a length.
@@ -44,6 +44,12 @@ fn found_and_refused() {
     assert_eq!((hard.square, hard.hits, hard.edges), (square, 200, 200));
     let next = match_stats(&list, hard.runner_up, patterns).expect("the runner-up is on the board");
     assert_eq!((hard.runner_up_hits, hard.margin_hits), (next.hits, 200 - next.hits));
+    let exact: ExactDecoded =
+        decode_exact(&list, &list, &[0, 1, 2, 3], patterns, 0.25, &mut ExactRoom::new()).expect("exact decode finds it");
+    assert_eq!((exact.square, exact.hits, exact.runner_up_hits), (square, 200, hard.runner_up_hits));
+    // each confidence is one half
+    assert_eq!((exact.weight, exact.total), (100 * UNITS, 100 * UNITS));
+    assert_eq!(exact.runner_up_weight, u64::from(exact.runner_up_hits) * UNITS / 2);
     let soft: SoftDecoded =
         decode_soft(&list, &list, &likelihoods, &[0, 1, 2, 3], patterns, 0.25, 0.02, &mut room).expect("soft decode finds it");
     assert_eq!((soft.square, soft.best_score), (square, -50.0));

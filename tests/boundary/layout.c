@@ -29,6 +29,25 @@ AT(samburext_answer, runner_up_col, 14);
 AT(samburext_answer, runner_up_hits, 15);
 AT(samburext_answer, margin_hits, 16);
 
+_Static_assert(sizeof(samburext_exact_answer) == 80, "samburext_exact_answer");
+AT(samburext_exact_answer, refusal, 0);
+AT(samburext_exact_answer, list, 1);
+AT(samburext_exact_answer, position, 2);
+AT(samburext_exact_answer, transform, 3);
+AT(samburext_exact_answer, row, 4);
+AT(samburext_exact_answer, col, 5);
+AT(samburext_exact_answer, hits, 6);
+AT(samburext_exact_answer, edges, 7);
+AT(samburext_exact_answer, error_rate, 8);
+AT(samburext_exact_answer, runner_up_transform, 9);
+AT(samburext_exact_answer, runner_up_row, 10);
+AT(samburext_exact_answer, runner_up_col, 11);
+AT(samburext_exact_answer, runner_up_hits, 12);
+AT(samburext_exact_answer, margin_hits, 13);
+AT(samburext_exact_answer, weight, 14);
+AT(samburext_exact_answer, total, 16);
+AT(samburext_exact_answer, runner_up_weight, 18);
+
 _Static_assert(sizeof(samburext_soft_answer) == 84, "samburext_soft_answer");
 AT(samburext_soft_answer, refusal, 0);
 AT(samburext_soft_answer, list, 1);
@@ -80,8 +99,11 @@ _Static_assert(SAMBUREXT_NOT_FAR_AHEAD == 13, "13");
 _Static_assert(SAMBUREXT_SOFT_MARGIN == 14, "14");
 _Static_assert(SAMBUREXT_SOFT_HARD_DISAGREE == 15, "15");
 _Static_assert(SAMBUREXT_LOGICAL_LIST == 1 && SAMBUREXT_PHYSICAL_LIST == 2 && SAMBUREXT_ONLY_LIST == 3, "lists");
-_Static_assert(SAMBUREXT_NOTHING == UINT32_MAX, "what a refusal holds");
+_Static_assert(SAMBUREXT_NOTHING == UINT32_MAX && SAMBUREXT_NO_WEIGHT == UINT64_MAX, "what a refusal holds");
+_Static_assert(SAMBUREXT_UNITS == 1 << 24 && SAMBUREXT_NO_WEIGHT > (uint64_t)SAMBUREXT_UNITS * SAMBUREXT_MAX_EDGES, "units");
 _Static_assert(SAMBUREXT_ROOM_COUNTS == 3006 && SAMBUREXT_ROOM_WEIGHTS == 3006 && SAMBUREXT_ROOM_SUMS == 5010, "room");
+_Static_assert(SAMBUREXT_ROOM_UNITS == 3006 && SAMBUREXT_ROOM_UNITS_FOR(4) == 1539 && SAMBUREXT_ROOM_UNITS_FOR(167) == 3006, "room of units");
+_Static_assert(SAMBUREXT_ROOM_UNITS_FOR(500) == 6003 && SAMBUREXT_ROOM_UNITS_FOR(1 + 3) - 1 == 1538, "room of units");
 _Static_assert(SAMBUREXT_ROOM_COUNTS_FOR(4) == 1539 && SAMBUREXT_ROOM_WEIGHTS_FOR(4) == 1539 && SAMBUREXT_ROOM_SUMS_FOR(4) == 2565, "room of 4");
 _Static_assert(SAMBUREXT_ROOM_COUNTS_FOR(167) == 3006 && SAMBUREXT_ROOM_WEIGHTS_FOR(167) == 3006 && SAMBUREXT_ROOM_SUMS_FOR(167) == 5010, "room of 167");
 _Static_assert(SAMBUREXT_ROOM_COUNTS_FOR(500) == 6003 && SAMBUREXT_ROOM_WEIGHTS_FOR(500) == 6003 && SAMBUREXT_ROOM_SUMS_FOR(500) == 10005, "room of 500");
@@ -98,6 +120,10 @@ samburext_answer (*const hard)(const int32_t *, size_t, const int32_t *, size_t,
                                const int32_t *, size_t, const int32_t *, size_t, const uint8_t *, size_t, const uint8_t *, size_t, const float *, size_t,
                                const uint8_t *, size_t, const uint8_t *, size_t, const uint8_t *, size_t, float, uint32_t *, size_t, float *,
                                size_t) = samburext_decode_hard;
+samburext_exact_answer (*const exact)(const int32_t *, size_t, const int32_t *, size_t, const uint8_t *, size_t, const uint8_t *, size_t,
+                                      const float *, size_t, const int32_t *, size_t, const int32_t *, size_t, const uint8_t *, size_t,
+                                      const uint8_t *, size_t, const float *, size_t, const uint8_t *, size_t, const uint8_t *, size_t,
+                                      const uint8_t *, size_t, float, uint32_t *, size_t, uint64_t *, size_t) = samburext_decode_exact;
 samburext_soft_answer (*const soft)(const int32_t *, size_t, const int32_t *, size_t, const uint8_t *, size_t, const uint8_t *, size_t, const float *,
                                     size_t, const int32_t *, size_t, const int32_t *, size_t, const uint8_t *, size_t, const uint8_t *, size_t,
                                     const float *, size_t, const float *, size_t, const float *, size_t, const uint8_t *, size_t, const uint8_t *, size_t,
@@ -121,19 +147,20 @@ typedef struct list {
 static size_t length = SAMBUREXT_TABLE_LENGTH;
 static int32_t seen_row = ROW;
 
-/* One call: each of the three functions takes from it what it needs. */
+/* One call: each of the four functions takes from it what it needs. */
 static struct call {
     list logical, physical;
     float matches[SAMBUREXT_MAX_EDGES + 1], mismatches[SAMBUREXT_MAX_EDGES + 1];
     size_t likelihoods;
     uint8_t transforms[SAMBUREXT_MAX_TRANSFORMS + 1], horizontal[SAMBUREXT_MAX_POLE_LENGTH + 2], vertical[SAMBUREXT_TABLE_LENGTH + 1];
-    size_t transforms_length, horizontal_length, vertical_length, counts_length, weights_length, sums_length;
+    size_t transforms_length, horizontal_length, vertical_length, counts_length, weights_length, units_length, sums_length;
     float error_limit, soft_margin;
     uint32_t transform, row, column;
 } call;
 
 static uint32_t counts[SAMBUREXT_ROOM_COUNTS_FOR(SAMBUREXT_MAX_POLE_LENGTH)];
 static float weights[SAMBUREXT_ROOM_WEIGHTS_FOR(SAMBUREXT_MAX_POLE_LENGTH)];
+static uint64_t units[SAMBUREXT_ROOM_UNITS_FOR(SAMBUREXT_MAX_POLE_LENGTH)];
 static int64_t sums[SAMBUREXT_ROOM_SUMS_FOR(SAMBUREXT_MAX_POLE_LENGTH)];
 static int held, failed;
 
@@ -169,7 +196,7 @@ static void fill_list(list *to, int32_t at_row)
     to->edges = n;
 }
 
-/* A call that all three functions take: a clean logical list but for two wrong bits, and a physical list that is four edges shorter. A vertical
+/* A call that all four functions take: a clean logical list but for two wrong bits, and a physical list that is four edges shorter. A vertical
  * edge says less by its likelihoods than a horizontal one, so that the second by likelihood is another square than the runner-up by hits. */
 static void fill_call(void)
 {
@@ -196,6 +223,7 @@ static void fill_call(void)
     call.vertical_length = SAMBUREXT_TABLE_LENGTH;
     call.counts_length = SAMBUREXT_ROOM_COUNTS_FOR(length);
     call.weights_length = SAMBUREXT_ROOM_WEIGHTS_FOR(length);
+    call.units_length = SAMBUREXT_ROOM_UNITS_FOR(length);
     call.sums_length = SAMBUREXT_ROOM_SUMS_FOR(length);
     call.error_limit = 0.25f;
     call.soft_margin = 0.125f;
@@ -210,6 +238,12 @@ static samburext_answer run_hard(void)
 {
     return hard(LIST(call.logical), LIST(call.physical), call.transforms, call.transforms_length, TABLES, call.error_limit, counts,
                 call.counts_length, weights, call.weights_length);
+}
+
+static samburext_exact_answer run_exact(void)
+{
+    return exact(LIST(call.logical), LIST(call.physical), call.transforms, call.transforms_length, TABLES, call.error_limit, counts,
+                 call.counts_length, units, call.units_length);
 }
 
 static samburext_soft_answer run_soft(void)
@@ -249,6 +283,19 @@ static void runner_up(const uint32_t *w, const char *what)
     hold(there.refusal == SAMBUREXT_FOUND && there.hits == w[3] && w[3] < EDGES - MISSES, what);
 }
 
+/* A found exact answer: the square and the runner-up by hits, and what their hits and the whole list weigh. Each edge weighs three quarters of 2^24. */
+static void found_exact(const samburext_exact_answer *e, const char *what)
+{
+    const uint64_t each = 12582912;
+    uint32_t w[sizeof *e / 4];
+    memcpy(w, e, sizeof *e);
+    hold(w[0] == SAMBUREXT_FOUND && w[1] == SAMBUREXT_NOTHING && w[2] == SAMBUREXT_NOTHING, what);
+    hold(w[3] == 0 && w[4] == ROW && w[5] == COLUMN && w[6] == EDGES - MISSES && w[7] == EDGES, what);
+    hold(number(w[8]) == (float)MISSES / EDGES && w[13] == w[6] - w[12], what);
+    runner_up(w + 9, what);
+    hold(e->weight == each * (EDGES - MISSES) && e->total == each * EDGES && e->runner_up_weight == each * e->runner_up_hits, what);
+}
+
 /* The log likelihood of the physical list at a square, by match statistics of its horizontal and of its vertical edges: a miss costs more of the one
  * than of the other. All terms are eighths, so that the sum is exact. */
 static float total(uint32_t transform, uint32_t row, uint32_t column)
@@ -277,10 +324,13 @@ static int is_float(size_t size, size_t i)
 {
     if (size == sizeof(samburext_stats))
         return i > 4;
+    if (size == sizeof(samburext_exact_answer))
+        return i == 8;
     return (i > 7 && i < 12) || (size == sizeof(samburext_soft_answer) && (i == 15 || i == 16));
 }
 
-/* A refused answer of so many words: the number, the list and the position, and nothing else in any of them. */
+/* A refused answer of so many words: the number, the list and the position, and nothing else in any of them. The two words of a weight that is none are
+ * what two whole numbers that are none are. */
 static int only(const void *answer, size_t size, uint32_t refusal, uint32_t list, uint32_t position)
 {
     uint32_t w[sizeof(samburext_soft_answer) / 4];
@@ -296,22 +346,27 @@ static uint32_t at_list = SAMBUREXT_NOTHING, at_position = SAMBUREXT_NOTHING;
 
 static void at(uint32_t list, uint32_t position) { at_list = list, at_position = position; }
 
-/* What the call as it stands must be: 0 or a refusal's number, by hard decode, by soft decode and by match statistics of the physical list;
- * OTHER where this does not matter. The call is made good again. */
+/* What the call as it stands must be: 0 or a refusal's number, by hard decode, by exact decode, by soft decode and by match statistics of the physical
+ * list; OTHER where this does not matter. The call is made good again. */
 enum { OTHER = 99 };
 
-static void expect(uint32_t by_hard, uint32_t by_soft, uint32_t by_stats, const char *what)
+static void expect_each(uint32_t by_hard, uint32_t by_exact, uint32_t by_soft, uint32_t by_stats, const char *what)
 {
     samburext_answer h = run_hard();
+    samburext_exact_answer e = run_exact();
     samburext_soft_answer s = run_soft();
     samburext_stats m = run_stats(&call.physical, call.transform, call.row, call.column);
     uint32_t one = at_list == SAMBUREXT_NOTHING ? SAMBUREXT_NOTHING : (uint32_t)SAMBUREXT_ONLY_LIST;
     hold(by_hard == OTHER || (by_hard == SAMBUREXT_FOUND ? h.refusal == 0 : only(&h, sizeof h, by_hard, at_list, at_position)), what);
+    hold(by_exact == OTHER || (by_exact == SAMBUREXT_FOUND ? e.refusal == 0 : only(&e, sizeof e, by_exact, at_list, at_position)), what);
     hold(by_soft == OTHER || (by_soft == SAMBUREXT_FOUND ? s.refusal == 0 : only(&s, sizeof s, by_soft, at_list, at_position)), what);
     hold(by_stats == OTHER || (by_stats == SAMBUREXT_FOUND ? m.refusal == 0 : only(&m, sizeof m, by_stats, one, at_position)), what);
     at(SAMBUREXT_NOTHING, SAMBUREXT_NOTHING);
     fill_call();
 }
+
+/* The same where exact decode says what hard decode says. */
+static void expect(uint32_t by_hard, uint32_t by_soft, uint32_t by_stats, const char *what) { expect_each(by_hard, by_hard, by_soft, by_stats, what); }
 
 static void both(uint32_t refusal, const char *what) { expect(refusal, refusal, OTHER, what); }
 static void all(uint32_t refusal, const char *what) { expect(refusal, refusal, refusal, what); }
@@ -327,6 +382,13 @@ static void long_lists(size_t edges)
     }
     call.physical.edges = call.likelihoods = edges;
     call.soft_margin = 0; /* one edge again and again leaves little of it */
+}
+
+/* A logical list whose edges all have one confidence. */
+static void small_confidences(float confidence)
+{
+    for (size_t i = 0; i < call.logical.edges; i++)
+        call.logical.confidences[i] = confidence;
 }
 
 /* One bad edge of each kind, at a place of the logical list and of the physical one. Statistics are of the physical list. */
@@ -368,10 +430,13 @@ static void pole(size_t pole_length)
     samburext_soft_answer s = run_soft();
     hold(h.refusal == 0 && h.transform == 0 && h.row == call.row && h.col == COLUMN && h.hits == EDGES - MISSES, "a pole, hard");
     hold(s.refusal == 0 && s.transform == 0 && s.row == call.row && s.col == COLUMN && s.hits == FEWER, "a pole, soft");
+    samburext_exact_answer e = run_exact();
+    hold(e.refusal == 0 && e.transform == 0 && e.row == call.row && e.col == COLUMN && e.hits == EDGES - MISSES, "a pole, exact");
     hold(run_stats(&call.logical, 0, call.row, COLUMN).hits == EDGES - MISSES, "a pole, statistics");
     all(SAMBUREXT_FOUND, "a pole");
     call.counts_length--, both(SAMBUREXT_ROOM_TOO_SHORT, "SAMBUREXT_ROOM_COUNTS_FOR");
-    call.weights_length--, both(SAMBUREXT_ROOM_TOO_SHORT, "SAMBUREXT_ROOM_WEIGHTS_FOR");
+    call.weights_length--, expect_each(SAMBUREXT_ROOM_TOO_SHORT, SAMBUREXT_FOUND, SAMBUREXT_ROOM_TOO_SHORT, OTHER, "SAMBUREXT_ROOM_WEIGHTS_FOR");
+    call.units_length--, expect_each(SAMBUREXT_FOUND, SAMBUREXT_ROOM_TOO_SHORT, SAMBUREXT_FOUND, OTHER, "SAMBUREXT_ROOM_UNITS_FOR");
     call.sums_length--, expect(SAMBUREXT_FOUND, SAMBUREXT_ROOM_TOO_SHORT, SAMBUREXT_FOUND, "SAMBUREXT_ROOM_SUMS_FOR");
     call.row++, expect(SAMBUREXT_FOUND, SAMBUREXT_FOUND, SAMBUREXT_BAD_SETTING, "SAMBUREXT_BOARD_ROWS_FOR");
     call.vertical_length--, all(SAMBUREXT_BAD_TABLE, "a pole's vertical table");
@@ -390,6 +455,10 @@ static void no_pole(size_t bad)
         expect(less ? SAMBUREXT_ROOM_TOO_SHORT : SAMBUREXT_BAD_TABLE, less ? SAMBUREXT_ROOM_TOO_SHORT : SAMBUREXT_BAD_TABLE, SAMBUREXT_BAD_TABLE,
                "no pole, counts");
         call.horizontal_length = bad;
+        call.units_length = SAMBUREXT_ROOM_UNITS_FOR(SAMBUREXT_MIN_POLE_LENGTH) - less;
+        expect_each(SAMBUREXT_BAD_TABLE, less ? SAMBUREXT_ROOM_TOO_SHORT : SAMBUREXT_BAD_TABLE, SAMBUREXT_BAD_TABLE, SAMBUREXT_BAD_TABLE,
+                    "no pole, units");
+        call.horizontal_length = bad;
         call.sums_length = SAMBUREXT_ROOM_SUMS_FOR(SAMBUREXT_MIN_POLE_LENGTH) - less;
         expect(SAMBUREXT_BAD_TABLE, less ? SAMBUREXT_ROOM_TOO_SHORT : SAMBUREXT_BAD_TABLE, SAMBUREXT_BAD_TABLE, "no pole, sums");
     }
@@ -404,6 +473,8 @@ int main(void)
     found(w, &call.logical, 0.75f * (EDGES - MISSES) / (0.75f * EDGES), 0.75f * (EDGES - MISSES) / (0.75f * EDGES), "hard, found");
     runner_up(w + 12, "hard, runner-up");
     hold(w[16] == w[6] - w[15], "hard, margin in hits");
+    samburext_exact_answer e = run_exact();
+    found_exact(&e, "exact, found");
     samburext_soft_answer s = run_soft();
     memcpy(w, &s, sizeof s);
     found(w, &call.physical, -0.125f, -0.125f * FEWER, "soft, found");
@@ -415,7 +486,8 @@ int main(void)
     all(SAMBUREXT_FOUND, "a call that is taken");
 
     call.counts_length--, both(SAMBUREXT_ROOM_TOO_SHORT, "SAMBUREXT_ROOM_COUNTS");
-    call.weights_length--, both(SAMBUREXT_ROOM_TOO_SHORT, "SAMBUREXT_ROOM_WEIGHTS");
+    call.weights_length--, expect_each(SAMBUREXT_ROOM_TOO_SHORT, SAMBUREXT_FOUND, SAMBUREXT_ROOM_TOO_SHORT, OTHER, "SAMBUREXT_ROOM_WEIGHTS");
+    call.units_length--, expect_each(SAMBUREXT_FOUND, SAMBUREXT_ROOM_TOO_SHORT, SAMBUREXT_FOUND, OTHER, "SAMBUREXT_ROOM_UNITS");
     call.sums_length--, expect(SAMBUREXT_FOUND, SAMBUREXT_ROOM_TOO_SHORT, SAMBUREXT_FOUND, "SAMBUREXT_ROOM_SUMS");
     call.likelihoods--, expect(SAMBUREXT_FOUND, SAMBUREXT_LENGTHS_DIFFER, SAMBUREXT_FOUND, "SAMBUREXT_LENGTHS_DIFFER");
     call.logical.edges = 0, both(SAMBUREXT_LIST_SIZE, "an empty list");
@@ -438,6 +510,8 @@ int main(void)
     call.column = SAMBUREXT_BOARD_SQUARES, expect(SAMBUREXT_FOUND, SAMBUREXT_FOUND, SAMBUREXT_BAD_SETTING, "SAMBUREXT_BOARD_SQUARES, column");
 
     memset(call.logical.confidences, 0, sizeof call.logical.confidences), both(SAMBUREXT_NO_CONFIDENCE, "no confidence");
+    small_confidences(1.0f / 33554432), expect_each(SAMBUREXT_FOUND, SAMBUREXT_FOUND, SAMBUREXT_FOUND, OTHER, "confidences of 2^-25");
+    small_confidences(1.0f / 67108864), expect_each(SAMBUREXT_FOUND, SAMBUREXT_NO_CONFIDENCE, SAMBUREXT_FOUND, OTHER, "confidences of 2^-26");
     call.error_limit = 0, both(SAMBUREXT_NONE_WITHIN_LIMIT, "a limit of no misses");
     fill_list(&call.physical, ROW + 7), call.likelihoods = EDGES;
     expect(SAMBUREXT_LISTS_DISAGREE, SAMBUREXT_SOFT_HARD_DISAGREE, SAMBUREXT_FOUND, "a physical list of another square");

@@ -1,10 +1,13 @@
 // An answer as seventeen words: 0 or the refusal's number, transform, row, column, hits, edges, weighted score, rate, mean, best score, the runner-up's score (before
 // the gate: its hits), margin, the runner-up's transform, row and column, and the list and the position of the edge that a refusal is about. A place that an answer
-// leaves empty holds 0xffffffff.
+// leaves empty holds 0xffffffff. A found answer of exact decode has weight, total, rate and the runner-up's hits between edges and the runner-up's transform, and the runner-up's
+// weight at the end; weight and total are two words each, the lower one first.
 use answer::AnyAnswer;
 use answer::MatchStats;
 use answer::StatsAnswer;
 use console::print::bits_of;
+use exact_answer::ExactAnswer;
+use exact_answer::ExactDecoded;
 use flat::flat::NOTHING;
 use flat::flat::list_of;
 use flat::flat::position_of;
@@ -57,6 +60,46 @@ pub(crate) fn words_of(a: AnyAnswer) -> [u32; 17] {
     match ten {
         TenAnswer::Found(d) => found(d),
         TenAnswer::Refused(r) => refused(r),
+    }
+}
+
+// The lower word of a weight, and the upper one.
+fn low(units: u64) -> u32 {
+    (units % 4294967296) as u32
+}
+
+fn high(units: u64) -> u32 {
+    (units / 4294967296) as u32
+}
+
+// What a found answer of exact decode holds.
+fn exact_found(d: ExactDecoded) -> [u32; 17] {
+    [
+        NOT_REFUSED,
+        d.square.transform as u32,
+        d.square.row,
+        d.square.col,
+        d.hits,
+        d.edges,
+        low(d.weight),
+        high(d.weight),
+        low(d.total),
+        high(d.total),
+        bits_of(d.error_rate),
+        d.runner_up_hits,
+        d.runner_up.transform as u32,
+        d.runner_up.row,
+        d.runner_up.col,
+        low(d.runner_up_weight),
+        high(d.runner_up_weight),
+    ]
+}
+
+// Exact decode.
+pub(crate) fn words_of_exact(a: ExactAnswer) -> [u32; 17] {
+    match a {
+        ExactAnswer::Found(d) => exact_found(d),
+        ExactAnswer::Refused(r) => refused(r),
     }
 }
 

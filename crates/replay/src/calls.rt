@@ -1,5 +1,6 @@
 // One call of the library, of columns that a file gave, in room of the lengths that it asks for. The room holds 7 before.
 use crate::answers::words_of;
+use crate::answers::words_of_exact;
 use crate::answers::words_of_selection;
 use crate::answers::words_of_stats;
 use crate::selection::select;
@@ -9,6 +10,7 @@ use slices::part::part_u8;
 use slices::part::room_f32;
 use slices::part::room_i64;
 use slices::part::room_u32;
+use slices::part::room_u64;
 use wordfile::columns::FIFTH;
 use wordfile::columns::FIRST;
 use wordfile::columns::FOURTH;
@@ -18,7 +20,7 @@ use wordfile::columns::SIXTH;
 use wordfile::columns::Sizes;
 use wordfile::columns::THIRD;
 
-// How much room a call is lent.
+// How much room a call is lent: `weights` is of f32, and for exact decode of u64.
 pub struct Room {
     pub counts: usize,
     pub weights: usize,
@@ -80,6 +82,40 @@ fn hard_call(
         room_f32(&mut weights, room.weights),
     );
     words_of(ten_fields::any_of_hard(answer))
+}
+
+// Exact decode.
+fn exact_call(
+    l: Sizes,
+    p: Sizes,
+    n: Lengths,
+    limit: f32,
+    room: Room,
+    wholes: &[i32],
+    bytes: &[u8],
+    floats: &[f32],
+) -> [u32; 17] {
+    let mut counts = [7u32; 6007];
+    let mut units = [7u64; 6007];
+    let answer = decode_exact::decode_exact(
+        part_i32(wholes, FIRST, l.rows),
+        part_i32(wholes, SECOND, l.cols),
+        part_u8(bytes, FIRST, l.orientations),
+        part_u8(bytes, SECOND, l.bits),
+        part_f32(floats, FIRST, l.confidences),
+        part_i32(wholes, THIRD, p.rows),
+        part_i32(wholes, FOURTH, p.cols),
+        part_u8(bytes, THIRD, p.orientations),
+        part_u8(bytes, FOURTH, p.bits),
+        part_f32(floats, SECOND, p.confidences),
+        part_u8(bytes, FIFTH, n.transforms),
+        part_u8(bytes, SIXTH, n.h),
+        part_u8(bytes, SEVENTH, n.v),
+        limit,
+        room_u32(&mut counts, room.counts),
+        room_u64(&mut units, room.weights),
+    );
+    words_of_exact(answer)
 }
 
 // Soft decode.
@@ -174,7 +210,7 @@ fn selection_call(
     words_of_selection(answer, transforms, counted(l.rows))
 }
 
-// The call's answer, by its kind: 1 hard decode, 2 soft decode, 3 match statistics of the physical list, else hard selection on the logical list before the gate.
+// The call's answer, by its kind: 1 hard decode, 2 soft decode, 3 match statistics of the physical list, 5 exact decode, else hard selection on the logical list before the gate.
 pub(crate) fn call(
     kind: u32,
     l: Sizes,
@@ -190,6 +226,7 @@ pub(crate) fn call(
         1 => hard_call(l, p, n, s.limit, room, wholes, bytes, floats),
         2 => soft_call(l, p, n, s.limit, s.margin, room, wholes, bytes, floats),
         3 => stats_call(p, n, s, wholes, bytes, floats),
+        5 => exact_call(l, p, n, s.limit, room, wholes, bytes, floats),
         _ => selection_call(l, n, s.limit, room, wholes, bytes, floats),
     }
 }

@@ -9,23 +9,32 @@ use slices::page::put;
 use slices::page::put_byte;
 
 // One more at a place.
-fn bump(tally: &mut [u32; 96], at: usize) {
-    if at < 96 {
+fn bump(tally: &mut [u32; 114], at: usize) {
+    if at < 114 {
         tally[at] = std::num::wrapping_add_u32(tally[at], 1);
     }
 }
 
+// The line of a word's name: those of exact decode stand after the others'.
+fn name_of(kind: u32, i: usize) -> u32 {
+    let word = (i % 17) as u32;
+    if kind == 5 { word + 17 } else { word }
+}
+
 // A word that differs, by its name.
-fn print_difference(at: u32, i: usize, theirs: u32, ours: u32) {
+fn print_difference(at: u32, kind: u32, i: usize, theirs: u32, ours: u32) {
     let mut page = blank();
-    let wholes = [at, (i % 17) as u32];
+    let wholes = [at, name_of(kind, i)];
     let none = [0.0f32; 1];
     let n = put_form(
         &mut page,
         0,
         b"entry % differs in @: stored ",
         b"refusal\ntransform\nrow\ncolumn\nhits\nedges\nweighted score\nrate\nmean\nbest score\nrunner-up's score\nmargin\n\
-        runner-up's transform\nrunner-up's row\nrunner-up's column\nlist\nposition",
+        runner-up's transform\nrunner-up's row\nrunner-up's column\nlist\nposition\n\
+        refusal\ntransform\nrow\ncolumn\nhits\nedges\nweight's lower word\nweight's upper word\ntotal's lower word\ntotal's upper word\nrate\n\
+        runner-up's hits\nrunner-up's transform\nrunner-up's row\nrunner-up's column\nrunner-up's weight's lower word, or list\n\
+        runner-up's weight's upper word, or position",
         &wholes,
         &none,
     );
@@ -37,13 +46,13 @@ fn print_difference(at: u32, i: usize, theirs: u32, ours: u32) {
 }
 
 // Whether no word differs; each that does is written.
-fn same_words(at: u32, theirs: [u32; 17], ours: [u32; 17]) -> bool {
+fn same_words(at: u32, kind: u32, theirs: [u32; 17], ours: [u32; 17]) -> bool {
     let mut same = true;
     for i in 0..17 {
         let x = theirs[i];
         let y = ours[i];
         if x != y {
-            print_difference(at, i, x, y);
+            print_difference(at, kind, i, x, y);
             same = false;
         }
     }
@@ -60,14 +69,14 @@ fn settled(theirs: u32, ours: u32) -> u32 {
     theirs
 }
 
-// The place of a kind and a refusal number; 95 where there is none.
+// The place of a kind and a refusal number; 113 where there is none.
 fn place_of(kind: u32, number: u32) -> usize {
-    if kind < 5 {
+    if kind < 6 {
         if number < 18 {
             return (kind * 18 + number) as usize;
         }
     }
-    95
+    113
 }
 
 // A call's stored answer and ours.
@@ -76,7 +85,7 @@ pub(crate) fn compare(
     kind: u32,
     theirs: [u32; 17],
     ours: [u32; 17],
-    tally: &mut [u32; 96],
+    tally: &mut [u32; 114],
 ) {
     let first = theirs[0];
     let number = settled(first, ours[0]);
@@ -87,14 +96,14 @@ pub(crate) fn compare(
     }
     bump(tally, 0);
     bump(tally, place_of(kind, number));
-    if !same_words(at, stored, ours) {
+    if !same_words(at, kind, stored, ours) {
         bump(tally, 1);
     }
 }
 
 // The count at a place; 0 where there is none.
-fn count_at(tally: &[u32; 96], at: usize) -> u32 {
-    if at < 96 { tally[at] } else { 0 }
+fn count_at(tally: &[u32; 114], at: usize) -> u32 {
+    if at < 114 { tally[at] } else { 0 }
 }
 
 // How many calls were refused with a number, where there are any.
@@ -107,7 +116,7 @@ fn put_refused(page: &mut [u8; 32768], at: usize, count: u32, number: u32) -> us
 }
 
 // One kind of call: how many were found, and how many refused with each number.
-fn show_kind(tally: &[u32; 96], kind: u32) {
+fn show_kind(tally: &[u32; 114], kind: u32) {
     let mut page = blank();
     let found = [kind, count_at(tally, place_of(kind, 0))];
     let none = [0.0f32; 1];
@@ -115,7 +124,7 @@ fn show_kind(tally: &[u32; 96], kind: u32) {
         &mut page,
         0,
         b"@: % found",
-        b"tables\nhard\nsoft\nstatistics\nselection",
+        b"tables\nhard\nsoft\nstatistics\nselection\nexact",
         &found,
         &none,
     );
@@ -132,8 +141,8 @@ fn show_kind(tally: &[u32; 96], kind: u32) {
 }
 
 // All kinds, and the sums.
-pub(crate) fn show(tally: &[u32; 96]) {
-    for kind in 1..5u32 {
+pub(crate) fn show(tally: &[u32; 114]) {
+    for kind in 1..6u32 {
         show_kind(tally, kind);
     }
     let mut page = blank();

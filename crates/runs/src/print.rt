@@ -12,6 +12,8 @@ use console::print::print;
 use console::print::print_form;
 use console::print::print_long;
 use console::print::print_number;
+use exact_answer::ExactAnswer;
+use exact_answer::ExactDecoded;
 use refusals::Admission;
 use refusals::ListName;
 use refusals::Place;
@@ -102,6 +104,41 @@ fn print_soft_found(d: SoftDecoded) {
     );
 }
 
+// What a found exact answer holds: weights in units.
+fn print_exact_found(d: ExactDecoded) {
+    let square = d.square;
+    let runner = d.runner_up;
+    let wholes = [
+        square.transform as u32,
+        square.row,
+        square.col,
+        d.hits,
+        d.edges,
+    ];
+    let floats = [d.error_rate];
+    print_form(
+        b"found transform % row % column %, hits % of %, rate ^, weight ",
+        &wholes,
+        &floats,
+    );
+    print_long(d.weight);
+    print(b" of ");
+    print_long(d.total);
+    let others = [
+        runner.transform as u32,
+        runner.row,
+        runner.col,
+        d.runner_up_hits,
+    ];
+    let none = [0.0f32; 1];
+    print_form(
+        b", runner-up transform % row % column % with % hits, weight ",
+        &others,
+        &none,
+    );
+    print_long(d.runner_up_weight);
+}
+
 // The edge that a refusal is about, where it is about one: its list, and its position from 0.
 fn print_place(place: Place) {
     if let Place::At(edge) = place {
@@ -142,6 +179,14 @@ pub fn print_soft_answer(a: SoftAnswer) {
     match a {
         SoftAnswer::Found(d) => print_soft_found(d),
         SoftAnswer::Refused(r) => print_refused(r),
+    }
+}
+
+// The same of exact decode.
+pub fn print_exact_answer(a: ExactAnswer) {
+    match a {
+        ExactAnswer::Found(d) => print_exact_found(d),
+        ExactAnswer::Refused(r) => print_refused(r),
     }
 }
 

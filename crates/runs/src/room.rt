@@ -57,3 +57,30 @@ pub fn print_sums(sums: &[i64]) {
     let none = [0.0f32; 1];
     print_form(b"; % i64 hold 0, % hold 7", &wholes, &none);
 }
+
+// How many places of the u64 room hold x.
+fn places_u64(room: &[u64], x: u64) -> u32 {
+    let mut n: u32 = 0;
+    for i in 0..room.len() {
+        if room[i] == x {
+            n = std::num::wrapping_add_u32(n, 1);
+        }
+    }
+    n
+}
+
+// What exact decode left: how many places of the u32 and u64 room hold 0, and how many still 7.
+pub fn print_unit_room(counts: &[u32], units: &[u64]) {
+    let wholes = [
+        places_u32(counts, 0),
+        places_u32(counts, 7),
+        places_u64(units, 0),
+        places_u64(units, 7),
+    ];
+    let none = [0.0f32; 1];
+    print_form(
+        b"\n  room: % u32 hold 0, % hold 7; % u64 hold 0, % hold 7",
+        &wholes,
+        &none,
+    );
+}

@@ -77,3 +77,9 @@ pub fn room_i64(xs: &mut [i64], n: usize) -> &mut [i64]
 {
     if n <= xs.len() { &mut xs[..n] } else { xs }
 }
+
+pub fn room_u64(xs: &mut [u64], n: usize) -> &mut [u64]
+    ensures { λ r. ⌜ now r ≡ take n (now (xs .entry)) ⌝ }
+{
+    if n <= xs.len() { &mut xs[..n] } else { xs }
+}

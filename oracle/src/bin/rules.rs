@@ -1,4 +1,4 @@
-//! rules FILE WRONG: cases of our own for refusals 1 to 9, 16 and 17, whose answers are document 01's and requests C-11's and C-13's and not the Rust's; and a file
+//! rules FILE WRONG: cases of our own for refusals 1 to 9, 16 and 17, whose answers are document 01's and requests C-11's, C-13's and C-15's and not the Rust's; and a file
 //! whose answers are wrong on purpose, by which `replay` shows that it reports every word that differs.
 //!
 //! rules FILE: further cases of that kind, which are not stored; `oracle/compare` makes and replays them each time.
@@ -107,7 +107,7 @@ fn faults(kind: u32) -> Vec<Fault> {
         list_faults!(out, logical, file::LOGICAL);
         out.extend([
             ((1, None), "u32 room", (|c: &mut Call| c.room[0] = 3005) as fn(&mut Call)),
-            ((1, None), "f32 room", |c| c.room[1] = 3005),
+            ((1, None), "f32 or u64 room", |c| c.room[1] = 3005),
             ((1, None), "no room", |c| c.room = [0; 3]),
             ((3, None), "empty", |c| c.logical = Columns::default()),
             ((7, None), "none", |c| c.transforms.clear()),
@@ -127,7 +127,7 @@ fn faults(kind: u32) -> Vec<Fault> {
     if kind != file::SELECTION {
         list_faults!(out, physical, physical_of(kind));
     }
-    if kind == file::HARD || kind == file::SOFT {
+    if [file::HARD, file::SOFT, file::EXACT].contains(&kind) {
         out.push(((3, None), "empty", |c| {
             c.physical = Columns::default();
             c.matches.clear();
@@ -186,7 +186,7 @@ fn further_faults(kind: u32) -> Vec<Fault> {
     out
 }
 
-const KINDS: [u32; 4] = [file::HARD, file::SOFT, file::STATS, file::SELECTION];
+const KINDS: [u32; 5] = [file::HARD, file::SOFT, file::STATS, file::SELECTION, file::EXACT];
 
 /// Each fault alone, then each with the next that comes later in the order of the refusals: the earlier one is given.
 fn faulty(file: &mut File, case: &Case) {
@@ -232,7 +232,7 @@ const BAD: [Bad; 7] = [
 /// The lists of a kind of call, and the ways in which an edge of that list can be bad.
 fn lists(kind: u32) -> Vec<(u32, &'static [Bad])> {
     match kind {
-        file::HARD => vec![(file::LOGICAL, &BAD[..5]), (file::PHYSICAL, &BAD[..5])],
+        file::HARD | file::EXACT => vec![(file::LOGICAL, &BAD[..5]), (file::PHYSICAL, &BAD[..5])],
         file::SOFT => vec![(file::LOGICAL, &BAD[..5]), (file::PHYSICAL, &BAD)],
         file::STATS => vec![(file::ONLY, &BAD[..5])],
         _ => vec![(file::LOGICAL, &BAD[..5])],
@@ -274,7 +274,7 @@ fn which_edge(file: &mut File, case: &Case) {
             }
         }
     }
-    for kind in [file::HARD, file::SOFT] {
+    for kind in [file::HARD, file::SOFT, file::EXACT] {
         for (number, bend) in &BAD[..5] {
             let mut two = call(kind, case);
             bend(&mut two, file::PHYSICAL, 1);
@@ -284,14 +284,16 @@ fn which_edge(file: &mut File, case: &Case) {
     }
 }
 
-/// The ends of each range, which are taken: the answer is the Rust's.
+/// The ends of each range, which are taken: the answer is the Rust's, and of the exact mode the count's.
 fn at_the_ends(file: &mut File, case: &Case) {
-    let mut exact = call(file::SOFT, case);
-    exact.room = [3006, 3006, 5010];
-    file.call(&exact, &answer(file::SOFT, case));
-    let mut hard = call(file::HARD, case);
-    hard.room = [3006, 3006, 0];
-    file.call(&hard, &answer(file::HARD, case));
+    let mut soft = call(file::SOFT, case);
+    soft.room = [3006, 3006, 5010];
+    file.call(&soft, &answer(file::SOFT, case));
+    for kind in [file::HARD, file::EXACT] {
+        let mut enough = call(kind, case);
+        enough.room = [3006, 3006, 0];
+        file.call(&enough, &answer(kind, case));
+    }
     for (limit, row) in [(0.0, 1_000_000), (-0.0, -1_000_000), (1.0, 1_000_000)] {
         let mut ends = case.clone();
         ends.limit = limit;
@@ -492,7 +494,7 @@ fn further(path: &str) {
 /// position and without its place; and one about no edge, with a place.
 fn wrong(file: &mut File) {
     let case = view(6);
-    for kind in [file::HARD, file::SOFT] {
+    for kind in [file::HARD, file::SOFT, file::EXACT] {
         let right = answer(kind, &case);
         assert_eq!(right[0], 0, "a case that is found");
         for i in 0..right.len() {
@@ -505,7 +507,9 @@ fn wrong(file: &mut File) {
         turned.logical.bits[0] ^= 1;
         file.call(&turned, &right);
     }
-    for (kind, list) in [(file::HARD, file::LOGICAL), (file::SOFT, file::PHYSICAL), (file::STATS, file::ONLY)] {
+    for (kind, list) in
+        [(file::HARD, file::LOGICAL), (file::SOFT, file::PHYSICAL), (file::STATS, file::ONLY), (file::EXACT, file::PHYSICAL)]
+    {
         let mut bad = call(kind, &case);
         list_of(&mut bad, list).bits[5] = 2;
         file.call(&bad, &file::refused_at(17, list % 3 + 1, 5));

@@ -5,10 +5,10 @@ use Rattle.replay.proofs.tally.same_words.Statement.{statement}
 use Rattle.replay.proofs.tally.same_words.Tie as tie
 
 abbrev Inv-loop : tie.InvT-loop
-Inv-loop at theirs ours same₀ i₀ same i = i ≤ 17
+Inv-loop at kind theirs ours same₀ i₀ same i = i ≤ 17
 
 abbrev μ-loop : tie.MeasureT-loop
-μ-loop at theirs ours same₀ i₀ same i = 17 - i
+μ-loop at kind theirs ours same₀ i₀ same i = 17 - i
 
 loop-holds : tie.Need-loop-holds Inv-loop μ-loop
 loop-holds c = search needs

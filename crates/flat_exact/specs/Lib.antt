@@ -1,0 +1,2 @@
+pub mod FlatExact
+pub mod FlatExactLaws

@@ -133,6 +133,12 @@ unfolding most
 most-le f zero j h = absurd (omega arith)
 most-le f (suc n) j h = ⊎-elim (λ q. omega (arith, ap f q, larger-right (most f n) (f n))) (λ m. omega (arith, most-le f n j m, larger-left (most f n) (f n))) (split j n h)
 
+-- it is at most what bounds them all
+pub most-bound : (f : ℕ → ℕ) (b : ℕ) → ((i : ℕ) → f i ≤ b) → (n : ℕ) → most f n ≤ b
+unfolding most
+most-bound f b h zero = omega arith
+most-bound f b h (suc n) = ⊎-elim (λ e. omega (arith, e, most-bound f b h n)) (λ e. omega (arith, e, h n)) (larger-is (most f n) (f n))
+
 module _ (B : Board) (E : EdgeList) (t : ℕ) where
   pub short-none : record { a = 0; b = 0; c = 0 } ≡ shortTops B E t 0
   unfolding shortTops most

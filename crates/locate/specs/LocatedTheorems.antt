@@ -50,7 +50,7 @@ module _ (B : Board) (E : EdgeList) (ts : List ℕ) (limit : Float) where
       same : l .square ≡ m .square → l .hits ≡ m .hits → l .«runner_up» ≡ m .«runner_up» → l .«runner_up_hits» ≡ m .«runner_up_hits» → l ≡ m
       same a b c d = λ i. record { square = a i; hits = b i; «runner_up» = c i; «runner_up_hits» = d i }
 
-  refused-one : (r s : Refusal) → RefusedAs B E ts limit r → RefusedAs B E ts limit s → r ≡ s
+  pub refused-one : (r s : Refusal) → RefusedAs B E ts limit r → RefusedAs B E ts limit s → r ≡ s
   refused-one r s (inl a) (inl b) = a .0 ∙ sym (b .0)
   refused-one r s (inl a) (inr b) = let w = b .1 in clash (a .1 (w .0) (w .1) (w .2) (w .3)) (w .4)
   refused-one r s (inr a) (inl b) = let w = a .1 in clash (b .1 (w .0) (w .1) (w .2) (w .3)) (w .4)

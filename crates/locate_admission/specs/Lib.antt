@@ -1,0 +1,2 @@
+pub mod LocateAdmission
+pub mod LocateAdmissionLaws

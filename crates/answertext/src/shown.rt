@@ -1,9 +1,10 @@
-// What hard and soft answers have in common: the square and how well a list fits there, and the runner-up by hits.
+// What the found answers of all decoders have in common: the square and how well a list fits there, and the runner-up by hits.
 ghost use mathlib.Core.Path.{_≡_};
-ghost use Rattle.answertext.specs.Shown.{shownOfHard, shownOfSoft};
+ghost use Rattle.answertext.specs.Shown.{shownOfHard, shownOfSoft, shownOfExact};
 use answer::Decoded;
 use answer::SoftDecoded;
 use answer::Square;
+use exact_answer::ExactDecoded;
 
 // The common part of a found answer, which words and picture show alike.
 pub struct Shown {
@@ -11,7 +12,6 @@ pub struct Shown {
     pub hits: u32,
     pub edges: u32,
     pub error_rate: f32,
-    pub mean_confidence: f32,
     pub runner_up: Square,
     pub runner_up_hits: u32,
 }
@@ -27,7 +27,6 @@ pub fn of_hard(d: Decoded) -> Shown
         hits: d.hits,
         edges: d.edges,
         error_rate: d.error_rate,
-        mean_confidence: d.mean_confidence,
         runner_up,
         runner_up_hits: d.runner_up_hits,
     }
@@ -44,7 +43,22 @@ pub fn of_soft(d: SoftDecoded) -> Shown
         hits: d.hits,
         edges: d.edges,
         error_rate: d.error_rate,
-        mean_confidence: d.mean_confidence,
+        runner_up,
+        runner_up_hits: d.runner_up_hits,
+    }
+}
+
+// Of an exact answer.
+pub fn of_exact(d: ExactDecoded) -> Shown
+    ensures { λ r. ⌜ r ≡ shownOfExact d ⌝ }
+{
+    let square = d.square;
+    let runner_up = d.runner_up;
+    Shown {
+        square,
+        hits: d.hits,
+        edges: d.edges,
+        error_rate: d.error_rate,
         runner_up,
         runner_up_hits: d.runner_up_hits,
     }

@@ -1,25 +1,28 @@
 // The answer, for people and for programs. A refusal is written without a square in any form.
 use crate::shown::Shown;
+use crate::shown::of_exact;
 use crate::shown::of_hard;
 use crate::shown::of_soft;
-use crate::words::DECODE;
-use crate::words::PLAIN_DECODE;
+use crate::told::Told;
 use crate::words::advice_of;
+use crate::words::decode_of;
 use crate::words::directions_of;
 use crate::words::list_phrase;
 use crate::words::meaning_of;
-use crate::words::one_of;
 use crate::words::orientation_of;
+use crate::words::plain_decode_of;
 use crate::words::put_told;
 use crate::words::remark_of;
-use answer::AnyAnswer;
 use answer::Decoded;
 use answer::SoftDecoded;
 use console::form::put_wholes;
 use console::page::put_count;
+use console::page::put_number;
+use exact_answer::ExactDecoded;
 use refusals::EdgePlace;
 use refusals::Place;
 use refusals::Refusal;
+use slices::page::put;
 use slices::page::put_byte;
 use viewtext::view_file::Settings;
 
@@ -61,7 +64,7 @@ fn put_settings(
     put_told(page, n, last, &remarks, &floats)
 }
 
-// The square, how the board lies there and how well a list fits, for people.
+// The square, how the board lies there and how well a list fits, for people; the line is left open.
 fn put_square(page: &mut [u8; 32768], at: usize, shown: Shown) -> usize {
     let square = shown.square;
     let wholes = [
@@ -73,20 +76,38 @@ fn put_square(page: &mut [u8; 32768], at: usize, shown: Shown) -> usize {
         shown.hits,
         shown.edges,
     ];
-    let floats = [shown.error_rate, shown.mean_confidence];
+    let floats = [shown.error_rate];
     put_told(
         page,
         at,
         b"found row %, column %\n\
         \x20 orientation  the board appears @ (transform %):\n\
         \x20              @\n\
-        \x20 hits         % of % edges, error rate ~, mean confidence ~\n",
+        \x20 hits         % of % edges, error rate ~",
         &wholes,
         &floats,
     )
 }
 
-// The runner-up by hits, for people.
+// The mean confidence of the hits, to the end of that line.
+fn put_mean(page: &mut [u8; 32768], at: usize, mean: f32) -> usize {
+    let none = [0u32; 1];
+    let floats = [mean];
+    put_told(page, at, b", mean confidence ~\n", &none, &floats)
+}
+
+// The lead in hits, for people.
+fn put_lead(page: &mut [u8; 32768], at: usize, lead: u32) -> usize {
+    let wholes = [lead];
+    put_wholes(
+        page,
+        at,
+        b"  lead         % hits over the runner-up\n",
+        &wholes,
+    )
+}
+
+// The runner-up by hits, for people; the line is left open.
 fn put_runner_up(page: &mut [u8; 32768], at: usize, shown: Shown) -> usize {
     let runner = shown.runner_up;
     let wholes = [
@@ -100,7 +121,7 @@ fn put_runner_up(page: &mut [u8; 32768], at: usize, shown: Shown) -> usize {
     put_told(
         page,
         at,
-        b"  runner-up    row %, column %, @ (transform %), with % hits\n",
+        b"  runner-up    row %, column %, @ (transform %), with % hits",
         &wholes,
         &none,
     )
@@ -109,15 +130,60 @@ fn put_runner_up(page: &mut [u8; 32768], at: usize, shown: Shown) -> usize {
 // A found hard answer for people: the lead is in hits.
 fn put_found(page: &mut [u8; 32768], at: usize, d: Decoded) -> usize {
     let shown = of_hard(d);
-    let wholes = [d.margin_hits];
     let n = put_square(page, at, shown);
-    let n = put_wholes(
-        page,
-        n,
-        b"  lead         % hits over the runner-up\n",
-        &wholes,
-    );
-    put_runner_up(page, n, shown)
+    let n = put_mean(page, n, d.mean_confidence);
+    let n = put_lead(page, n, d.margin_hits);
+    let n = put_runner_up(page, n, shown);
+    put_byte(page, n, b'\n')
+}
+
+// Millionths of 1 as a float; 0 where they are more than 1.
+fn of_millionths(n: u64) -> f32 {
+    if n > 1000000 {
+        return 0.0;
+    }
+    n as f32 / 1000000.0
+}
+
+// The share of a weight in a total, to six places; 0 where there is no total, or where the weight or the total is more than a list of 8,192 edges can weigh.
+fn share_of(weight: u64, total: u64) -> f32 {
+    if total == 0 {
+        return 0.0;
+    }
+    if total > 137438953472 {
+        return 0.0;
+    }
+    if weight > 137438953472 {
+        return 0.0;
+    }
+    of_millionths((weight * 1000000 + total / 2) / total)
+}
+
+// A weight in units, and its share of a total, for people.
+fn put_weight(page: &mut [u8; 32768], at: usize, weight: u64, total: u64) -> usize {
+    let none = [0u32; 1];
+    let floats = [share_of(weight, total)];
+    let n = put_number(page, at, weight);
+    let n = put(page, n, b" of ");
+    let n = put_number(page, n, total);
+    put_told(page, n, b" units, share ~\n", &none, &floats)
+}
+
+// A found exact answer for people: weights are whole numbers of 2^-24.
+fn put_exact_found(page: &mut [u8; 32768], at: usize, d: ExactDecoded) -> usize {
+    let shown = of_exact(d);
+    let n = put_square(page, at, shown);
+    let n = put(page, n, b"\n  weight       ");
+    let n = put_weight(page, n, d.weight, d.total);
+    let n = put_lead(page, n, lead_of(d));
+    let n = put_runner_up(page, n, shown);
+    let n = put(page, n, b", weight ");
+    put_weight(page, n, d.runner_up_weight, d.total)
+}
+
+// The hits that the square of an exact answer has more than the runner-up, which never has more.
+fn lead_of(d: ExactDecoded) -> u32 {
+    std::num::wrapping_sub_u32(d.hits, d.runner_up_hits)
 }
 
 // The two best by log likelihood, for people: the lead is for each edge, and the second may be another square than the runner-up.
@@ -145,19 +211,27 @@ fn put_likelihoods(page: &mut [u8; 32768], at: usize, d: SoftDecoded) -> usize {
 fn put_soft_found(page: &mut [u8; 32768], at: usize, d: SoftDecoded) -> usize {
     let shown = of_soft(d);
     let n = put_square(page, at, shown);
+    let n = put_mean(page, n, d.mean_confidence);
     let n = put_likelihoods(page, n, d);
-    put_runner_up(page, n, shown)
+    let n = put_runner_up(page, n, shown);
+    put_byte(page, n, b'\n')
 }
 
 // A refusal that is about one edge: its number, its list and its position, counted from 1 for people.
-fn put_refused_at(page: &mut [u8; 32768], at: usize, number: u32, edge: EdgePlace) -> usize {
+fn put_refused_at(
+    page: &mut [u8; 32768],
+    at: usize,
+    number: u32,
+    edge: EdgePlace,
+    how: u32,
+) -> usize {
     let list = edge.list;
     let wholes = [
         number,
-        meaning_of(number),
+        meaning_of(number, how),
         list_phrase(list),
         std::num::wrapping_add_u32(edge.position, 1),
-        advice_of(number),
+        advice_of(number, how),
     ];
     let none = [0.0f32; 1];
     put_told(
@@ -170,8 +244,8 @@ fn put_refused_at(page: &mut [u8; 32768], at: usize, number: u32, edge: EdgePlac
 }
 
 // A refusal that is about no edge: its number, what it means and what helps.
-fn put_refused_whole(page: &mut [u8; 32768], at: usize, number: u32) -> usize {
-    let wholes = [number, meaning_of(number), advice_of(number)];
+fn put_refused_whole(page: &mut [u8; 32768], at: usize, number: u32, how: u32) -> usize {
+    let wholes = [number, meaning_of(number, how), advice_of(number, how)];
     let none = [0.0f32; 1];
     put_told(
         page,
@@ -182,34 +256,29 @@ fn put_refused_whole(page: &mut [u8; 32768], at: usize, number: u32) -> usize {
     )
 }
 
-// A refusal for people.
-fn put_refused(page: &mut [u8; 32768], at: usize, refusal: Refusal) -> usize {
+// A refusal for people, by how the view was decoded.
+fn put_refused(page: &mut [u8; 32768], at: usize, refusal: Refusal, how: u32) -> usize {
     let place = refusal.place;
     match place {
-        Place::Nowhere => put_refused_whole(page, at, refusal.number),
-        Place::At(edge) => put_refused_at(page, at, refusal.number, edge),
+        Place::Nowhere => put_refused_whole(page, at, refusal.number, how),
+        Place::At(edge) => put_refused_at(page, at, refusal.number, edge, how),
     }
 }
 
-// The answer for people.
-pub fn put_answer(
-    page: &mut [u8; 32768],
-    at: usize,
-    a: AnyAnswer,
-    s: Settings,
-    soft: bool,
-) -> usize {
+// The answer for people, with how the view was decoded.
+pub fn put_answer(page: &mut [u8; 32768], at: usize, a: Told, s: Settings, how: u32) -> usize {
     let n = match a {
-        AnyAnswer::Hard(d) => put_found(page, at, d),
-        AnyAnswer::Soft(d) => put_soft_found(page, at, d),
-        AnyAnswer::Refused(r) => put_refused(page, at, r),
+        Told::Hard(d) => put_found(page, at, d),
+        Told::Soft(d) => put_soft_found(page, at, d),
+        Told::Exact(d) => put_exact_found(page, at, d),
+        Told::Refused(r) => put_refused(page, at, r, how),
     };
     put_settings(
         page,
         n,
         s,
         b"  decode       @\n  settings     transforms ",
-        one_of(DECODE, soft),
+        decode_of(how),
         b' ',
         b"@, limit ~@, margin ~@\n",
     )
@@ -225,11 +294,11 @@ fn put_plain_square(page: &mut [u8; 32768], at: usize, shown: Shown) -> usize {
         shown.hits,
         shown.edges,
     ];
-    let floats = [shown.error_rate, shown.mean_confidence];
+    let floats = [shown.error_rate];
     put_told(
         page,
         at,
-        b"result=found square=%,% transform=% hits=% edges=% rate=~ mean=~",
+        b"result=found square=%,% transform=% hits=% edges=% rate=~",
         &wholes,
         &floats,
     )
@@ -256,12 +325,12 @@ fn put_plain_runner_up(page: &mut [u8; 32768], at: usize, shown: Shown) -> usize
 fn put_plain_found(page: &mut [u8; 32768], at: usize, d: Decoded) -> usize {
     let shown = of_hard(d);
     let wholes = [d.margin_hits];
-    let floats = [d.weighted_score, d.best_score];
+    let floats = [d.mean_confidence, d.weighted_score, d.best_score];
     let n = put_plain_square(page, at, shown);
     let n = put_told(
         page,
         n,
-        b" weighted=~ score=~ lead_hits=%",
+        b" mean=~ weighted=~ score=~ lead_hits=%",
         &wholes,
         &floats,
     );
@@ -273,17 +342,39 @@ fn put_plain_soft_found(page: &mut [u8; 32768], at: usize, d: SoftDecoded) -> us
     let shown = of_soft(d);
     let second = d.second;
     let wholes = [second.row, second.col, second.transform as u32];
-    let floats = [d.weighted_score, d.best_score, d.second_score, d.margin];
+    let floats = [
+        d.mean_confidence,
+        d.weighted_score,
+        d.best_score,
+        d.second_score,
+        d.margin,
+    ];
     let n = put_plain_square(page, at, shown);
     let n = put_told(
         page,
         n,
-        b" log_likelihood_per_edge=~ log_likelihood=~ second_log_likelihood=~ lead_log_likelihood_per_edge=~ \
+        b" mean=~ log_likelihood_per_edge=~ log_likelihood=~ second_log_likelihood=~ lead_log_likelihood_per_edge=~ \
         second_square=%,% second_transform=%",
         &wholes,
         &floats,
     );
     put_plain_runner_up(page, n, shown)
+}
+
+// A found exact answer in keys and values: weights are whole numbers of 2^-24.
+fn put_plain_exact_found(page: &mut [u8; 32768], at: usize, d: ExactDecoded) -> usize {
+    let shown = of_exact(d);
+    let wholes = [lead_of(d)];
+    let floats = [share_of(d.weight, d.total)];
+    let n = put_plain_square(page, at, shown);
+    let n = put(page, n, b" weight=");
+    let n = put_number(page, n, d.weight);
+    let n = put(page, n, b" total=");
+    let n = put_number(page, n, d.total);
+    let n = put_told(page, n, b" share=~ lead_hits=%", &wholes, &floats);
+    let n = put_plain_runner_up(page, n, shown);
+    let n = put(page, n, b" runner_weight=");
+    put_number(page, n, d.runner_up_weight)
 }
 
 // A refusal in keys and values; where it is about an edge, its list, and its position from 0.
@@ -309,25 +400,20 @@ fn put_plain_refused(page: &mut [u8; 32768], at: usize, refusal: Refusal) -> usi
     }
 }
 
-// The answer in keys and values, for programs; the line is left open.
-pub fn put_plain(
-    page: &mut [u8; 32768],
-    at: usize,
-    a: AnyAnswer,
-    s: Settings,
-    soft: bool,
-) -> usize {
+// The answer in keys and values, for programs, with how the view was decoded; the line is left open.
+pub fn put_plain(page: &mut [u8; 32768], at: usize, a: Told, s: Settings, how: u32) -> usize {
     let n = match a {
-        AnyAnswer::Hard(d) => put_plain_found(page, at, d),
-        AnyAnswer::Soft(d) => put_plain_soft_found(page, at, d),
-        AnyAnswer::Refused(r) => put_plain_refused(page, at, r),
+        Told::Hard(d) => put_plain_found(page, at, d),
+        Told::Soft(d) => put_plain_soft_found(page, at, d),
+        Told::Exact(d) => put_plain_exact_found(page, at, d),
+        Told::Refused(r) => put_plain_refused(page, at, r),
     };
     put_settings(
         page,
         n,
         s,
         b" decode=@ transforms=",
-        one_of(PLAIN_DECODE, soft),
+        plain_decode_of(how),
         b',',
         b" limit=~ margin=~",
     )

@@ -1,23 +1,27 @@
 // What numbers mean in words. A phrase is a line of one text, counted from 0; a form names it by `@`.
+use crate::told::EXACT;
 use console::form::put_form;
 use refusals::ListName;
 
-// How the view was decoded, for people and for programs: hard, and after it soft.
-pub(crate) const DECODE: u32 = 45;
+// How the view was decoded, for people and for programs: hard, and after it soft and exact.
+const DECODE: u32 = 45;
 
-pub(crate) const PLAIN_DECODE: u32 = 47;
+const PLAIN_DECODE: u32 = 48;
 
 // An entry of a matrix: 0, and after it 1 and -1.
-const ENTRY: u32 = 49;
+const ENTRY: u32 = 51;
 
 // A remark on a setting that the file gave, which is empty, and after it on one that it did not.
-const OWN: u32 = 52;
+const OWN: u32 = 54;
 
 // A name that stands right of its square, and after it left.
-pub(crate) const SIDE: u32 = 54;
+pub(crate) const SIDE: u32 = 56;
 
 // A list: the logical one, and after it the physical and the only one.
-const LIST: u32 = 56;
+const LIST: u32 = 58;
+
+// What refusal 10 means of exact decode, and after it what helps.
+const NO_UNITS: u32 = 61;
 
 // A form with phrases: orientations from 0 on and directions from 9 on by transform, meanings from 18 on and advice from 37 on by refusal, then the phrases above. A turn
 // is what the view shows of the board as printed; directions are where on the board one goes when one goes right, and down, in the view. A file that was read
@@ -80,8 +84,10 @@ pub(crate) fn put_told(
         take the picture again; if it stays so, check how the likelihoods are made\n\
         hard, by hits (the view has no log likelihoods)\n\
         soft, by log likelihoods and then by hits\n\
+        exact, by hits and then by weight in units of 2^-24 (--exact)\n\
         hard\n\
         soft\n\
+        exact\n\
         0\n\
         1\n\
         -1\n\
@@ -91,7 +97,9 @@ pub(crate) fn put_told(
         \x20text-anchor=\"end\"\n\
         logical\n\
         physical\n\
-        only",
+        only\n\
+        no edge of a list was seen with any confidence; below 2^-25 (0.00000003) counts as none here\n\
+        take the picture again with better light or focus; where confidences are that small, decode without --exact",
         wholes,
         floats,
     )
@@ -111,13 +119,38 @@ pub(crate) fn directions_of(transform: u8) -> u32 {
     }
 }
 
-// What a refusal means.
-pub(crate) fn meaning_of(number: u32) -> u32 {
+// Whether a refusal says that a list has no unit of weight, where confidences may still be above 0.
+fn has_no_units(number: u32, how: u32) -> bool {
+    number == refusals::NO_CONFIDENCE && how == EXACT
+}
+
+// How the view was decoded, for people.
+pub(crate) fn decode_of(how: u32) -> u32 {
+    if how < 3 { DECODE + how } else { DECODE }
+}
+
+// The same for programs.
+pub(crate) fn plain_decode_of(how: u32) -> u32 {
+    if how < 3 {
+        PLAIN_DECODE + how
+    } else {
+        PLAIN_DECODE
+    }
+}
+
+// What a refusal means, by how the view was decoded.
+pub(crate) fn meaning_of(number: u32, how: u32) -> u32 {
+    if has_no_units(number, how) {
+        return NO_UNITS;
+    }
     if number < 18 { 18 + number } else { 36 }
 }
 
-// What the operator can do about a refusal.
-pub(crate) fn advice_of(number: u32) -> u32 {
+// What the operator can do about a refusal, by how the view was decoded.
+pub(crate) fn advice_of(number: u32, how: u32) -> u32 {
+    if has_no_units(number, how) {
+        return NO_UNITS + 1;
+    }
     if number == refusals::LIST_SIZE {
         return 38;
     }

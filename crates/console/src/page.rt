@@ -7,7 +7,7 @@ use slices::page::put;
 use slices::page::put_byte;
 
 // A whole number.
-pub(crate) fn put_number(page: &mut [u8; 32768], at: usize, n: u64) -> usize
+pub fn put_number(page: &mut [u8; 32768], at: usize, n: u64) -> usize
     ensures { λ r. ⌜ PutNumber 10 1 n (now (page .entry)) at (now (page .exit)) r ⌝ }
 {
     let mut digits = [0u8; 20];

@@ -8,6 +8,7 @@ pub struct Options {
     pub wrong: bool,
     pub help: bool,
     pub plain: bool,
+    pub exact: bool,
     pub awaits: bool,
     pub board: usize,
     pub view: usize,
@@ -57,7 +58,12 @@ fn with_text(o: Options, i: usize, text: &[u8]) -> Options {
     if o.awaits || !is_option(text) {
         return with_file(o, i, text);
     }
-    let word = name_of(text, 0, text.len(), b"--help\n-h\n--plain\n--map\n");
+    let word = name_of(
+        text,
+        0,
+        text.len(),
+        b"--help\n-h\n--plain\n--map\n--exact\n",
+    );
     let mut out = o;
     if word < 2 {
         out.help = true;
@@ -65,6 +71,8 @@ fn with_text(o: Options, i: usize, text: &[u8]) -> Options {
         out.plain = true;
     } else if word == 3 && o.map == 0 {
         out.awaits = true;
+    } else if word == 4 {
+        out.exact = true;
     } else {
         out.wrong = true;
     }
@@ -83,19 +91,20 @@ fn with_argument(o: Options, i: usize) -> Options {
     with_text(o, i, &word[..n])
 }
 
-// All options. Five arguments are the most that can be understood.
+// All options. Six arguments are the most that can be understood.
 pub fn all_options() -> Options {
     let count = os::arg_count();
     let mut o = Options {
-        wrong: count > 6,
+        wrong: count > 7,
         help: false,
         plain: false,
+        exact: false,
         awaits: false,
         board: 0,
         view: 0,
         map: 0,
     };
-    for i in 1..6usize {
+    for i in 1..7usize {
         if i < count {
             o = with_argument(o, i);
         }

@@ -1,12 +1,13 @@
 // What becomes of an answer: its picture drawn, and the answer written, or nothing but that a file could not be had.
-use answer::AnyAnswer;
 use answertext::map;
 use answertext::shown;
 use answertext::shown::Shown;
 use answertext::telling;
+use answertext::told::Told;
 use console::form;
 use console::page::put_argument;
 use console::page::say;
+use console::page::write;
 use options::args::Options;
 use slices::page;
 use viewtext::view_file::View;
@@ -16,6 +17,19 @@ pub fn give_up(o: Options) {
     if o.plain {
         io::write_all(libc::STDOUT_FILENO, b"result=fault square=none\n");
     }
+}
+
+// What is written where exact decode was asked for and the view has log likelihoods: which of the two to leave out.
+pub fn give_up_soft(o: Options) {
+    let mut room = page::blank();
+    let n = put_argument(&mut room, 0, o.view);
+    let n = page::put(
+        &mut room,
+        n,
+        b": this view has log likelihoods, which ask for soft decode, and --exact decodes by hits; leave out --exact or the log likelihoods\n",
+    );
+    write(libc::STDERR_FILENO, &room, n);
+    give_up(o);
 }
 
 // What became of the picture: 0 where none was asked for, 1 where a refusal has none, 2 where it is written.
@@ -49,37 +63,38 @@ fn put_plain_map(page: &mut [u8; 32768], at: usize, state: u32) -> usize {
     page::put_byte(page, n, b'\n')
 }
 
-// The answer written as it was asked for.
-fn tell(o: Options, a: AnyAnswer, view: View, soft: bool, found: bool) {
+// The answer written as it was asked for, with how the view was decoded.
+fn tell(o: Options, a: Told, view: View, how: u32, found: bool) {
     let state = map_state(o, found);
     let settings = view.settings;
     let mut room = page::blank();
     let n = if o.plain {
-        let n = telling::put_plain(&mut room, 0, a, settings, soft);
+        let n = telling::put_plain(&mut room, 0, a, settings, how);
         put_plain_map(&mut room, n, state)
     } else {
-        let n = telling::put_answer(&mut room, 0, a, settings, soft);
+        let n = telling::put_answer(&mut room, 0, a, settings, how);
         put_map(&mut room, n, state, o.map)
     };
     say(&room, n);
 }
 
 // A found answer with its picture, if one is asked for, of a board of a pole's length. Where the picture cannot be written, no answer is given.
-fn conclude_found(o: Options, a: AnyAnswer, found: Shown, view: View, soft: bool, length: usize) {
+fn conclude_found(o: Options, a: Told, found: Shown, view: View, how: u32, length: usize) {
     if o.map != 0 {
         if !map::draw(o.map, found, view.extent, length) {
             give_up(o);
             return;
         }
     }
-    tell(o, a, view, soft, true);
+    tell(o, a, view, how, true);
 }
 
-// The answer of a view, soft or hard, on a board of a pole's length; a refusal has no picture.
-pub fn conclude(o: Options, a: AnyAnswer, view: View, soft: bool, length: usize) {
+// The answer of a view, decoded one way or another, on a board of a pole's length; a refusal has no picture.
+pub fn conclude(o: Options, a: Told, view: View, how: u32, length: usize) {
     match a {
-        AnyAnswer::Hard(d) => conclude_found(o, a, shown::of_hard(d), view, soft, length),
-        AnyAnswer::Soft(d) => conclude_found(o, a, shown::of_soft(d), view, soft, length),
-        AnyAnswer::Refused(_) => tell(o, a, view, soft, false),
+        Told::Hard(d) => conclude_found(o, a, shown::of_hard(d), view, how, length),
+        Told::Soft(d) => conclude_found(o, a, shown::of_soft(d), view, how, length),
+        Told::Exact(d) => conclude_found(o, a, shown::of_exact(d), view, how, length),
+        Told::Refused(_) => tell(o, a, view, how, false),
     }
 }

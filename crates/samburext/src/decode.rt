@@ -1,6 +1,10 @@
-// The decoder called on what the files gave. One list serves for both where the view has only one; where the physical list has log likelihoods, decode is soft.
-// The room that is lent serves the longest pole: 6,003 counts and weights, and 10,005 sums.
-use answer::AnyAnswer;
+// The decoder called on what the files gave. One list serves for both where the view has only one; where the physical list has log likelihoods, decode is soft, else
+// hard, or exact where that is asked for. The room that is lent serves the longest pole: 6,003 counts, weights and units, and 10,005 sums.
+use answertext::told;
+use answertext::told::EXACT;
+use answertext::told::HARD;
+use answertext::told::SOFT;
+use answertext::told::Told;
 use slices::part::part_f32;
 use slices::part::part_i32;
 use slices::part::part_u8;
@@ -38,7 +42,7 @@ fn part_of(view: View, physical: bool) -> Part {
 }
 
 // Whether the list that serves as the physical one has log likelihoods.
-pub(crate) fn is_soft(view: View) -> bool {
+fn is_soft(view: View) -> bool {
     let physical = view.physical_list;
     let logical = view.logical_list;
     if physical.given {
@@ -46,6 +50,14 @@ pub(crate) fn is_soft(view: View) -> bool {
     } else {
         logical.likely == 2
     }
+}
+
+// How a view is decoded: soft where it has log likelihoods, else as it is asked for.
+pub(crate) fn how_of(view: View, exact: bool) -> u32 {
+    if is_soft(view) {
+        return SOFT;
+    }
+    if exact { EXACT } else { HARD }
 }
 
 // What hard decode says of two parts of the columns, on a board of a pole's length.
@@ -59,7 +71,7 @@ fn hard_of(
     tables: &[u8],
     length: usize,
     limit: f32,
-) -> AnyAnswer {
+) -> Told {
     let mut counts = [0u32; 6003];
     let mut weights = [0.0f32; 6003];
     let answer = decode_hard::decode_hard(
@@ -80,7 +92,42 @@ fn hard_of(
         &mut counts,
         &mut weights,
     );
-    ten_fields::any_of_hard(answer)
+    told::of_any(ten_fields::any_of_hard(answer))
+}
+
+// What exact decode says of the same.
+fn exact_of(
+    l: Part,
+    p: Part,
+    wholes: &[i32],
+    bytes: &[u8],
+    floats: &[f32],
+    transforms: &[u8],
+    tables: &[u8],
+    length: usize,
+    limit: f32,
+) -> Told {
+    let mut counts = [0u32; 6003];
+    let mut units = [0u64; 6003];
+    let answer = decode_exact::decode_exact(
+        part_i32(wholes, l.from, l.edges),
+        part_i32(wholes, l.second, l.edges),
+        part_u8(bytes, l.from, l.edges),
+        part_u8(bytes, l.second, l.edges),
+        part_f32(floats, l.from, l.edges),
+        part_i32(wholes, p.from, p.edges),
+        part_i32(wholes, p.second, p.edges),
+        part_u8(bytes, p.from, p.edges),
+        part_u8(bytes, p.second, p.edges),
+        part_f32(floats, p.from, p.edges),
+        transforms,
+        part_u8(tables, 0, length),
+        part_u8(tables, 500, 167),
+        limit,
+        &mut counts,
+        &mut units,
+    );
+    told::of_exact(answer)
 }
 
 // What soft decode says of two parts of the columns, on a board of a pole's length.
@@ -95,7 +142,7 @@ fn soft_of(
     length: usize,
     limit: f32,
     margin: f32,
-) -> AnyAnswer {
+) -> Told {
     let mut counts = [0u32; 6003];
     let mut weights = [0.0f32; 6003];
     let mut sums = [0i64; 10005];
@@ -121,7 +168,7 @@ fn soft_of(
         &mut weights,
         &mut sums,
     );
-    ten_fields::any_of_soft(answer)
+    told::of_any(ten_fields::any_of_soft(answer))
 }
 
 // The transforms that are listed.
@@ -129,21 +176,22 @@ fn listed(transforms: &[u8; 8], n: usize) -> &[u8] {
     part_u8(transforms, 0, n)
 }
 
-// What the decoder says of the view on a board of a pole's length.
+// What the decoder says of the view, decoded as it is told, on a board of a pole's length.
 pub(crate) fn decode(
     view: View,
+    how: u32,
     wholes: &[i32; 32768],
     bytes: &[u8; 32768],
     floats: &[f32; 49152],
     tables: &[u8; 667],
     length: usize,
-) -> AnyAnswer {
+) -> Told {
     let l = part_of(view, false);
     let p = part_of(view, true);
     let settings = view.settings;
     let transforms = settings.transforms;
     let some = listed(&transforms, settings.listed);
-    if is_soft(view) {
+    if how == SOFT {
         return soft_of(
             l,
             p,
@@ -155,6 +203,19 @@ pub(crate) fn decode(
             length,
             settings.limit,
             settings.margin,
+        );
+    }
+    if how == EXACT {
+        return exact_of(
+            l,
+            p,
+            wholes,
+            bytes,
+            floats,
+            some,
+            tables,
+            length,
+            settings.limit,
         );
     }
     hard_of(

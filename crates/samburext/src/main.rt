@@ -2,9 +2,11 @@
 mod decode; // the decoder called on what the files gave
 
 use answertext::map;
+use answertext::told::SOFT;
 use options::args::Options;
 use outcome::conclude;
 use outcome::give_up;
+use outcome::give_up_soft;
 use viewfiles::files;
 use viewtext::view_file;
 
@@ -18,8 +20,13 @@ fn face(o: Options, tables: &[u8; 667], length: usize) {
         give_up(o);
         return;
     }
-    let a = decode::decode(view, &wholes, &bytes, &floats, tables, length);
-    conclude(o, a, view, decode::is_soft(view), length);
+    let how = decode::how_of(view, o.exact);
+    if o.exact && how == SOFT {
+        give_up_soft(o);
+        return;
+    }
+    let a = decode::decode(view, how, &wholes, &bytes, &floats, tables, length);
+    conclude(o, a, view, how, length);
 }
 
 // The board, then the view. Where a picture cannot take its place, no answer is given.

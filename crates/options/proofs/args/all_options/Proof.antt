@@ -1,14 +1,14 @@
--- `all_options`: five arguments are looked at.
+-- `all_options`: six arguments are looked at.
 use Prim.Native.Nat.{_-_, _≤_}
 use borrow.Author.Needs.{needs}
 use Rattle.options.proofs.args.all_options.Statement.{statement}
 use Rattle.options.proofs.args.all_options.Tie as tie
 
 abbrev Inv-loop : tie.InvT-loop
-Inv-loop count o₀ i₀ o i = i ≤ 6
+Inv-loop count o₀ i₀ o i = i ≤ 7
 
 abbrev μ-loop : tie.MeasureT-loop
-μ-loop count o₀ i₀ o i = 6 - i
+μ-loop count o₀ i₀ o i = 7 - i
 
 arg-count-requires : tie.Need-arg-count-requires Inv-loop μ-loop
 arg-count-requires c κs = search needs

@@ -1,4 +1,4 @@
-//! The same cases through the static library and through the given Rust, from one driver.
+//! The same cases through the static library and through the given Rust, from one driver. Exact decode, which the given Rust has not, is beside its hard decode.
 //!
 //! `bench` prints a table of times: the least of several runs, and the ratio ours / Rust. `bench list` prints the cases' names;
 //! `bench run NAME ours|rust N` makes N calls and prints nothing, for a tool that counts instructions.
@@ -10,16 +10,34 @@
 compile_error!("the comparison is of release builds: cargo run --release");
 
 use oracle::{Case, Edge, Found, Likelihood, Random, Ready, Soft, Square};
-use samburext::{decode_hard, decode_soft, Decoded, EdgeList, Likelihoods, Patterns, Refused, Room, SoftDecoded};
+use samburext::{
+    decode_exact, decode_hard, decode_soft, Decoded, EdgeList, ExactDecoded, ExactRoom, Likelihoods, Patterns, Refused, Room,
+    SoftDecoded,
+};
 use std::hint::black_box;
 
 const RUNS: usize = 25;
 const AT: Square = Square { transform: 2, row: 123, col: 456 };
 
+/// Which of our decoders: the Rust's side of `Exact` is its hard decode.
+#[derive(Clone, Copy, PartialEq)]
+enum Mode {
+    Hard,
+    Soft,
+    Exact,
+}
+
+/// What our decoders found: the Rust's ten fields, or an exact answer.
+#[derive(Debug)]
+enum Ours {
+    Ten(Found),
+    Exact(ExactDecoded),
+}
+
 /// One case for both sides.
 struct Bench {
     name: String,
-    soft: bool,
+    mode: Mode,
     case: Case,
     ready: Ready,
     logical: EdgeList,
@@ -28,6 +46,7 @@ struct Bench {
     horizontal: Vec<u8>,
     vertical: Vec<u8>,
     room: Room,
+    exact_room: ExactRoom,
 }
 
 /// The edges of a window as a camera at AT sees them, one bit in twenty wrong; a window of 7 squares is clean.
@@ -91,15 +110,28 @@ fn ten_of_soft(d: SoftDecoded) -> Found {
     }
 }
 
+/// Whether both sides found the same: every field of the ten, or of an exact answer what counts edges, which hard decode has too.
+fn same(ours: &Ours, rust: &Found) -> bool {
+    match ours {
+        Ours::Ten(found) => found == rust,
+        Ours::Exact(d) => {
+            let counted = (d.hits, d.edges, d.runner_up_hits as f32, d.margin_hits as f32);
+            square(d.square) == rust.square
+                && counted == (rust.hits, rust.edges, rust.next, rust.margin)
+                && d.error_rate == rust.rate
+        }
+    }
+}
+
 impl Bench {
-    fn new(what: &str, logical: Vec<Edge>, physical: Vec<Edge>, transforms: u8, soft: bool, limit: f32) -> Bench {
+    fn new(what: &str, logical: Vec<Edge>, physical: Vec<Edge>, transforms: u8, mode: Mode, limit: f32) -> Bench {
         let knobs = Soft { likelihood: Likelihood::Sigmoid, kappa: 12.0, floor: -6.0, margin: 0.02 };
         let case = Case { map: 0, logical, physical, transforms: (0..transforms).collect(), limit, soft: knobs };
         let (matches, mismatches) = oracle::likelihoods(&case).into_iter().unzip();
         let (horizontal, vertical) = oracle::patterns(0);
         Bench {
-            name: format!("{}-{}-{}", if soft { "soft" } else { "hard" }, what, transforms),
-            soft,
+            name: format!("{}-{}-{}", ["hard", "soft", "exact"][mode as usize], what, transforms),
+            mode,
             ready: Ready::new(&case),
             logical: columns(&case.logical),
             physical: columns(&case.physical),
@@ -108,23 +140,29 @@ impl Bench {
             horizontal,
             vertical,
             room: Room::new(),
+            exact_room: ExactRoom::new(),
         }
     }
 
-    fn ours(&mut self) -> Result<Found, Refused> {
+    fn ours(&mut self) -> Result<Ours, Refused> {
         let patterns = Patterns { horizontal: &self.horizontal, vertical: &self.vertical };
         let (limit, transforms) = (self.case.limit, &self.case.transforms);
-        if self.soft {
-            let margin = self.case.soft.margin;
-            decode_soft(&self.logical, &self.physical, &self.likelihoods, transforms, patterns, limit, margin, &mut self.room)
-                .map(ten_of_soft)
-        } else {
-            decode_hard(&self.logical, &self.physical, transforms, patterns, limit, &mut self.room).map(ten_of_hard)
+        let (logical, physical) = (&self.logical, &self.physical);
+        match self.mode {
+            Mode::Hard => {
+                decode_hard(logical, physical, transforms, patterns, limit, &mut self.room).map(|d| Ours::Ten(ten_of_hard(d)))
+            }
+            Mode::Soft => {
+                let margin = self.case.soft.margin;
+                decode_soft(logical, physical, &self.likelihoods, transforms, patterns, limit, margin, &mut self.room)
+                    .map(|d| Ours::Ten(ten_of_soft(d)))
+            }
+            Mode::Exact => decode_exact(logical, physical, transforms, patterns, limit, &mut self.exact_room).map(Ours::Exact),
         }
     }
 
     fn rust(&self) -> Option<Found> {
-        if self.soft {
+        if self.mode == Mode::Soft {
             self.ready.soft()
         } else {
             self.ready.hard()
@@ -132,20 +170,22 @@ impl Bench {
     }
 }
 
-/// Every case: windows of 7 to 64 squares with 4 and 8 transforms, hard and soft, and one edge alone, which is scanned directly.
+/// Every case: windows of 7 to 64 squares with 4 and 8 transforms, hard, soft and exact, and one edge alone, which the Rust and our hard decode scan directly.
 fn all() -> Vec<Bench> {
     let mut list = Vec::new();
-    for soft in [false, true] {
+    for mode in [Mode::Hard, Mode::Soft, Mode::Exact] {
         for squares in [7, 12, 24, 48, 64] {
             for transforms in [4, 8] {
                 let edges = window(squares, squares as u64);
-                list.push(Bench::new(&squares.to_string(), edges.clone(), edges, transforms, soft, 0.3));
+                list.push(Bench::new(&squares.to_string(), edges.clone(), edges, transforms, mode, 0.3));
             }
         }
     }
-    for transforms in [4, 8] {
-        let edges = window(1, 1)[..1].to_vec();
-        list.push(Bench::new("one", edges.clone(), edges, transforms, false, 1.0));
+    for mode in [Mode::Hard, Mode::Exact] {
+        for transforms in [4, 8] {
+            let edges = window(1, 1)[..1].to_vec();
+            list.push(Bench::new("one", edges.clone(), edges, transforms, mode, 1.0));
+        }
     }
     list
 }
@@ -201,7 +241,7 @@ fn table() {
     println!("|---|---|---|---|---|");
     for mut bench in all() {
         let answer = match (bench.ours(), bench.rust()) {
-            (Ok(ours), Some(rust)) if ours == rust => "found".to_string(),
+            (Ok(ours), Some(rust)) if same(&ours, &rust) => "found".to_string(),
             // 1 to 9, 16 and 17 are refused before any work is done, which the Rust never does
             (Err(refused), None) if (10..16).contains(&refused.number()) => format!("refused, {}", refused.number()),
             (ours, rust) => panic!("{}: the answers differ: {ours:?} and {rust:?}", bench.name),

@@ -67,21 +67,26 @@ impl Board {
         self.predicted(&looked(e, at.transform as u8), at.row as usize, at.col as usize)
     }
 
+    /// What an edge adds at the origins, line by line, by whether it is a hit. Looked up horizontally, it reads the same bit of a pattern at every third column, and the same pattern at every
+    /// L-th row; else at every 167th column and every third row. So a line is as long as the columns are told apart, and there are as many as the rows are.
+    fn lines(&self, e: &Edge, transform: u8, adds: [i64; 2]) -> Vec<Vec<i64>> {
+        let at = looked(e, transform);
+        let (rows, cols) = if at.horizontal { (self.h.len(), 3) } else { (3, self.v.len()) };
+        let adds = |row: usize, col: usize| adds[usize::from(self.predicted(&at, row, col) == e.bit)];
+        (0..rows).map(|row| (0..cols).map(|col| adds(row, col)).collect()).collect()
+    }
+
     /// At every origin, row by row, the sum over the list of what an edge adds, by its position and whether it is a hit.
     fn at_every_origin(&self, edges: &[Edge], transform: u8, add: impl Fn(usize, bool) -> i64) -> Vec<i64> {
         let cols = self.cols();
-        let looked: Vec<Looked> = edges.iter().map(|e| looked(e, transform)).collect();
+        let lines = edges.iter().enumerate().map(|(i, e)| self.lines(e, transform, [add(i, false), add(i, true)]));
+        let lines: Vec<Vec<Vec<i64>>> = lines.collect();
         let mut sums = vec![0; self.rows() * cols];
         for (row, sums) in sums.chunks_mut(cols).enumerate() {
-            for (i, (e, at)) in edges.iter().zip(&looked).enumerate() {
-                let adds = [add(i, false), add(i, true)];
-                // of one row every third column reads the same bit of a horizontal pattern, and every 167th the same vertical pattern
-                let period = if at.horizontal { 3 } else { self.v.len() };
-                let line: Vec<i64> = (0..period).map(|col| adds[usize::from(self.predicted(at, row, col) == e.bit)]).collect();
-                for part in sums.chunks_mut(period) {
-                    for (sum, x) in part.iter_mut().zip(&line) {
-                        *sum += x;
-                    }
+            for edge in &lines {
+                let line = &edge[row % edge.len()];
+                for (sum, x) in sums.iter_mut().zip(line.repeat(cols / line.len())) {
+                    *sum += x;
                 }
             }
         }

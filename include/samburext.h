@@ -204,8 +204,9 @@ samburext_answer samburext_decode_hard(
     float *weights, size_t weights_length);              /* room, at least SAMBUREXT_ROOM_WEIGHTS_FOR(horizontal_length) */
 
 /* Exact decode: the square by hits and, where hits are equal, by weights that add without rounding. The logical list decides, with the error limit; the
-   physical list must agree. Lists, tables and refusals are hard decode's, but for 10, which is given where all confidences of a list are below
-   2^-25. Where both modes find a square, it is the same one. Room is u32 and u64: the counts are asked for and left zero, as in hard decode. */
+   physical list must agree. Lists, tables and refusals are hard decode's, but 10 is given where all confidences of a list are below 2^-25, and 12 goes
+   by the physical list's best square by these weights. Where both modes find a square, it is the same one; where they do not answer alike, one of
+   them gives 10 or 12. Room is u32 and u64: the counts are asked for and left zero, as in hard decode. */
 samburext_exact_answer samburext_decode_exact(
     const int32_t *logical_rows, size_t logical_rows_length,                 /* the logical list: rows */
     const int32_t *logical_columns, size_t logical_columns_length,           /* its columns */

@@ -393,8 +393,8 @@ fn decode_hard_raw(
 }
 
 /// Exact decode: the square by the hits of the logical list, within the error limit, and where hits are equal by weights that add without rounding; the
-/// physical list must agree. It is refused as hard decode is, but for `NoConfidence`, which is given where all confidences of a list are below
-/// 2^-25. The room is made as long as the board needs it.
+/// physical list must agree. It is refused as hard decode is, but `NoConfidence` is given where all confidences of a list are below 2^-25, and
+/// `ListsDisagree` goes by the physical list's best square by these weights. The room is made as long as the board needs it.
 pub fn decode_exact(
     logical: &EdgeList,
     physical: &EdgeList,

@@ -43,8 +43,7 @@ pub fn weight_at<'a>(
     let matrix = lookup::matrix_of(square.transform);
     let mut sum: u64 = 0;
     for i in 0..rows.len() {
-        let edge = board::edge::edge_at(rows, cols, orientations, bits, i);
-        let hit = hit::is_hit(h, v, edge, square, matrix);
+        let hit = hit::hit_at(rows, cols, orientations, bits, i, square, matrix, h, v);
         sum = add_units(sum, hit, confidences[i]);
     }
     sum

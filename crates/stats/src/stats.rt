@@ -48,8 +48,7 @@ fn count_hits<'a>(
         weight: 0.0,
     };
     for i in 0..rows.len() {
-        let edge = board::edge::edge_at(rows, cols, orientations, bits, i);
-        let hit = hit::is_hit(h, v, edge, square, matrix);
+        let hit = hit::hit_at(rows, cols, orientations, bits, i, square, matrix, h, v);
         sum = add_edge(sum, hit, confidences[i]);
     }
     sum

@@ -5,10 +5,9 @@ use native.Mathlib.Omega.{arith}
 use denote.Ref.{now}
 use lib.ListN.{length}
 use Rattle.answer.specs.declared.Square.{Square}
-use Rattle.board.specs.declared.edge.Edge.{Edge}
-use Rattle.board.specs.Hits.{EdgeList, Board, edges, tables, edgeHit, hit}
+use Rattle.board.specs.Hits.{EdgeList, Board, edges, tables, hit}
 use Rattle.board.specs.HitsLaws.{hit-edge}
-use Rattle.board.specs.DomainLaws.{edges-ok, edge-ok}
+use Rattle.board.specs.DomainLaws.{edges-ok}
 use Rattle.exact_weight.specs.WeightLaws.{weightTo, weight-none, weight-more, weight-small, weight-all}
 use Rattle.exact_weight.proofs.weight_at.Statement.{statement}
 use Rattle.exact_weight.proofs.weight_at.Tie as tie
@@ -43,46 +42,37 @@ module _ (c : tie.In-loop Inv-loop μ-loop) where
   abbrev q : Square
   q = st .args .square
 
-edge-at-requires : tie.Need-edge-at-requires Inv-loop μ-loop
-edge-at-requires c κs =
-    let l = st c .pre .list in
-    let h = c .loop-test .taken in
-    (h, omega (arith, h, l .cols), omega (arith, h, l .orientations), omega (arith, h, l .bits))
-
-is-hit-requires : tie.Need-is-hit-requires Inv-loop μ-loop
-is-hit-requires c κs =
-    let l = c .before in
-    let p = st l .pre in
-    (p .board, ((edge-ok (E l) _ (edges-ok (E l) (p .list)) (p .transform) (at l) (l .loop-test .taken) _ (c .edge-at .ensures), l .before .before .matrix-of .ensures), (omega (arith, p .origin .0, p .board .h .few), omega (arith, p .origin .1))))
+hit-at-requires : tie.Need-hit-at-requires Inv-loop μ-loop
+hit-at-requires c κs =
+    let p = st c .pre in
+    ((edges-ok (E c) (p .list), c .loop-test .taken), (p .board, ((p .transform, c .before .before .matrix-of .ensures), (omega (arith, p .origin .0, p .board .h .few), omega (arith, p .origin .1)))))
 
 mul-add-units : tie.Need-mul-add-units Inv-loop μ-loop
-mul-add-units c = let l = c .before .before in omega (arith, l .loop-test .taken, st l .pre .list .few)
+mul-add-units c = let l = c .before in omega (arith, l .loop-test .taken, st l .pre .list .few)
 
 shared-slice-read-add-units : tie.Need-shared-slice-read-add-units Inv-loop μ-loop
-shared-slice-read-add-units c = let l = c .before .before .before in omega (arith, l .loop-test .taken, st l .pre .list .confidences)
+shared-slice-read-add-units c = let l = c .before .before in omega (arith, l .loop-test .taken, st l .pre .list .confidences)
 
 add-units-requires : tie.Need-add-units-requires Inv-loop μ-loop
 add-units-requires c κs =
-    let l = c .before .before .before in
+    let l = c .before .before in
     (omega (arith, l .before .loop .inv .1, weight-small (B l) (E l) (q l .transform) (q l .row) (q l .col) (st l .pre .list) (at l) (l .before .loop .inv .0)), st l .pre .list .confidence (at l) (l .loop-test .taken))
 
 add-i : tie.Need-add-i Inv-loop μ-loop
-add-i c = let l = c .before .before .before .before in omega (arith, l .loop-test .taken, st l .pre .list .few)
+add-i c = let l = c .before .before .before in omega (arith, l .loop-test .taken, st l .pre .list .few)
 
 loop-less : tie.Need-loop-less Inv-loop μ-loop
 loop-less c = omega arith
 
 -- the hit of this turn, by the definition
-hit-here : (c : tie.After-is-hit Inv-loop μ-loop) → let l = c .before .before in c .is-hit .result ≡ hit (B l) (E l) (q l .transform) (q l .row) (q l .col) (at l)
-hit-here c =
-    let l = c .before .before in
-    c .is-hit .ensures ∙ ap (λ (e : Edge). edgeHit (B l) e (q l)) (c .before .edge-at .ensures) ∙ hit-edge (B l) (E l) (q l .transform) (q l .row) (q l .col) (at l)
+hit-here : (c : tie.After-hit-at Inv-loop μ-loop) → let l = c .before in c .hit-at .result ≡ hit (B l) (E l) (q l .transform) (q l .row) (q l .col) (at l)
+hit-here c = let l = c .before in c .hit-at .ensures ∙ hit-edge (B l) (E l) (q l .transform) (q l .row) (q l .col) (at l)
 
 loop-again : tie.Need-loop-again Inv-loop μ-loop
 loop-again c =
     let h = c .before .before in
-    let l = h .before .before in
-    (omega arith, weight-more (B l) (E l) (q l .transform) (q l .row) (q l .col) (at l) (l .before .loop .sum) _ (h .is-hit .result) (l .before .loop .inv .1) (hit-here h) (c .add-units .ensures))
+    let l = h .before in
+    (omega arith, weight-more (B l) (E l) (q l .transform) (q l .row) (q l .col) (at l) (l .before .loop .sum) _ (h .hit-at .result) (l .before .loop .inv .1) (hit-here h) (c .add-units .ensures))
 
 returns : tie.Need-returns Inv-loop μ-loop
 returns c =
@@ -98,8 +88,7 @@ weight-at-spec =
     μ-loop
     matrix-of-requires
     loop-holds
-    edge-at-requires
-    is-hit-requires
+    hit-at-requires
     mul-add-units
     shared-slice-read-add-units
     add-units-requires

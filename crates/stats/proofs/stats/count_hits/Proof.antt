@@ -6,10 +6,9 @@ use denote.Ref.{now}
 use lib.ListN.{length}
 use lib.Ieee.{ofBits}
 use Rattle.answer.specs.declared.Square.{Square}
-use Rattle.board.specs.declared.edge.Edge.{Edge}
-use Rattle.board.specs.Hits.{EdgeList, Board, edges, tables, edgeHit, hit}
+use Rattle.board.specs.Hits.{EdgeList, Board, edges, tables, hit}
 use Rattle.board.specs.HitsLaws.{hit-edge}
-use Rattle.board.specs.DomainLaws.{edges-ok, edge-ok}
+use Rattle.board.specs.DomainLaws.{edges-ok}
 use Rattle.figures.specs.declared.Fit.{Fit}
 use Rattle.stats.specs.StatsLaws.{soFar, so-far-none, so-far-more, so-far-few, so-far-all}
 use Rattle.stats.proofs.stats.count_hits.Statement.{statement}
@@ -46,47 +45,38 @@ module _ (c : tie.In-loop Inv-loop μ-loop) where
   abbrev q : Square
   q = st .args .square
 
-edge-at-requires : tie.Need-edge-at-requires Inv-loop μ-loop
-edge-at-requires c κs =
-    let l = st c .pre .list in
-    let h = c .loop-test .taken in
-    (h, omega (arith, h, l .cols), omega (arith, h, l .orientations), omega (arith, h, l .bits))
-
-is-hit-requires : tie.Need-is-hit-requires Inv-loop μ-loop
-is-hit-requires c κs =
-    let l = c .before in
-    let p = st l .pre in
-    (p .board, ((edge-ok (E l) _ (edges-ok (E l) (p .list)) (p .transform) (at l) (l .loop-test .taken) _ (c .edge-at .ensures), l .before .before .matrix-of .ensures), (omega (arith, p .origin .0), omega (arith, p .origin .1))))
+hit-at-requires : tie.Need-hit-at-requires Inv-loop μ-loop
+hit-at-requires c κs =
+    let p = st c .pre in
+    ((edges-ok (E c) (p .list), c .loop-test .taken), (p .board, ((p .transform, c .before .before .matrix-of .ensures), (omega (arith, p .origin .0, p .board .h .few), omega (arith, p .origin .1)))))
 
 mul-add-edge : tie.Need-mul-add-edge Inv-loop μ-loop
-mul-add-edge c = let l = c .before .before in omega (arith, l .loop-test .taken, st l .pre .list .few)
+mul-add-edge c = let l = c .before in omega (arith, l .loop-test .taken, st l .pre .list .few)
 
 shared-slice-read-add-edge : tie.Need-shared-slice-read-add-edge Inv-loop μ-loop
-shared-slice-read-add-edge c = let l = c .before .before .before in omega (arith, l .loop-test .taken, st l .pre .list .confidences)
+shared-slice-read-add-edge c = let l = c .before .before in omega (arith, l .loop-test .taken, st l .pre .list .confidences)
 
 add-edge-requires : tie.Need-add-edge-requires Inv-loop μ-loop
 add-edge-requires c κs =
-    let l = c .before .before .before in
+    let l = c .before .before in
     let e : l .before .loop .sum .hits ≡ soFar (E l) (q l .transform) (q l .row) (q l .col) (B l) (at l) .hits = ap (λ (s : Fit). s .hits) (l .before .loop .inv .1) in
     omega (arith, so-far-few (E l) (q l .transform) (q l .row) (q l .col) (B l) (at l), l .loop-test .taken, st l .pre .list .few)
 
 add-i : tie.Need-add-i Inv-loop μ-loop
-add-i c = let l = c .before .before .before .before in omega (arith, l .loop-test .taken, st l .pre .list .few)
+add-i c = let l = c .before .before .before in omega (arith, l .loop-test .taken, st l .pre .list .few)
 
 loop-less : tie.Need-loop-less Inv-loop μ-loop
 loop-less c = omega arith
 
 -- the hit of this turn, by the definition
-hit-here : (c : tie.After-is-hit Inv-loop μ-loop) → let l = c .before .before in c .is-hit .result ≡ hit (B l) (E l) (q l .transform) (q l .row) (q l .col) (at l)
-hit-here c =
-    let l = c .before .before in
-    c .is-hit .ensures ∙ ap (λ (e : Edge). edgeHit (B l) e (q l)) (c .before .edge-at .ensures) ∙ hit-edge (B l) (E l) (q l .transform) (q l .row) (q l .col) (at l)
+hit-here : (c : tie.After-hit-at Inv-loop μ-loop) → let l = c .before in c .hit-at .result ≡ hit (B l) (E l) (q l .transform) (q l .row) (q l .col) (at l)
+hit-here c = let l = c .before in c .hit-at .ensures ∙ hit-edge (B l) (E l) (q l .transform) (q l .row) (q l .col) (at l)
 
 loop-again : tie.Need-loop-again Inv-loop μ-loop
 loop-again c =
     let h = c .before .before in
-    let l = h .before .before in
-    (omega arith, so-far-more (E l) (q l .transform) (q l .row) (q l .col) (B l) (at l) (l .before .loop .sum) _ (h .is-hit .result) (l .before .loop .inv .1) (hit-here h) (c .add-edge .ensures))
+    let l = h .before in
+    (omega arith, so-far-more (E l) (q l .transform) (q l .row) (q l .col) (B l) (at l) (l .before .loop .sum) _ (h .hit-at .result) (l .before .loop .inv .1) (hit-here h) (c .add-edge .ensures))
 
 returns : tie.Need-returns Inv-loop μ-loop
 returns c =
@@ -102,8 +92,7 @@ count-hits-spec =
     μ-loop
     matrix-of-requires
     loop-holds
-    edge-at-requires
-    is-hit-requires
+    hit-at-requires
     mul-add-edge
     shared-slice-read-add-edge
     add-edge-requires

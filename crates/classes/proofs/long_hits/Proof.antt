@@ -12,14 +12,29 @@ use Rattle.classes.proofs.long_hits.Statement.{statement}
 use Rattle.classes.proofs.long_hits.Tie as tie
 
 abbrev Inv-loop : tie.InvT-loop
-Inv-loop rows cols orientations bits t horizontal long h v matrix sum₀ i₀ i-end sum i =
+Inv-loop rows cols orientations bits t horizontal long h v matrix straight periods sum₀ i₀ i-end sum i =
     (i ≤ length rows) × (sum ≡ soFar (tables h v) (edges rows cols orientations bits []) t horizontal long i)
 
 abbrev μ-loop : tie.MeasureT-loop
-μ-loop rows cols orientations bits t horizontal long h v matrix sum₀ i₀ i-end sum i = i-end - i
+μ-loop rows cols orientations bits t horizontal long h v matrix straight periods sum₀ i₀ i-end sum i = i-end - i
 
 matrix-of-requires : tie.Need-matrix-of-requires Inv-loop μ-loop
 matrix-of-requires c κs = c .before .before .before .before .pre .0 .transform
+
+is-straight-requires : tie.Need-is-straight-requires Inv-loop μ-loop
+is-straight-requires c κs = c .matrix-of .ensures
+
+cast-modulus-of : tie.Need-cast-modulus-of Inv-loop μ-loop
+cast-modulus-of c = omega (arith, c .before .before .before .before .before .before .pre .0 .board .h .few)
+
+modulus-of-requires : tie.Need-modulus-of-requires Inv-loop μ-loop
+modulus-of-requires c κs = let p = c .before .before .before .before .before .before .pre .0 .board .h in (omega (arith, p .some), p .few)
+
+cast-modulus-of-2 : tie.Need-cast-modulus-of-2 Inv-loop μ-loop
+cast-modulus-of-2 c = omega (arith, c .before .before .before .before .before .before .before .pre .0 .board .v .few)
+
+modulus-of-requires-2 : tie.Need-modulus-of-requires-2 Inv-loop μ-loop
+modulus-of-requires-2 c κs = let p = c .before .before .before .before .before .before .before .pre .0 .board .v in (omega (arith, p .some), p .few)
 
 loop-holds : tie.Need-loop-holds Inv-loop μ-loop
 loop-holds c = (omega arith, so-far-none _ _ _ _ _)
@@ -27,7 +42,7 @@ loop-holds c = (omega arith, so-far-none _ _ _ _ _)
 -- the edge of this turn
 module _ (c : tie.In-loop Inv-loop μ-loop) where
   abbrev st : tie.Start Inv-loop μ-loop
-  st = c .before .before .before .before .before .before .before
+  st = c .before .before .before .before .before .before .before .before .before .before
 
   abbrev at : ℕ
   at = c .before .loop .i
@@ -51,10 +66,11 @@ count-edge-requires c κs =
     let f = so-far-few (B l) (E l) (st l .args .t) (st l .args .horizontal) (st l .args .long) (at l) in
     let i = l .before .loop .inv .1 in
     let n = l .loop-test .taken in
+    let d = l .before .before in
     let m = p .0 .list .few in (
-      p .0 .board,
+      (p .0 .board, record { h = d .before .modulus-of .ensures; v = d .modulus-of2 .ensures }),
       (
-        (edge-ok (E l) _ (p .0 .list) (p .0 .transform) (at l) n _ (c .edge-at .ensures), l .before .before .matrix-of .ensures, p .1),
+        (edge-ok (E l) _ (p .0 .list) (p .0 .transform) (at l) n _ (c .edge-at .ensures), d .before .before .before .matrix-of .ensures, d .before .before .is-straight .ensures, p .1),
         (omega (arith, ap (λ (s : Three). s .a) i, f .0, n, m), omega (arith, ap (λ (s : Three). s .b) i, f .1, n, m), omega (arith, ap (λ (s : Three). s .c) i, f .2, n, m)),
       ),
     )
@@ -72,7 +88,7 @@ loop-again c =
 
 returns : tie.Need-returns Inv-loop μ-loop
 returns c =
-    let s = c .before .before .before .before .before .before .before in
+    let s = c .before .before .before .before .before .before .before .before .before .before in
     let e : c .before .loop .i ≡ length (now (s .args .rows)) = omega (arith, c .before .loop .inv .0, c .loop-test .left) in
     c .before .loop .inv .1 ∙ ap (soFar _ _ _ _ _) e ∙ so-far-all _ _ _ _ _
 
@@ -83,6 +99,11 @@ long-hits-spec =
     Inv-loop
     μ-loop
     matrix-of-requires
+    is-straight-requires
+    cast-modulus-of
+    modulus-of-requires
+    cast-modulus-of-2
+    modulus-of-requires-2
     loop-holds
     edge-at-requires
     count-edge-requires

@@ -1,18 +1,14 @@
 -- The hits of one class of a side: the edges that the transform puts on that side and that are hits at the origin which is the class. A class i is the long residue i / 3 with the short one i mod 3.
 use mathlib.Core.Bool.{Bool, _&&_, cond}
 use Prim.Native.Nat.{ℕ, _+_, _/_, _%_, _<_}
-use mathlib.Core.Path.{_≡_}
-use lib.ListN.{length}
 use lib.IntN.{pos}
 use Rattle.laws.specs.Words.{put, eqZ}
-use Rattle.laws.specs.Modulus.{modulusOf}
 use Rattle.board.specs.declared.edge.Edge.{Edge}
 use Rattle.board.specs.Transform.{mat, lookupOf}
 use Rattle.board.specs.Hits.{EdgeList, Board, horizontal, edgeHit}
 use Rattle.board.specs.Sides.{is, sideHits}
 use Rattle.board.specs.Domain.{EdgesOk, BoardOk}
 use Rattle.classes.specs.declared.Three.{Three}
-use Rattle.classes.specs.declared.Moduli.{Moduli}
 
 -- of the long residue l and the short residue x, which is the origin (l, x) on the horizontal side and (x, l) on the vertical one
 abbrev pub residueHits : Board → EdgeList → ℕ → Bool → ℕ → ℕ → ℕ
@@ -31,11 +27,6 @@ pub record CountReady (B : Board) (E : EdgeList) (t : ℕ) : Type 0 where
   pub list : EdgesOk E
   pub board : BoardOk B
   pub transform : t < 8
-
--- both tables' lengths, as numbers to divide by
-pub record ModuliOf (B : Board) (m : Moduli) : Type 0 where
-  pub h : m .h ≡ modulusOf (length (B .h))
-  pub v : m .v ≡ modulusOf (length (B .v))
 
 -- the transform t leaves a horizontal edge's ends in one row, or not: it puts horizontal edges on the side s
 unfoldable pub straight : ℕ → Bool → Bool

@@ -11,7 +11,7 @@ ghost use Rattle.laws.specs.Modulus.{modulusOf};
 ghost use Rattle.board.specs.Transform.{matrixOf};
 ghost use Rattle.board.specs.Hits.{edges, tables, patternBit};
 ghost use Rattle.board.specs.Domain.{EdgeOk, BoardOk, Patterns};
-ghost use Rattle.classes.specs.Classes.{addedThree, straight, edgeAdded, threeOf, CountReady, ModuliOf};
+ghost use Rattle.classes.specs.Classes.{addedThree, straight, edgeAdded, threeOf, CountReady};
 ghost use Rattle.board.specs.Sides.{periodOf};
 use board::edge::Edge;
 use board::pattern::pattern_bit;
@@ -22,12 +22,6 @@ pub struct Three {
     pub a: u32,
     pub b: u32,
     pub c: u32,
-}
-
-// The lengths of the two pattern tables, as numbers to divide by.
-pub struct Moduli {
-    pub h: Modulus,
-    pub v: Modulus,
 }
 
 // One more where it is a hit.
@@ -107,7 +101,7 @@ fn is_on(orientation: u8, straight: bool) -> bool
 fn count_edge(
     h: &[u8],
     v: &[u8],
-    periods: Moduli,
+    period: Modulus,
     sum: Three,
     edge: Edge,
     t: u8,
@@ -116,7 +110,7 @@ fn count_edge(
     straight: bool,
     long: u32,
 ) -> Three
-    requires { ⌜ BoardOk (tables (now h) (now v)) × ModuliOf (tables (now h) (now v)) periods ⌝ }
+    requires { ⌜ BoardOk (tables (now h) (now v)) × (period ≡ modulusOf (periodOf (tables (now h) (now v)) horizontal)) ⌝ }
     requires { ⌜ EdgeOk edge t × (matrix ≡ matrixOf t) × (straight ≡ Rattle.classes.specs.Classes.straight t horizontal) × (long < periodOf (tables (now h) (now v)) horizontal) ⌝ }
     requires { ⌜ (sum .a < 8192) × (sum .b < 8192) × (sum .c < 8192) ⌝ }
     ensures { λ r. ⌜ r ≡ edgeAdded (tables (now (h .entry)) (now (v .entry))) t horizontal long edge sum ⌝ }
@@ -127,11 +121,21 @@ fn count_edge(
         let row = l.row;
         let col = l.col;
         if horizontal {
-            return add_three(h, periods.h, sum, row, col, long, bit);
+            return add_three(h, period, sum, row, col, long, bit);
         }
-        return add_three(v, periods.v, sum, col, row, long, bit);
+        return add_three(v, period, sum, col, row, long, bit);
     }
     sum
+}
+
+// How many long residues a side has: the length of its pattern table.
+pub fn period_of(h: &[u8], v: &[u8], horizontal: bool) -> usize
+    ensures { λ r. ⌜ r ≡ periodOf (tables (now (h .entry)) (now (v .entry))) horizontal ⌝ }
+{
+    if horizontal {
+        return h.len();
+    }
+    v.len()
 }
 
 // The hits of the three classes of a long residue, on the horizontal or the vertical side, under the transform t.
@@ -151,17 +155,14 @@ pub fn long_hits(
 {
     let matrix = lookup::matrix_of(t);
     let straight = is_straight(t, matrix, horizontal);
-    let periods = Moduli {
-        h: laws::modulus_of(h.len() as u32),
-        v: laws::modulus_of(v.len() as u32),
-    };
+    let period = laws::modulus_of(period_of(h, v, horizontal) as u32);
     let mut sum = Three { a: 0, b: 0, c: 0 };
     for i in 0..rows.len() {
         let edge = board::edge::edge_at(rows, cols, orientations, bits, i);
         sum = count_edge(
             h,
             v,
-            periods,
+            period,
             sum,
             edge,
             t,

@@ -1,3 +1,4 @@
+use Rattle.laws.specs.Modulus.{modulusOf}
 use mathlib.Core.Path.{_≡_, sym, ap, subst, _∙_}
 use mathlib.Core.Bool.{Bool}
 use Prim.Native.Nat.{ℕ, _≤_, _<_}
@@ -50,7 +51,7 @@ add-three-requires : tie.Need-add-three-requires
 add-three-requires c κs =
     let k = c .before .before .before in
     let p = st k .pre in
-    ((p .0 .0 .h, p .0 .1 .h, ap-long (periodOf (B k)) _ _ (c .if2 .taken) (p .1 .0 .3)), ((rw (row-back k) (near k .0), rw (col-back k) (near k .1)), p .1 .1))
+    ((p .0 .0 .h, p .0 .1 ∙ ap (λ (s : Bool). modulusOf (periodOf (B k) s)) (c .if2 .taken), ap-long (periodOf (B k)) _ _ (c .if2 .taken) (p .1 .0 .3)), ((rw (row-back k) (near k .0), rw (col-back k) (near k .1)), p .1 .1))
 
 returns : tie.Need-returns
 returns c =
@@ -62,7 +63,7 @@ add-three-requires-2 : tie.Need-add-three-requires-2
 add-three-requires-2 c κs =
     let k = c .before .before .before in
     let p = st k .pre in
-    ((p .0 .0 .v, p .0 .1 .v, ap-long (periodOf (B k)) _ _ (c .if2 .left) (p .1 .0 .3)), ((rw (col-back k) (near k .1), rw (row-back k) (near k .0)), p .1 .1))
+    ((p .0 .0 .v, p .0 .1 ∙ ap (λ (s : Bool). modulusOf (periodOf (B k) s)) (c .if2 .left), ap-long (periodOf (B k)) _ _ (c .if2 .left) (p .1 .0 .3)), ((rw (col-back k) (near k .1), rw (row-back k) (near k .0)), p .1 .1))
 
 returns-2 : tie.Need-returns-2
 returns-2 c =

@@ -1,9 +1,10 @@
 -- The hits of one class of a side: the edges that the transform puts on that side and that are hits at the origin which is the class. A class i is the long residue i / 3 with the short one i mod 3.
 use mathlib.Core.Bool.{Bool, _&&_, cond}
 use Prim.Native.Nat.{ℕ, _+_, _/_, _%_, _<_}
-use Rattle.laws.specs.Words.{put}
+use lib.IntN.{pos}
+use Rattle.laws.specs.Words.{put, eqZ}
 use Rattle.board.specs.declared.edge.Edge.{Edge}
-use Rattle.board.specs.Transform.{lookupOf}
+use Rattle.board.specs.Transform.{mat, lookupOf}
 use Rattle.board.specs.Hits.{EdgeList, Board, horizontal, edgeHit}
 use Rattle.board.specs.Sides.{is, sideHits}
 use Rattle.board.specs.Domain.{EdgesOk, BoardOk}
@@ -26,6 +27,10 @@ pub record CountReady (B : Board) (E : EdgeList) (t : ℕ) : Type 0 where
   pub list : EdgesOk E
   pub board : BoardOk B
   pub transform : t < 8
+
+-- the transform t leaves a horizontal edge's ends in one row, or not: it puts horizontal edges on the side s
+unfoldable pub straight : ℕ → Bool → Bool
+straight t s = is s (eqZ (mat t 1 0) (pos 0))
 
 -- ---- one edge more
 -- each of the three tests that holds adds one

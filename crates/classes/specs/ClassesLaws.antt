@@ -1,49 +1,116 @@
 -- One edge more of the three classes; and the hits of an origin, by its two classes (`hits-classes`, `classes-hits`).
 use mathlib.Core.Path.{_≡_, refl, sym, ap, ap₂, _∙_}
-use mathlib.Core.Bool.{Bool, true, false, _&&_, cond}
-use Prim.Native.Nat.{ℕ, _+_, _*_, _/_, _%_, _≤_, _<_}
+use mathlib.Core.Bool.{Bool, true, false, not, _&&_, cond}
+use Prim.Native.Nat.{ℕ, zero, suc, _+_, _*_, _/_, _%_, _≤_, _<_}
 use native.Mathlib.Nat.{mod-lt}
 use native.Mathlib.Omega.{arith}
 use lib.Arith.{digits-div, digits-mod}
 use lib.Dec.{eqb, lit<}
-use lib.IntN.{ℤ, pos, _+ℤ_}
-use Rattle.laws.specs.Words.{one, count, joint}
+use lib.IntN.{ℤ, pos, _+ℤ_, _-ℤ_, +ℤ-comm, +ℤ-idl, +ℤ-idr, +ℤ-negℤ-cancel}
+use lib.Signed.{ltZ}
+use borrow.Author.Tests.{not-true}
+use Rattle.laws.specs.Tests.{clash}
+use Rattle.laws.specs.Whole.{eqZ-true, eq-eqZ, ne-eqZ}
+use Rattle.laws.specs.Words.{one, count, emod, joint, eqZ}
 use Rattle.laws.specs.Fold.{fold-more, fold-zero}
 use Rattle.laws.specs.Counting.{count-le}
+use Rattle.laws.specs.RemainderLaws.{emod-add}
 use Rattle.board.specs.declared.edge.Edge.{Edge}
 use Rattle.board.specs.declared.edge.EdgeLookup.{EdgeLookup}
-use Rattle.board.specs.Transform.{lookupOf}
+use Rattle.board.specs.Transform.{mat, matrices, mapped, lookupOfEnds, joined, lookupOf}
+use Rattle.board.specs.TransformLaws.{next-col, next-row}
 use Rattle.board.specs.Hits.{EdgeList, Board, size, bare, edgeAt, look, horizontal, patternBit, predicted, edgeHit, hit, hits}
-use Rattle.board.specs.Sides.{onSide, periodOf, sideHits}
+use Rattle.board.specs.Sides.{is, onSide, periodOf, sideHits}
 use Rattle.board.specs.Domain.{BoardOk}
 use Rattle.board.specs.HitsLaws.{hits-by-class, pair-hits, side-some}
-use Rattle.classes.specs.Classes.{residueHits, classHits, threeOf, addedThree, edgeAdded}
+use Rattle.classes.specs.Classes.{residueHits, classHits, threeOf, addedThree, straight, edgeOn, edgeAdded}
 use Rattle.classes.specs.declared.Three.{Three}
 
 abbrev three : ℕ → ℕ → ℕ → Three
 three a b c = record { a = a; b = b; c = c }
 
--- ---- an edge by value, by the side on which the transform puts it: it was looked up at `at`
-module _ (B : Board) (t n : ℕ) (e : Edge) (sum : Three) (at : EdgeLookup) (looked : at ≡ lookupOf t (e .row) (e .col) (e .orientation)) where
+-- ---- the side of an edge is told by its orientation alone
+cancel : (r m : ℤ) → r ≡ r +ℤ m → m ≡ pos 0
+cancel r m e = sym (+ℤ-negℤ-cancel m r) ∙ ap (λ (z : ℤ). z -ℤ r) (+ℤ-comm m r ∙ sym e ∙ sym (+ℤ-idl r)) ∙ +ℤ-negℤ-cancel (pos 0) r
+
+-- a row is mapped to itself exactly where nothing is added
+stays : (r m : ℤ) → eqZ r (r +ℤ m) ≡ eqZ m (pos 0)
+stays r m = go (eqZ m (pos 0)) refl
+  where
+    go : (b : Bool) → eqZ m (pos 0) ≡ b → eqZ r (r +ℤ m) ≡ b
+    go true e = eq-eqZ r (r +ℤ m) (sym (ap (λ (z : ℤ). r +ℤ z) (eqZ-true m (pos 0) e) ∙ +ℤ-idr r))
+    go false e = ne-eqZ r (r +ℤ m) (λ d. clash (eq-eqZ m (pos 0) (cancel r m d)) e)
+
+ends-side : (c r d s : ℤ) → horizontal (lookupOfEnds c r d s) ≡ eqZ r s
+unfolding lookupOfEnds
+ends-side c r d s = go (eqZ r s)
+  where
+    go : (b : Bool) → horizontal (cond b (record { orientation = 0; row = r -ℤ pos 1; col = cond (ltZ c d) c d }) (record { orientation = 1; row = cond (ltZ r s) r s; col = cond (ltZ r s) c d -ℤ pos 1 })) ≡ b
+    go true = refl
+    go false = refl
+
+-- a transform leaves either the rows of horizontal edges or those of vertical ones
+either : (t : ℕ) → t < 8 → eqZ (mat t 1 1) (pos 0) ≡ not (eqZ (mat t 1 0) (pos 0))
+unfolding mat matrices
+either zero h = refl
+either (suc zero) h = refl
+either (suc (suc zero)) h = refl
+either (suc (suc (suc zero))) h = refl
+either (suc (suc (suc (suc zero)))) h = refl
+either (suc (suc (suc (suc (suc zero))))) h = refl
+either (suc (suc (suc (suc (suc (suc zero)))))) h = refl
+either (suc (suc (suc (suc (suc (suc (suc zero))))))) h = refl
+either (suc (suc (suc (suc (suc (suc (suc (suc t)))))))) h = absurd (no t h)
+  where
+    no : (t : ℕ) → suc (suc (suc (suc (suc (suc (suc (suc t))))))) < 8 → ⊥
+    no t h = omega arith
+
+side-told : (t : ℕ) (row col : ℤ) (o : ℕ) → t < 8 → horizontal (lookupOf t row col o) ≡ cond (eqb o 0) (eqZ (mat t 1 0) (pos 0)) (not (eqZ (mat t 1 0) (pos 0)))
+unfolding lookupOf joined
+side-told t row col o h = go (eqb o 0)
+  where
+    go : (b : Bool) → horizontal (cond b (joined t col row (col +ℤ pos 1) row) (joined t col row col (row +ℤ pos 1))) ≡ cond b (eqZ (mat t 1 0) (pos 0)) (not (eqZ (mat t 1 0) (pos 0)))
+    go true =
+        ends-side (mapped t 0 col row) (mapped t 1 col row) (mapped t 0 (col +ℤ pos 1) row) (mapped t 1 (col +ℤ pos 1) row)
+        ∙ ap (eqZ (mapped t 1 col row)) (next-col t 1 col row) ∙ stays (mapped t 1 col row) (mat t 1 0)
+    go false =
+        ends-side (mapped t 0 col row) (mapped t 1 col row) (mapped t 0 col (row +ℤ pos 1)) (mapped t 1 col (row +ℤ pos 1))
+        ∙ ap (eqZ (mapped t 1 col row)) (next-row t 1 col row) ∙ stays (mapped t 1 col row) (mat t 1 1) ∙ either t h
+
+-- an edge lies on the side s
+on-told : (t : ℕ) (s : Bool) (e : Edge) → t < 8 → edgeOn t s e ≡ cond (eqb (e .orientation) 0) (straight t s) (not (straight t s))
+unfolding straight
+on-told t s e h = ap (is s) (side-told t (e .row) (e .col) (e .orientation) h) ∙ go s (eqb (e .orientation) 0) (eqZ (mat t 1 0) (pos 0))
+  where
+    go : (s b z : Bool) → is s (cond b z (not z)) ≡ cond b (is s z) (not (is s z))
+    go true b z = refl
+    go false true z = refl
+    go false false z = refl
+
+-- ---- an edge by value, by the side on which the transform puts it
+module _ (B : Board) (t n : ℕ) (e : Edge) (sum : Three) (small : t < 8) where
   -- an edge of the other side adds nothing
-  pub none-vertical : (s : Bool) → horizontal at ≡ true → s ≡ false → sum ≡ edgeAdded B t s n e sum
+  pub not-on : (s b : Bool) → b ≡ straight t s → cond (eqb (e .orientation) 0) b (not b) ≡ false → sum ≡ edgeAdded B t s n e sum
   unfolding edgeAdded
-  none-vertical s y o = rw (o, ← looked, y)
+  not-on s b q o = let z : edgeOn t s e ≡ false = on-told t s e small ∙ ap (λ (x : Bool). cond (eqb (e .orientation) 0) x (not x)) (sym q) ∙ o in rw z
 
-  pub none-horizontal : (s : Bool) → horizontal at ≡ false → s ≡ true → sum ≡ edgeAdded B t s n e sum
-  unfolding edgeAdded
-  none-horizontal s y o = rw (o, ← looked, y)
+  module _ (at : EdgeLookup) (looked : at ≡ lookupOf t (e .row) (e .col) (e .orientation)) where
+    -- an edge of the side counts where its bit is the pattern's
+    pub on-horizontal : (s b : Bool) (x y : ℤ) (r : Three) → b ≡ straight t s → cond (eqb (e .orientation) 0) b (not b) ≡ true → s ≡ true → x ≡ at .row → y ≡ at .col
+        → r ≡ addedThree (λ k. eqb (patternBit (B .h) (x +ℤ pos n) (y +ℤ pos k)) (e .bit)) sum → r ≡ edgeAdded B t s n e sum
+    unfolding edgeAdded edgeHit predicted
+    on-horizontal s b x y r q on o p d k =
+        let z : is s (horizontal at) ≡ true = ap (λ (l : EdgeLookup). is s (horizontal l)) looked ∙ on-told t s e small ∙ ap (λ (c : Bool). cond (eqb (e .orientation) 0) c (not c)) (sym q) ∙ on in
+        let w : horizontal at ≡ true = sym (ap (λ (c : Bool). is c (horizontal at)) o) ∙ z in
+        k ∙ sym (rw (o, ← looked, w, p, d))
 
-  -- an edge of the side counts where its bit is the pattern's
-  pub on-horizontal : (s : Bool) (x y : ℤ) (r : Three) → horizontal at ≡ true → s ≡ true → x ≡ at .row → y ≡ at .col
-      → r ≡ addedThree (λ k. eqb (patternBit (B .h) (x +ℤ pos n) (y +ℤ pos k)) (e .bit)) sum → r ≡ edgeAdded B t s n e sum
-  unfolding edgeAdded edgeHit predicted
-  on-horizontal s x y r d o p q k = k ∙ sym (rw (o, ← looked, d, p, q))
-
-  pub on-vertical : (s : Bool) (x y : ℤ) (r : Three) → horizontal at ≡ false → s ≡ false → x ≡ at .col → y ≡ at .row
-      → r ≡ addedThree (λ k. eqb (patternBit (B .v) (x +ℤ pos n) (y +ℤ pos k)) (e .bit)) sum → r ≡ edgeAdded B t s n e sum
-  unfolding edgeAdded edgeHit predicted
-  on-vertical s x y r d o p q k = k ∙ sym (rw (o, ← looked, d, p, q))
+    pub on-vertical : (s b : Bool) (x y : ℤ) (r : Three) → b ≡ straight t s → cond (eqb (e .orientation) 0) b (not b) ≡ true → s ≡ false → x ≡ at .col → y ≡ at .row
+        → r ≡ addedThree (λ k. eqb (patternBit (B .v) (x +ℤ pos n) (y +ℤ pos k)) (e .bit)) sum → r ≡ edgeAdded B t s n e sum
+    unfolding edgeAdded edgeHit predicted
+    on-vertical s b x y r q on o p d k =
+        let z : is s (horizontal at) ≡ true = ap (λ (l : EdgeLookup). is s (horizontal l)) looked ∙ on-told t s e small ∙ ap (λ (c : Bool). cond (eqb (e .orientation) 0) c (not c)) (sym q) ∙ on in
+        let w : horizontal at ≡ false = not-true (horizontal at) (sym (ap (λ (c : Bool). is c (horizontal at)) o) ∙ z) in
+        k ∙ sym (rw (o, ← looked, w, p, d))
 
 module _ (B : Board) (E : EdgeList) (t : ℕ) (s : Bool) (l : ℕ) where
   -- edge i is on the side, and a hit at the short residue x
@@ -109,3 +176,11 @@ module _ (B : Board) (E : EdgeList) (t : ℕ) where
 pub hits-bare : (B : Board) (E : EdgeList) (t r c : ℕ) → hits B (bare E) t r c ≡ hits B E t r c
 unfolding hits hit look
 hits-bare B E t r c = refl
+
+-- ---- residues, step by step
+-- a coordinate moved by k, from its residue i by n
+pub moved : (x : ℤ) (i k n m r : ℕ) → 0 < n → m ≡ n → i ≡ emod x m → r ≡ (i + k) % m → r ≡ emod (x +ℤ pos k) n
+moved x i k n m r p e q d = rw e at (d ∙ ap (λ (z : ℕ). (z + k) % m) q ∙ emod-add x k m (rw e p))
+
+pub unmoved : (x : ℤ) (i n m : ℕ) → 0 < n → m ≡ n → i ≡ emod x m → i < n → i ≡ emod (x +ℤ pos 0) n
+unmoved x i n m p e q l = q ∙ ap (emod x) e ∙ ap (λ (z : ℤ). emod z n) (sym (+ℤ-idr x))

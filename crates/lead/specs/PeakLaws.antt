@@ -98,9 +98,9 @@ module _ (L M : ℕ) (q : 0 < M) (G : Laws (origins L M) (3 * L) (3 * M)) (f g :
   peak-grid = record {
     key-in = key-in (a .at) (b .at) (A .in-range) (W .in-range);
     at = key-hits (a .at) (b .at) (A .in-range) (W .in-range) ∙ ap₂ _+_ (A .attained) (W .attained);
-    under = ⊎-elim (λ e. omega (arith, e, A .under)) (λ e. omega (arith, e, W .under)) (larger-is (a .next + b .best) (a .best + b .next));
+    under = ⊎-elim (λ e. omega (arith, e, A .under, W .under)) (λ e. omega (arith, e, A .under, W .under)) (larger-is l r);
     others = others;
-    had = ⊎-elim left right (larger-is (a .next + b .best) (a .best + b .next));
+    had = ⊎-elim left right (larger-is l r);
   }
     where
       l : ℕ

@@ -8,6 +8,7 @@ ghost use Rattle.board.specs.Sides.{periodOf};
 ghost use Rattle.classes.specs.Classes.{classHits, CountReady};
 ghost use Rattle.tops.specs.Tops.{pushed, pushedThree, topTo, raised, shortTops};
 use classes::Three;
+use classes::period_of;
 
 // What one side comes to: the most hits of a class, the first class that has them, and the most hits of another class.
 pub struct Top {
@@ -46,16 +47,6 @@ fn push_three(top: Top, long: usize, x: Three) -> Top
     let a = push(top, i, x.a);
     let b = push(a, i + 1, x.b);
     push(b, i + 2, x.c)
-}
-
-// How many long residues a side has: the length of its pattern table.
-pub fn period_of(h: &[u8], v: &[u8], horizontal: bool) -> usize
-    ensures { λ r. ⌜ r ≡ periodOf (tables (now (h .entry)) (now (v .entry))) horizontal ⌝ }
-{
-    if horizontal {
-        return h.len();
-    }
-    v.len()
 }
 
 // The best and the second-best class of one side under the transform t.

@@ -50,7 +50,7 @@ cast-long : tie.Need-cast-long Inv-loop μ-loop
 cast-long c = omega (arith, class (c .before), few (c .before))
 
 long-hits-requires : tie.Need-long-hits-requires Inv-loop μ-loop
-long-hits-requires c κs = (st (c .before) .pre .0, omega (arith, class (c .before), few (c .before)))
+long-hits-requires c κs = (st (c .before) .pre .0, class (c .before))
 
 pick-requires : tie.Need-pick-requires Inv-loop μ-loop
 pick-requires c κs = tt

@@ -34,7 +34,7 @@ cast-long : tie.Need-cast-long
 cast-long c = let s = c .before .before .before .before in omega (arith, class s, s .pre .0 .board .h .few)
 
 long-hits-requires : tie.Need-long-hits-requires
-long-hits-requires c κs = let s = c .before .before .before .before in (s .pre .0, omega (arith, class s, s .pre .0 .board .h .few))
+long-hits-requires c κs = let s = c .before .before .before .before in (s .pre .0, class s)
 
 most-of-requires : tie.Need-most-of-requires
 most-of-requires c κs = search needs

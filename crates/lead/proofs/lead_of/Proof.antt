@@ -48,7 +48,7 @@ module _ (c : tie.In-loop Inv-loop μ-loop) where
   st = c .before .before .before .before .before .before .before .before .before .before
 
 shared-slice-read-peak-of-2 : tie.Need-shared-slice-read-peak-of-2 Inv-loop μ-loop
-shared-slice-read-peak-of-2 c = c .before .loop-test .taken
+shared-slice-read-peak-of-2 c = omega (arith, c .before .loop-test .taken)
 
 peak-of-requires-2 : tie.Need-peak-of-requires-2 Inv-loop μ-loop
 peak-of-requires-2 c κs = let l = c .before in ready (st l) (l .before .loop .p) (l .loop-test .taken)

@@ -38,7 +38,7 @@ cast-long-hits : tie.Need-cast-long-hits Inv-loop μ-loop
 cast-long-hits c = omega (arith, small c)
 
 long-hits-requires : tie.Need-long-hits-requires Inv-loop μ-loop
-long-hits-requires c κs = (st c .pre, omega (arith, small c))
+long-hits-requires c κs = (st c .pre, c .loop-test .taken)
 
 raise-requires : tie.Need-raise-requires Inv-loop μ-loop
 raise-requires c κs = tt

@@ -50,7 +50,7 @@ cast-long-hits : tie.Need-cast-long-hits Inv-loop μ-loop
 cast-long-hits c = omega (arith, small c)
 
 long-hits-requires : tie.Need-long-hits-requires Inv-loop μ-loop
-long-hits-requires c κs = (st c .pre, omega (arith, small c))
+long-hits-requires c κs = (st c .pre, omega (arith, c .loop-test .taken, c .before .before .period-of .ensures))
 
 push-three-requires : tie.Need-push-three-requires Inv-loop μ-loop
 push-three-requires c κs = omega (arith, small (c .before))

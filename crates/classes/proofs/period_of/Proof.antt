@@ -1,7 +1,7 @@
-use Rattle.tops.proofs.period_of.Statement.{statement}
-use Rattle.tops.proofs.period_of.Tie as tie
-use Rattle.tops.proofs.period_of.Reads as reads
-use Rattle.tops.proofs.period_of.Lts as lts
+use Rattle.classes.proofs.period_of.Statement.{statement}
+use Rattle.classes.proofs.period_of.Tie as tie
+use Rattle.classes.proofs.period_of.Reads as reads
+use Rattle.classes.proofs.period_of.Lts as lts
 
 -- src/lib.rt:55:9
 returns : tie.Need-returns

@@ -1,4 +1,5 @@
--- C-21: SLIDE THE PICTURE, SLIDE THE SQUARE. Of hard selection and the gate on one list. Sliding permutes the placings of each list position and keeps hits, and an outcome is told by hits.
+-- C-21: SLIDE THE PICTURE, SLIDE THE SQUARE. Sliding permutes the placings of each list position and keeps hits; so whatever judges one list by hits slides: hard selection and the gate (`slides`), the
+-- exact mode's (C-15, `exact-slides`), and the engine without tables (C-16, `located-slides`).
 use mathlib.Core.Path.{_≡_, refl, sym, ap, _∙_}
 use mathlib.Core.Bool.{Bool, true, false}
 use mathlib.Core.List.{List}
@@ -22,15 +23,16 @@ use Rattle.scan.specs.declared.scan.RunnerUp.{RunnerUp}
 use Rattle.hard.specs.declared.select.Selection.{Selection}
 use Rattle.hard.specs.declared.select.Selection.the-variants as sel
 use Rattle.hard.specs.Select.{selection}
+use Rattle.decide.specs.declared.Outcome.{Outcome}
+use Rattle.decide.specs.declared.Outcome.the-variants.{Refused, Decided}
 use Rattle.decide.specs.Decide.{whenPassed, gated}
-use Rattle.demand.specs.Demand.{Same}
-use Rattle.demand.specs.DemandLaws.{leads-once}
 use Rattle.demand.specs.Winners.{runner-up-exists, winner-leads, winner-hits}
-use Rattle.demand.specs.OneSelection.{Ended, ended, NoneLeads, none-refused, within-refused, some-winner, winner-some}
+use Rattle.demand.specs.OneSelection.{Ended, ended, NoneLeads, SomeWithinLimit}
 use Rattle.sliding.specs.Sliding.{Slid, shiftedRows, shiftedCols, slidRow, slidCol, slidPlacing, SlidTo}
 use Rattle.sliding.specs.WholeLaws.{emod-within}
 use Rattle.sliding.specs.LookupLaws as look
-use Rattle.sliding.specs.PermutedLaws.{Permuted, turned, runner-up-same, none-stays, some-stays, leads-there, others-no-more, same-hits, same-back}
+use Rattle.sliding.specs.PermutedLaws.{Permuted}
+use Rattle.sliding.specs.ByHits.{Told, refused, found, ByHits, no-confidence, none-within, none-leads, leads, ToldThere, told-there}
 
 -- ---- there and back
 round : (z w : ℤ) (n : ℕ) → 0 < n → emod (z +ℤ pos (emod w n)) n ≡ emod (z +ℤ w) n
@@ -78,57 +80,46 @@ module _ (B : Board) (ts : List ℕ) (down right : ℤ) (board : BoardOk B) wher
     g-same = λ P Q e. rw (e .0, e .1, e .2) (refl, refl, refl);
   }
 
-  module _ (E F : EdgeList) (limit : Float) (list : ListOk E) (slid-list : ListOk F) (few : length ts ≤ 8) (s : Slid down right E F) where
-    p : Permuted B ts E F slide unslide
-    p = slid-permuted E F s
+-- ---- hard selection and the gate
+-- an outcome as what it tells
+abbrev pub outcomeTold : Outcome → Told
+outcomeTold (Refused r) = refused r
+outcomeTold (Decided w runner-up) = found (w .placing) (w .hits) (runner-up .hits)
 
-    q : Permuted B ts F E unslide slide
-    q = turned B ts E F slide unslide p
+module _ (B : Board) (E : EdgeList) (ts : List ℕ) (limit : Float) (board : BoardOk B) (list : ListOk E) (few : length ts ≤ 8) where
+  by-gate : (w : Candidate) (r : RunnerUp) (e : selection B E ts limit ≡ sel.Selected w r) → noConfidence E ≡ false → SomeWithinLimit B E ts limit
+      → (b : Bool) → passed (size E) (w .hits) (r .hits) ≡ b → (passed (size E) (w .hits) (r .hits) ≡ true) ⊎ NoneLeads B E ts limit → ByHits B E ts limit (noConfidence E) (outcomeTold (whenPassed b w r))
+  by-gate w r e k s true g h = leads k (w .placing) (w .hits) (r .hits) (winner-leads B E ts limit board list few w r e g) (winner-hits B E ts limit board list few w r e g) (runner-up-exists B E ts limit board list few w r e)
+  by-gate w r e k s false g (inl h) = clash h g
+  by-gate w r e k s false g (inr h) = none-leads k s h
 
-    confidence : noConfidence F ≡ noConfidence E
-    unfolding noConfidence
-    confidence = rw (s .confidences) refl
+  by-selection : (x : Selection) → selection B E ts limit ≡ x → Ended B E ts limit board list few x → ByHits B E ts limit (noConfidence E) (outcomeTold (gated (size E) x))
+  by-selection (sel.Refused r) e (inl h) = rw (h .0) (no-confidence (h .1))
+  by-selection (sel.Refused r) e (inr h) = rw (h .0) (none-within (h .1) (h .2))
+  by-selection (sel.Selected w r) e h = by-gate w r e (h .0) (h .1) (passed (size E) (w .hits) (r .hits)) refl (h .2)
 
-    -- two winners, each with what the gate says of it
-    module _ (w w' : Candidate) (r r' : RunnerUp) (e : selection B E ts limit ≡ sel.Selected w r) (e' : selection B F ts limit ≡ sel.Selected w' r') where
-      found-both : passed (size E) (w .hits) (r .hits) ≡ true → passed (size F) (w' .hits) (r' .hits) ≡ true → SlidTo B ts down right (whenPassed true w r) (whenPassed true w' r')
-      unfolding slidPlacing
-      found-both a b =
-          let l = winner-leads B E ts limit board list few w r e a in
-          let l' = winner-leads B F ts limit board slid-list few w' r' e' b in
-          let o = l .on-board in
-          let same : Same (w' .placing) (slide (w .placing)) = leads-once B F ts limit (w' .placing) (slide (w .placing)) l' (leads-there B ts E F slide unslide p limit (w .placing) l) in
-          let x = runner-up-exists B E ts limit board list few w r e in
-          let x' = runner-up-exists B F ts limit board slid-list few w' r' e' in
-          let y' = runner-up-same B F ts (w' .placing) (slide (w .placing)) (r' .hits) same x' in
-          let no-more = others-no-more B ts E F slide unslide p (w .placing) (r .hits) (r' .hits) o x y' in
-          let y = runner-up-same B E ts (w .placing) (unslide (slide (w .placing))) (r .hits) (same-back (unslide (slide (w .placing))) (w .placing) (p .back-there (w .placing) o)) x in
-          let no-less = others-no-more B ts F E unslide slide q (slide (w .placing)) (r' .hits) (r .hits) (p .there (w .placing) o) y' y in (
-            winner-hits B F ts limit board slid-list few w' r' e' b ∙ same-hits B F ts (w' .placing) (slide (w .placing)) same ∙ p .hits-stay (w .placing) o ∙ sym (winner-hits B E ts limit board list few w r e a),
-            omega (arith, no-more, no-less),
-            same .0,
-            same .1,
-            same .2,
-          )
+  -- hard selection and the gate judge by hits
+  pub decided-told : ByHits B E ts limit (noConfidence E) (outcomeTold (gated (size E) (selection B E ts limit)))
+  decided-told = by-selection (selection B E ts limit) refl (ended B E ts limit board list few)
 
-      by-gates : (a b : Bool) → passed (size E) (w .hits) (r .hits) ≡ a → passed (size F) (w' .hits) (r' .hits) ≡ b → (passed (size E) (w .hits) (r .hits) ≡ true) ⊎ NoneLeads B E ts limit
-          → (passed (size F) (w' .hits) (r' .hits) ≡ true) ⊎ NoneLeads B F ts limit → SlidTo B ts down right (whenPassed a w r) (whenPassed b w' r')
-      by-gates true true a b x y = found-both a b
-      by-gates true false a b x (inl y) = clash y b
-      by-gates true false a b x (inr y) = absurd (y (slide (w .placing)) (leads-there B ts E F slide unslide p limit (w .placing) (winner-leads B E ts limit board list few w r e a)))
-      by-gates false true a b (inl x) y = clash x a
-      by-gates false true a b (inr x) y = absurd (x (unslide (w' .placing)) (leads-there B ts F E unslide slide q limit (w' .placing) (winner-leads B F ts limit board slid-list few w' r' e' b)))
-      by-gates false false a b x y = refl
+module _ (B : Board) (ts : List ℕ) (down right : ℤ) (board : BoardOk B) (E F : EdgeList) (limit : Float) (list : ListOk E) (slid-list : ListOk F) (few : length ts ≤ 8) (s : Slid down right E F) where
+  confidence : noConfidence F ≡ noConfidence E
+  unfolding noConfidence
+  confidence = rw (s .confidences) refl
 
-    by-selection : (x : Selection) → selection B E ts limit ≡ x → Ended B E ts limit board list few x → SlidTo B ts down right (gated (size E) x) (gated (size F) (selection B F ts limit))
-    by-selection (sel.Refused r) e (inl h) = rw (none-refused B F ts limit board slid-list few (confidence ∙ h .1)) (sym (h .0))
-    by-selection (sel.Refused r) e (inr h) = rw (within-refused B F ts limit board slid-list few (confidence ∙ h .1) (none-stays B ts E F slide unslide p limit (h .2))) (sym (h .0))
-    by-selection (sel.Selected w r) e h =
-        let W = some-winner B F ts limit board slid-list few (confidence ∙ h .0) (some-stays B ts E F slide unslide p limit (h .1)) in
-        let k = winner-some B F ts limit board slid-list few W in
-        rw (W .selected)
-        (by-gates w (W .winner) r (W .runner-up) e (W .selected) (passed (size E) (w .hits) (r .hits)) (passed (size F) (W .winner .hits) (W .runner-up .hits)) refl refl (h .2) (k .2))
+  -- what is told by two outcomes, in the words of C-21
+  in-words : (x y : Outcome) → ToldThere (slidPlacing B ts down right) (outcomeTold x) (outcomeTold y) → SlidTo B ts down right x y
+  unfolding slidPlacing
+  in-words (Refused one) (Refused other) t = t
+  in-words (Refused one) (Decided w r) t = t
+  in-words (Decided w r) (Refused other) t = t
+  in-words (Decided w r) (Decided v q) t = (t .0, t .1, t .2 .0, t .2 .1, t .2 .2)
 
-    -- SLIDE THE PICTURE, SLIDE THE SQUARE: the same number, or the same hits, runner-up hits and transform, and the origin moved by the transformed shift, negated
-    pub slides : SlidTo B ts down right (gated (size E) (selection B E ts limit)) (gated (size F) (selection B F ts limit))
-    slides = by-selection (selection B E ts limit) refl (ended B E ts limit board list few)
+  -- SLIDE THE PICTURE, SLIDE THE SQUARE: the same number, or the same hits, runner-up hits and transform, and the origin moved by the transformed shift, negated
+  pub slides : SlidTo B ts down right (gated (size E) (selection B E ts limit)) (gated (size F) (selection B F ts limit))
+  slides =
+      in-words (gated (size E) (selection B E ts limit)) (gated (size F) (selection B F ts limit))
+      (told-there B ts E F (slidPlacing B ts down right) (unslide B ts down right board) (slid-permuted B ts down right board E F s) limit (noConfidence E)
+      (outcomeTold (gated (size E) (selection B E ts limit))) (outcomeTold (gated (size F) (selection B F ts limit)))
+      (decided-told B E ts limit board list few)
+      (rw (sym confidence) (decided-told B F ts limit board slid-list few)))

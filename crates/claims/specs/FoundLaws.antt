@@ -33,16 +33,18 @@ use Rattle.flat.specs.Flat.{notRefused, flat, flatStats}
 use Rattle.flat.specs.FlatSoft.{flatSoft}
 use Rattle.export_hard.specs.Exports.{HardFlat}
 use Rattle.export_soft.specs.Exports.{SoftFlat}
+use Rattle.export_exact.specs.Exports.{ExactFlat}
+use Rattle.flat_exact.specs.declared.FlatExact.{FlatExact}
+use Rattle.flat_exact.specs.FlatExact.{flatExact}
 use Rattle.exact_answer.specs.declared.ExactDecoded.{ExactDecoded}
 use Rattle.exact_answer.specs.declared.ExactAnswer.{ExactAnswer}
 use Rattle.exact_answer.specs.declared.ExactAnswer.the-variants as exact
-use Rattle.exact_demand.specs.ExactDomain.{ExactRoom, exactEarlyBy}
+use Rattle.exact_demand.specs.ExactDomain.{exactEarlyBy}
 use Rattle.exact_demand.specs.ExactEnds.{exact-answers}
 use Rattle.claims.specs.Late.{hardLate, softLate, exactLate}
 use Rattle.claims.specs.Promises.{Demands}
 use Rattle.claims.specs.DemandsLaws.{stats-answers}
 use Rattle.claims.specs.Claims.{hard-promise, soft-promise, stats-promise}
-use Rattle.claims.specs.ExactPromises.{ExactGave}
 use Rattle.claims.specs.ExactClaims.{exact-promise}
 
 -- every condition of a list has a number above that of no refusal
@@ -86,11 +88,13 @@ soft-zero-found call c c' w w' a a' r h e =
     (soft-promise call (record { counts = c; weights = w; sums = a }) (record { counts = c'; weights = w'; sums = a' }) (h .told) (h .done) .demands) refl
     (ap (λ (x : FlatSoft). x .refusal) (sym (h .shown)) ∙ e)
 
--- EXACT: the same, however a refusal's number is shown
-pub exact-zero-found : (number : ExactAnswer → ℕ) → ((r : Refusal) → number (exact.Refused r) ≡ r .number) → (call : HardCall) (before after : ExactRoom) (answer : ExactAnswer)
-    → ExactGave call before after answer → number answer ≡ notRefused → (d : ExactDecoded) × (answer ≡ exact.Found d)
+-- EXACT: the same
+pub exact-zero-found : (call : HardCall) (c c' u u' : List ℕ) (r : FlatExact) → (h : ExactFlat call c c' u u' r) → r .refusal ≡ notRefused → (d : ExactDecoded) × (h .told ≡ exact.Found d)
 unfolding numbersAbove early exactEarlyBy exactLate
-exact-zero-found number own call before after answer done e = zero-found exact-answers number own (exact-promise call before after answer done .demands) refl e
+exact-zero-found call c c' u u' r h e =
+    zero-found exact-answers (λ (x : ExactAnswer). flatExact x .refusal) (λ x. refl)
+    (exact-promise call (record { counts = c; units = u }) (record { counts = c'; units = u' }) (h .told) (h .done) .demands) refl
+    (ap (λ (x : FlatExact). x .refusal) (sym (h .shown)) ∙ e)
 
 -- MATCH STATISTICS: the same
 pub stats-zero-counted : (E : EdgeList) (t row col : ℕ) (B : Board) → flatStats (statsAnswer E t row col B) .refusal ≡ notRefused → (s : MatchStats) × (statsAnswer E t row col B ≡ stats.Counted s)

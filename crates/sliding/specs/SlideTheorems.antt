@@ -1,5 +1,5 @@
 -- C-21: SLIDE THE PICTURE, SLIDE THE SQUARE. Sliding permutes the placings of each list position and keeps hits; so whatever judges one list by hits slides: hard selection and the gate (`slides`), the
--- exact mode's (C-15, `exact-slides`), and the engine without tables (C-16, `located-slides`).
+-- exact mode's (C-15, `exact-slides`) and the engine without tables (C-16, `located-slides`), both in OtherEngines.antt.
 use mathlib.Core.Path.{_≡_, refl, sym, ap, _∙_}
 use mathlib.Core.Bool.{Bool, true, false}
 use mathlib.Core.List.{List}
@@ -55,7 +55,7 @@ module _ (B : Board) (ts : List ℕ) (down right : ℤ) (board : BoardOk B) wher
   slide = slidPlacing B ts down right
 
   -- the way back
-  abbrev unslide : Placing → Placing
+  abbrev pub unslide : Placing → Placing
   unslide P =
       let t = getD ts (P .listed) 0 in
       record { listed = P .listed; row = emod (pos (P .row) +ℤ shiftedRows t down right) (3 * length (B .h)); col = emod (pos (P .col) +ℤ shiftedCols t down right) (3 * length (B .v)) }

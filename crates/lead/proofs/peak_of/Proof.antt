@@ -57,10 +57,10 @@ key-of-requires : tie.Need-key-of-requires
 key-of-requires c κs = let k = c .before .before in (period-h (B k) (st k .pre .board), period-v (B k) (st k .pre .board), omega (arith, a-in k .0), cell k)
 
 add-larger : tie.Need-add-larger
-add-larger c = let k = c .before .before .before .before .before in omega (arith, a-in k .2, b-in k .1, few k)
+add-larger c = let k = c .before .before .before .before .before in omega (arith, a-in k .1, a-in k .2, b-in k .1, b-in k .2, few k)
 
 add-larger-2 : tie.Need-add-larger-2
-add-larger-2 c = let k = c .before .before .before .before .before .before .before in omega (arith, a-in k .1, b-in k .2, few k)
+add-larger-2 c = let k = c .before .before .before .before .before .before .before in omega (arith, a-in k .1, a-in k .2, b-in k .1, b-in k .2, few k)
 
 larger-requires : tie.Need-larger-requires
 larger-requires c κs = search needs

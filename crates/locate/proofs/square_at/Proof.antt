@@ -12,7 +12,7 @@ div-row c = search needs
 
 -- src/lib.rt:20:15
 cast-row : tie.Need-cast-row
-cast-row c = omega (arith, div-le-self (c .args .key) (c .args .wide), c .pre .1)
+cast-row c = omega (arith, div-le-self (c .args .key) (c .args .wide), mod-le (c .args .key) (c .args .wide), c .pre .1)
 
 -- src/lib.rt:21:16
 rem-col : tie.Need-rem-col

@@ -1,15 +1,15 @@
 use mathlib.Core.Path.{_≡_, ap, sym, _∙_}
 use mathlib.Core.Bool.{Bool, true, false}
 use mathlib.Core.List.{List}
-use Prim.Native.Nat.{ℕ, _≤_, _<_}
+use Prim.Native.Nat.{ℕ, _≤_}
 use native.Mathlib.Omega.{arith}
 use denote.Ref.{now}
-use lib.ListN.{getD, length}
+use lib.ListN.{length}
 use lib.Ieee.{Float, eq, ofBits, binary32}
 use Rattle.laws.specs.Words.{zeroF}
 use Rattle.board.specs.Hits.{EdgeList, Board, edges, tables, size}
 use Rattle.board.specs.DomainLaws.{edges-ok}
-use Rattle.figures.specs.Figures.{totalConfidence, noConfidence}
+use Rattle.figures.specs.Figures.{noConfidence}
 use Rattle.hard.specs.SelectTheorems.{hitsAtKey}
 use Rattle.lead.specs.declared.Lead.{Lead}
 use Rattle.lead.specs.LeadLaws.{Leading}

@@ -1,15 +1,13 @@
 -- The hits of a column in a row, by the classes' hits; and a row whose best classes together have fewer than wanted.
-use mathlib.Core.Path.{_≡_, refl, sym, ap, ap₂, subst, _∙_}
-use mathlib.Core.Bool.{Bool, true, false, cond}
+use mathlib.Core.Path.{_≡_, refl, sym, ap, ap₂, _∙_}
+use mathlib.Core.Bool.{Bool, true, false}
 use mathlib.Core.Logic.{⊎-elim}
 use Prim.Native.Nat.{ℕ, _+_, _*_, _%_, _≤_, _<_}
 use native.Mathlib.Nat.{mod-lt}
 use native.Mathlib.Omega.{arith}
-use lib.Dec.{eqb, lit<}
-use lib.ListN.{length}
+use lib.Dec.{lit<}
 use borrow.Author.Tests.{ne-eqb}
 use Rattle.laws.specs.Counting.{count-le}
-use Rattle.laws.specs.Words.{first}
 use Rattle.laws.specs.First.{first-least}
 use Rattle.laws.specs.Residues.{below-3}
 use Rattle.board.specs.Hits.{EdgeList, Board, size, hits}

@@ -1,14 +1,14 @@
 -- A search over the keys of N rows of W columns, a row at a time.
-use mathlib.Core.Path.{_≡_, refl, sym, ap, ap₂, _∙_}
-use mathlib.Core.Bool.{Bool, true, false}
-use mathlib.Core.Logic.{_⊎_, inl, inr, ⊎-elim}
-use Prim.Native.Nat.{ℕ, suc, _+_, _*_, _-_, _/_, _%_, _≤_, _<_}
+use mathlib.Core.Path.{_≡_, sym, ap, ap₂, _∙_}
+use mathlib.Core.Bool.{Bool, false}
+use mathlib.Core.Logic.{_⊎_, ⊎-elim}
+use Prim.Native.Nat.{ℕ, _+_, _*_, _-_, _/_, _%_, _≤_, _<_}
 use native.Mathlib.Nat.{mul-le-mul-right}
 use native.Mathlib.Omega.{arith}
 use lib.Arith.{digits-div, digits-mod}
 use Rattle.laws.specs.Tests.{compared}
 use Rattle.laws.specs.Words.{first}
-use Rattle.laws.specs.First.{Searching, first-least, first-le, first-passes, first-before}
+use Rattle.laws.specs.First.{Searching, first-least, first-passes, first-before}
 
 module _ (N W : ℕ) (p : ℕ → ℕ → Bool) where
   -- the test of a key

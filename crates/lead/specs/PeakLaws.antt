@@ -1,5 +1,5 @@
 -- What one transform comes to: its best origin has the best hits, no other has more than the second best, and one has as many.
-use mathlib.Core.Path.{_≡_, refl, sym, ap, ap₂, _∙_}
+use mathlib.Core.Path.{_≡_, sym, ap, ap₂, _∙_}
 use mathlib.Core.Bool.{Bool, true, false}
 use mathlib.Core.Logic.{_⊎_, inl, inr, ⊎-elim}
 use Prim.Native.Nat.{ℕ, _+_, _*_, _/_, _%_, _≤_, _<_}
@@ -8,7 +8,7 @@ use native.Mathlib.Omega.{arith}
 use lib.Arith.{digits-div, digits-mod, digits-lt}
 use lib.Dec.{lit<}
 use Rattle.laws.specs.Tests.{decided}
-use Rattle.laws.specs.Words.{Grid, origins}
+use Rattle.laws.specs.Words.{origins}
 use Rattle.laws.specs.GridLaws.{Laws}
 use Rattle.board.specs.Hits.{EdgeList, Board, size, hits}
 use Rattle.board.specs.Sides.{periodOf}

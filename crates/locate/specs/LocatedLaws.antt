@@ -9,12 +9,11 @@ use lib.ListN.{getD, length}
 use lib.Ieee.{Float}
 use borrow.Author.Tests.{ltb-true, lt-ltb, eqb-true, eq-eqb}
 use Rattle.laws.specs.Tests.{clash, compared, apart, decided}
-use Rattle.laws.specs.First.{first-le, first-none, first-passes, first-before}
+use Rattle.laws.specs.First.{first-none, first-passes, first-before}
 use Rattle.board.specs.Hits.{EdgeList, Board, size, bare, look, hit, hits}
 use Rattle.board.specs.Sides.{periodOf}
-use Rattle.board.specs.Domain.{ListOk, BoardOk}
+use Rattle.board.specs.Domain.{BoardOk}
 use Rattle.board.specs.HitsLaws.{hits-le}
-use Rattle.board.specs.DomainLaws.{edges-ok}
 use Rattle.classes.specs.ClassesLaws.{hits-bare}
 use Rattle.answer.specs.declared.Square.{Square}
 use Rattle.refusals.specs.declared.Refusal.{Refusal}

@@ -1,5 +1,5 @@
 -- The early refusals of a hard call that has one list twice, in room that is long enough, are those of the call with this list alone.
-use mathlib.Core.Path.{_≡_, refl, sym, ap, ap₂, _∙_}
+use mathlib.Core.Path.{_≡_, refl, ap, ap₂, _∙_}
 use mathlib.Core.Bool.{Bool, true, false, not, cond}
 use mathlib.Core.List.{List, [], _∷_}
 use Prim.Native.Nat.{ℕ}
@@ -10,14 +10,13 @@ use Rattle.laws.specs.Words.{oneF}
 use Rattle.board.specs.Hits.{EdgeList, Board, size}
 use Rattle.checks.specs.Checks.{lengthsDiffer, sizeBad, firstBadCoordinate}
 use Rattle.ranges.specs.Ranges.{inRange, transformsBad, firstBadByte, firstBadConfidence}
-use Rattle.refusals.specs.declared.Refusal.{Refusal}
 use Rattle.refusals.specs.declared.ListName.the-variants as list
 use Rattle.refusals.specs.declared.Admission.{Admission}
 use Rattle.refusals.specs.declared.Admission.the-variants.{Accepted, Refused}
 use Rattle.refusals.specs.Numbers as why
 use Rattle.findings.specs.Findings.{refusedIf, refusedAt, orElse, firstOf, Findings, inOrder, firstFound, joined, roomFindings, listFindings, settingsFindings}
 use Rattle.admission.specs.Calls.{hardCall}
-use Rattle.admission.specs.Refusals.{tablesBad, roomShort, bothLists, hardAdmission}
+use Rattle.admission.specs.Refusals.{tablesBad, roomShort, hardAdmission}
 use Rattle.locate_admission.specs.LocateAdmission.{locateSettings, locateAdmission}
 use Rattle.locate_equal.specs.Equal.{asLogical}
 

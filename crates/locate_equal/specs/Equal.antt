@@ -11,7 +11,6 @@ use Rattle.refusals.specs.declared.Refusal.{Refusal}
 use Rattle.refusals.specs.declared.Place.{Place}
 use Rattle.refusals.specs.declared.Place.the-variants.{Nowhere, At}
 use Rattle.refusals.specs.declared.ListName.the-variants as list
-use Rattle.refusals.specs.declared.Admission.{Admission}
 use Rattle.refusals.specs.declared.Admission.the-variants as admission
 use Rattle.admission.specs.Calls.{hardCall}
 use Rattle.admission.specs.Refusals.{roomShort, hardAdmission}

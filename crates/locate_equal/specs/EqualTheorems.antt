@@ -1,10 +1,9 @@
 -- THE EQUALITY OF THE TWO ENGINES (C-16), for all inputs and any room that is long enough: one list by hits alone stands between them.
-use mathlib.Core.Path.{_≡_, refl, sym, ap, ap₂, subst, _∙_}
+use mathlib.Core.Path.{_≡_, refl, sym, ap, ap₂, _∙_}
 use mathlib.Core.Bool.{Bool, true, false}
-use mathlib.Core.Logic.{_⊎_, inl, inr}
+use mathlib.Core.Logic.{inl, inr}
 use mathlib.Core.List.{List}
-use Prim.Native.Nat.{ℕ, _*_, _/_, _%_, _≤_, _<_}
-use native.Mathlib.Omega.{arith}
+use Prim.Native.Nat.{ℕ, _*_, _≤_, _<_}
 use lib.Arith.{digits-div, digits-mod}
 use lib.ListN.{getD, length}
 use lib.Ieee.{Float}
@@ -16,14 +15,11 @@ use Rattle.board.specs.Domain.{ListOk, BoardOk}
 use Rattle.refusals.specs.declared.Refusal.{Refusal}
 use Rattle.refusals.specs.declared.Admission.{Admission}
 use Rattle.refusals.specs.declared.Admission.the-variants as admission
-use Rattle.refusals.specs.Numbers.{numbered}
-use Rattle.refusals.specs.Numbers as why
 use Rattle.findings.specs.FindingsLaws.{no-refusal}
 use Rattle.figures.specs.Gate.{passed}
 use Rattle.figures.specs.Figures.{noConfidence}
 use Rattle.admission.specs.Calls.{hardCall}
 use Rattle.admission.specs.Accepted.{hard-accepted}
-use Rattle.admission.specs.Refusals.{roomShort, hardAdmission}
 use Rattle.scan.specs.declared.scan.Candidate.{Candidate}
 use Rattle.scan.specs.declared.scan.RunnerUp.{RunnerUp}
 use Rattle.hard.specs.declared.select.Selection.{Selection}
@@ -32,17 +28,17 @@ use Rattle.hard.specs.Placings.{Sole, MostOther}
 use Rattle.hard.specs.PlacingsLaws.{sole-only, most-other-one}
 use Rattle.hard.specs.OneList.{keyAt}
 use Rattle.hard.specs.Ready.{ready-logical}
-use Rattle.hard.specs.Select.{selection, SelectReady}
+use Rattle.hard.specs.Select.{selection}
 use Rattle.hard.specs.SelectTheorems.{hitsAtKey, refuses-10, selected-in-range}
 use Rattle.decide.specs.declared.Outcome.{Outcome}
 use Rattle.decide.specs.declared.Outcome.the-variants as tables
-use Rattle.decide.specs.Decide.{whenPassed, gated, DecideDone}
+use Rattle.decide.specs.Decide.{whenPassed, gated}
 use Rattle.decide.specs.DecideTheorems.{RightOutcome, decided-by-hits}
 use Rattle.locate_answer.specs.declared.Located.{Located}
 use Rattle.locate_answer.specs.declared.LocateAnswer.{LocateAnswer}
 use Rattle.locate_answer.specs.declared.LocateAnswer.the-variants.{Found, Refused}
 use Rattle.locate_admission.specs.LocateAdmission.{locateAdmission}
-use Rattle.locate.specs.Located.{originsOf, squareAt, FoundAs, RefusedAs, LocatedAs, AfterChecks, LocateDone}
+use Rattle.locate.specs.Located.{originsOf, squareAt, FoundAs, LocatedAs, AfterChecks, LocateDone}
 use Rattle.locate.specs.LocatedTheorems.{refused-one, most-other, never-both}
 use Rattle.locate_equal.specs.Equal.{asLogical, Same, SameAsTables}
 use Rattle.locate_equal.specs.EarlyLaws.{relabelled, early-same}

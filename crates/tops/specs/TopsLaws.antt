@@ -10,7 +10,7 @@ use borrow.Author.Tests.{ltb-true, ltb-false}
 use Rattle.laws.specs.Tests.{split, decided}
 use Rattle.board.specs.Hits.{EdgeList, Board}
 use Rattle.classes.specs.declared.Three.{Three}
-use Rattle.classes.specs.Classes.{residueHits, classHits, threeOf}
+use Rattle.classes.specs.Classes.{classHits, threeOf}
 use Rattle.classes.specs.ClassesLaws.{class-at}
 use Rattle.tops.specs.declared.Top.{Top}
 use Rattle.tops.specs.Tops.{pushed, noTop, topTo, pushedThree, larger, most, raised, shortTops}

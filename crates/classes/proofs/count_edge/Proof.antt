@@ -6,7 +6,6 @@ use lib.IntN.{natAbs}
 use mir.Syntax.{w32}
 use mir.Val.{toZ, ofZ}
 use denote.Ref.{now}
-use lib.ListN.{length}
 use Rattle.board.specs.Hits.{Board, tables}
 use Rattle.board.specs.Sides.{periodOf}
 use Rattle.board.specs.declared.edge.EdgeLookup.{EdgeLookup}

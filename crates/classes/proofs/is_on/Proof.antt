@@ -1,14 +1,10 @@
 use borrow.Author.Tests.{eq-eqb, ne-eqb}
 use Rattle.classes.proofs.is_on.Statement.{statement}
 use Rattle.classes.proofs.is_on.Tie as tie
-use Rattle.classes.proofs.is_on.Reads as reads
-use Rattle.classes.proofs.is_on.Lts as lts
 
--- src/lib.rt:101:9
 returns : tie.Need-returns
 returns c = simp (eq-eqb _ _ (c .if1 .taken))
 
--- src/lib.rt:97:1
 returns-2 : tie.Need-returns-2
 returns-2 c = simp (ne-eqb _ _ (c .if1 .left))
 

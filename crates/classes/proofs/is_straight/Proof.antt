@@ -15,18 +15,13 @@ use Rattle.classes.specs.Classes.{straight}
 use borrow.Author.Needs.{needs}
 use Rattle.classes.proofs.is_straight.Statement.{statement}
 use Rattle.classes.proofs.is_straight.Tie as tie
-use Rattle.classes.proofs.is_straight.Reads as reads
-use Rattle.classes.proofs.is_straight.Lts as lts
 
--- src/lib.rt:89:16
 index-1-turn : tie.Need-index-1-turn
 index-1-turn c = search needs
 
--- src/lib.rt:89:16
 index-2-turn : tie.Need-index-2-turn
 index-2-turn c = search needs
 
--- src/lib.rt:91:9
 -- the entry that is read, tested for 0
 turns : (c : tie.After-turn) → eqb (ofZ w32 (getD (getD (c .before .args .t2) 1 []) 0 (pos 0))) 0 ≡ eqZ (mat (c .before .args .t) 1 0) (pos 0)
 unfolding mat
@@ -40,7 +35,6 @@ returns : tie.Need-returns
 unfolding straight
 returns c = rw (c .if1 .taken) (turns (c .before))
 
--- src/lib.rt:85:1
 returns-2 : tie.Need-returns-2
 unfolding straight
 returns-2 c = rw (c .if1 .left) (ap not (turns (c .before)))

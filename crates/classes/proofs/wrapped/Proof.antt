@@ -4,14 +4,10 @@ use native.Mathlib.Nat.{mod-eq-of-lt, mul-add-mod-self-left}
 use native.Mathlib.Omega.{arith}
 use Rattle.classes.proofs.wrapped.Statement.{statement}
 use Rattle.classes.proofs.wrapped.Tie as tie
-use Rattle.classes.proofs.wrapped.Reads as reads
-use Rattle.classes.proofs.wrapped.Lts as lts
 
--- src/lib.rt:50:9
 returns : tie.Need-returns
 returns c = (sym (mod-eq-of-lt (c .if1 .taken)), c .if1 .taken)
 
--- src/lib.rt:45:1
 returns-2 : tie.Need-returns-2
 returns-2 c =
     let s = c .before in

@@ -1,6 +1,6 @@
-use mathlib.Core.Path.{_≡_, ap, sym, _∙_}
+use mathlib.Core.Path.{_≡_, sym, _∙_}
 use mathlib.Core.List.{[]}
-use Prim.Native.Nat.{ℕ, _+_, _*_, _%_, _-_, _≤_, _<_}
+use Prim.Native.Nat.{_+_, _*_, _%_, _-_, _≤_, _<_}
 use native.Mathlib.Nat.{mod-lt}
 use native.Mathlib.Omega.{arith}
 use denote.Ref.{now}
@@ -8,7 +8,7 @@ use lib.ListN.{length}
 use borrow.Author.Tests.{eq-eqb, ne-eqb}
 use Rattle.laws.specs.First.{Searching, search-starts, search-goes-on, search-finds, search-ends}
 use Rattle.board.specs.Hits.{EdgeList, Board, edges, tables, hits}
-use Rattle.board.specs.HitsLaws.{hits-le, side-some}
+use Rattle.board.specs.HitsLaws.{hits-le}
 use Rattle.firsts.specs.Firsts.{has, firstCol}
 use Rattle.firsts.specs.FirstsLaws.{col-is}
 use Rattle.firsts.proofs.first_col.Statement.{statement}

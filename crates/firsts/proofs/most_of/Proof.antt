@@ -2,19 +2,13 @@ use Rattle.firsts.specs.Firsts.{mostOf}
 use borrow.Author.Needs.{needs}
 use Rattle.firsts.proofs.most_of.Statement.{statement}
 use Rattle.firsts.proofs.most_of.Tie as tie
-use Rattle.firsts.proofs.most_of.Reads as reads
-use Rattle.firsts.proofs.most_of.Lts as lts
-use Rattle.tops.proofs.larger.Reads as larger-reads
 
--- src/lib.rt:31:12
 larger-requires : tie.Need-larger-requires
 larger-requires c κs = search needs
 
--- src/lib.rt:31:5
 larger-requires-2 : tie.Need-larger-requires-2
 larger-requires-2 c κs = search needs
 
--- src/lib.rt:28:1
 returns : tie.Need-returns
 unfolding mostOf
 returns c = rw (c .larger2 .ensures, c .before .larger .ensures)

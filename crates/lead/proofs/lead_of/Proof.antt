@@ -6,7 +6,7 @@ use denote.Ref.{now}
 use lib.ListN.{getD, length}
 use Rattle.board.specs.Hits.{EdgeList, Board, edges, tables}
 use Rattle.classes.specs.Classes.{CountReady}
-use Rattle.lead.specs.Lead.{LeadReady, started, leadAfter, peaks}
+use Rattle.lead.specs.Lead.{leadAfter, peaks}
 use Rattle.lead.specs.LeadLaws.{lead-first, lead-next}
 use Rattle.lead.proofs.lead_of.Statement.{statement}
 use Rattle.lead.proofs.lead_of.Tie as tie

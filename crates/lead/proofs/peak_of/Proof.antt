@@ -1,7 +1,7 @@
-use mathlib.Core.Path.{_≡_, sym, ap, ap₂, _∙_}
+use mathlib.Core.Path.{_≡_, ap₂}
 use mathlib.Core.Bool.{Bool, true, false}
 use mathlib.Core.List.{[]}
-use Prim.Native.Nat.{ℕ, _+_, _*_, _/_, _%_, _≤_, _<_}
+use Prim.Native.Nat.{_*_, _≤_, _<_}
 use native.Mathlib.Omega.{arith}
 use denote.Ref.{now}
 use lib.ListN.{length}
@@ -57,10 +57,10 @@ key-of-requires : tie.Need-key-of-requires
 key-of-requires c κs = let k = c .before .before in (period-h (B k) (st k .pre .board), period-v (B k) (st k .pre .board), omega (arith, a-in k .0), cell k)
 
 add-larger : tie.Need-add-larger
-add-larger c = let k = c .before .before .before .before .before in omega (arith, a-in k .2, b-in k .1, few k)
+add-larger c = let k = c .before .before .before .before .before in omega (arith, a-in k .1, a-in k .2, b-in k .1, b-in k .2, few k)
 
 add-larger-2 : tie.Need-add-larger-2
-add-larger-2 c = let k = c .before .before .before .before .before .before .before in omega (arith, a-in k .1, b-in k .2, few k)
+add-larger-2 c = let k = c .before .before .before .before .before .before .before in omega (arith, a-in k .1, a-in k .2, b-in k .1, b-in k .2, few k)
 
 larger-requires : tie.Need-larger-requires
 larger-requires c κs = search needs

@@ -4,32 +4,22 @@ use Rattle.locate.specs.LocatedLaws.{done-refused, done-accepted}
 use borrow.Author.Needs.{needs}
 use Rattle.locate.proofs.locate.Statement.{statement}
 use Rattle.locate.proofs.locate.Tie as tie
-use Rattle.locate.proofs.locate.Reads as reads
-use Rattle.locate.proofs.locate.Lts as lts
-use Rattle.locate.proofs.locate_accepted.Reads as locate-accepted-reads
-use Rattle.locate_admission.proofs.locate_admission.Reads as locate-admission-reads
 
--- src/lib.rt:96:9
 locate-admission-requires : tie.Need-locate-admission-requires
 locate-admission-requires c κs = search needs
 
--- src/lib.rt:108:28
 enum-known-admitted : tie.Need-enum-known-admitted
 enum-known-admitted c = search needs
 
--- src/lib.rt:109:32
 enum-told : tie.Need-enum-told
 enum-told c = search needs
 
--- src/lib.rt:109:32
 locate-accepted-requires : tie.Need-locate-accepted-requires
 locate-accepted-requires c κs = locate-accepted _ _ _ _ (sym (c .before .before .locate-admission .ensures) ∙ c .enum-told .given .1)
 
--- src/lib.rt:83:1
 returns : tie.Need-returns
 returns c = let a = c .before .before .before .locate-admission in done-refused _ _ _ _ (a .result) (a .ensures) (c .before .admitted .given .0 .0) _ (c .before .admitted .given .1) refl
 
--- src/lib.rt:83:1
 returns-2 : tie.Need-returns-2
 returns-2 c = let a = c .before .before .before .locate-admission in done-accepted _ _ _ _ (a .result) (a .ensures) _ (c .before .enum-told .given .1) (c .locate-accepted .ensures)
 

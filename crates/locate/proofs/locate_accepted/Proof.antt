@@ -1,15 +1,15 @@
 use mathlib.Core.Path.{_≡_, ap, sym, _∙_}
 use mathlib.Core.Bool.{Bool, true, false}
 use mathlib.Core.List.{List}
-use Prim.Native.Nat.{ℕ, _≤_, _<_}
+use Prim.Native.Nat.{ℕ, _≤_}
 use native.Mathlib.Omega.{arith}
 use denote.Ref.{now}
-use lib.ListN.{getD, length}
+use lib.ListN.{length}
 use lib.Ieee.{Float, eq, ofBits, binary32}
 use Rattle.laws.specs.Words.{zeroF}
 use Rattle.board.specs.Hits.{EdgeList, Board, edges, tables, size}
 use Rattle.board.specs.DomainLaws.{edges-ok}
-use Rattle.figures.specs.Figures.{totalConfidence, noConfidence}
+use Rattle.figures.specs.Figures.{noConfidence}
 use Rattle.hard.specs.SelectTheorems.{hitsAtKey}
 use Rattle.lead.specs.declared.Lead.{Lead}
 use Rattle.lead.specs.LeadLaws.{Leading}
@@ -71,7 +71,7 @@ cast-edges : tie.Need-cast-edges
 cast-edges c = search needs
 
 over-limit-requires : tie.Need-over-limit-requires
-over-limit-requires c κs = let j = k c in (best-few (B j) (E j) (ts j) (S c) (A c) (st j .args .error-limit) (few c) (some c), few c)
+over-limit-requires c κs = let j = k c in (omega (arith, best-few (B j) (E j) (ts j) (S c) (A c) (st j .args .error-limit) (few c) (some c), A c .under), few c)
 
 refuse-requires-2 : tie.Need-refuse-requires-2
 refuse-requires-2 c κs = search needs
@@ -98,7 +98,7 @@ first-key-requires c κs =
     record { list = edges-ok (E (k l)) (p .list); board = p .board; transform = p .transforms .small (S l .from) (A l .from-in) }
 
 shared-slice-read-square-at : tie.Need-shared-slice-read-square-at
-shared-slice-read-square-at c = A (c .before .before .before .before .before .before .before) .listed-in
+shared-slice-read-square-at c = let l = c .before .before .before .before .before .before .before in omega (arith, A l .listed-in, A l .from-in)
 
 square-at-requires : tie.Need-square-at-requires
 square-at-requires c κs =
@@ -110,7 +110,7 @@ square-at-requires-2 : tie.Need-square-at-requires-2
 square-at-requires-2 c κs =
     let l = c .before .before .before .before .before .before .before .before in
     let p = st (k l) .pre in
-    (omega (arith, p .board .v .some), omega (arith, runner-in (B (k l)) (E (k l)) (ts (k l)) (S l) (A l) _ (c .before .before .first-key .ensures), keys-small (B (k l)) (p .board)))
+    (omega (arith, p .board .v .some), omega (arith, A l .key-in, runner-in (B (k l)) (E (k l)) (ts (k l)) (S l) (A l) (c .before .before .first-key .result) (c .before .before .first-key .ensures), keys-small (B (k l)) (p .board)))
 
 returns-3 : tie.Need-returns-3
 returns-3 c =

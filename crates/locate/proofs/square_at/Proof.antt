@@ -3,26 +3,19 @@ use native.Mathlib.Omega.{arith}
 use borrow.Author.Needs.{needs}
 use Rattle.locate.proofs.square_at.Statement.{statement}
 use Rattle.locate.proofs.square_at.Tie as tie
-use Rattle.locate.proofs.square_at.Reads as reads
-use Rattle.locate.proofs.square_at.Lts as lts
 
--- src/lib.rt:20:16
 div-row : tie.Need-div-row
 div-row c = search needs
 
--- src/lib.rt:20:15
 cast-row : tie.Need-cast-row
-cast-row c = omega (arith, div-le-self (c .args .key) (c .args .wide), c .pre .1)
+cast-row c = omega (arith, div-le-self (c .args .key) (c .args .wide), mod-le (c .args .key) (c .args .wide), c .pre .1)
 
--- src/lib.rt:21:16
 rem-col : tie.Need-rem-col
 rem-col c = search needs
 
--- src/lib.rt:21:15
 cast-col : tie.Need-cast-col
 cast-col c = omega (arith, mod-le (c .args .key) (c .args .wide), c .pre .1)
 
--- src/lib.rt:16:1
 returns : tie.Need-returns
 returns c = search needs
 

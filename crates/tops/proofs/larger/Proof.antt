@@ -2,15 +2,11 @@ use borrow.Author.Tests.{lt-ltb, le-ltb}
 use Rattle.tops.specs.Tops.{larger}
 use Rattle.tops.proofs.larger.Statement.{statement}
 use Rattle.tops.proofs.larger.Tie as tie
-use Rattle.tops.proofs.larger.Reads as reads
-use Rattle.tops.proofs.larger.Lts as lts
 
--- src/lib.rt:104:9
 returns : tie.Need-returns
 unfolding larger
 returns c = simp (lt-ltb _ _ (c .if1 .taken))
 
--- src/lib.rt:100:1
 returns-2 : tie.Need-returns-2
 unfolding larger
 returns-2 c = simp (le-ltb _ _ (c .if1 .left))

@@ -2,35 +2,25 @@ use Rattle.tops.specs.Tops.{pushedThree}
 use borrow.Author.Needs.{needs}
 use Rattle.tops.proofs.push_three.Statement.{statement}
 use Rattle.tops.proofs.push_three.Tie as tie
-use Rattle.tops.proofs.push_three.Reads as reads
-use Rattle.tops.proofs.push_three.Lts as lts
-use Rattle.tops.proofs.push.Reads as push-reads
 
--- src/lib.rt:44:13
 mul-i : tie.Need-mul-i
 mul-i c = search needs
 
--- src/lib.rt:45:9
 push-requires : tie.Need-push-requires
 push-requires c κs = search needs
 
--- src/lib.rt:46:21
 add-push : tie.Need-add-push
 add-push c = search needs
 
--- src/lib.rt:46:9
 push-requires-2 : tie.Need-push-requires-2
 push-requires-2 c κs = search needs
 
--- src/lib.rt:47:13
 add-push-2 : tie.Need-add-push-2
 add-push-2 c = search needs
 
--- src/lib.rt:47:5
 push-requires-3 : tie.Need-push-requires-3
 push-requires-3 c κs = search needs
 
--- src/lib.rt:40:1
 returns : tie.Need-returns
 unfolding pushedThree
 returns c = rw (c .push3 .ensures, c .before .push2 .ensures, c .before .before .push .ensures)

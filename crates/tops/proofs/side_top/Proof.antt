@@ -4,7 +4,6 @@ use mathlib.Core.List.{[]}
 use Prim.Native.Nat.{ℕ, _*_, _-_, _≤_, _<_}
 use native.Mathlib.Omega.{arith}
 use denote.Ref.{now}
-use lib.ListN.{length}
 use Rattle.board.specs.Hits.{EdgeList, Board, edges, tables}
 use Rattle.board.specs.Sides.{periodOf}
 use Rattle.board.specs.Domain.{BoardOk}

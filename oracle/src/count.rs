@@ -391,8 +391,17 @@ pub struct ExactFound {
 }
 
 /// "margin = best minus runner-up hits, not below 0; pass exactly if margin > misses."
-fn passes(edges: usize, best: i64, runner: i64) -> bool {
+pub(crate) fn passes(edges: usize, best: i64, runner: i64) -> bool {
     (best - runner).max(0) > edges as i64 - best
+}
+
+/// What request C-16 answers of one list.
+#[derive(Clone, Copy, Debug, PartialEq)]
+pub struct Located {
+    pub square: Square,
+    pub hits: u32,
+    pub runner: Square,
+    pub runner_hits: u32,
 }
 
 /// A call: the board, both lists, the likelihoods of the physical one, the transforms, the limit and the soft margin.
@@ -467,6 +476,33 @@ impl Call<'_> {
             runner_hits: w.runner.hits as u32,
             runner_weight: w.runner_weight as u64,
         })
+    }
+
+    /// Request C-16, on the logical list: its placing of most hits and, of all others with most hits, "the first by list position, row and column", counted edge by edge at each; or 10, 11 or 13.
+    pub fn located(&self) -> Result<Located, u32> {
+        let edges = self.logical;
+        if total(edges) == 0.0 {
+            return Err(10);
+        }
+        let every = |&t: &u8| self.board.at_every_origin(edges, t, |_, hit| i64::from(hit));
+        let hits: Vec<Vec<i64>> = self.transforms.iter().map(every).collect();
+        let counted = |p: &(usize, Origin)| at(self.board, &hits[p.0], p.1);
+        let first_but = |but: Option<(usize, Origin)>| {
+            let placings = (0..hits.len()).flat_map(|listed| origins(self.board).map(move |o| (listed, o)));
+            let others = placings.filter(|&p| Some(p) != but);
+            others.reduce(|kept, p| if counted(&p) > counted(&kept) { p } else { kept }).expect("a placing")
+        };
+        let winner = first_but(None);
+        let runner = first_but(Some(winner));
+        let (most, next) = (counted(&winner), counted(&runner));
+        if rate(edges.len(), most) > self.limit {
+            return Err(11);
+        }
+        if !passes(edges.len(), most, next) {
+            return Err(13);
+        }
+        let square = |p: (usize, Origin)| self.square(p.0, p.1);
+        Ok(Located { square: square(winner), hits: most as u32, runner: square(runner), runner_hits: next as u32 })
     }
 
     /// The exact mode's winner on the physical list alone.
@@ -553,6 +589,7 @@ pub fn answer(kind: u32, call: &Call, at: &Square) -> file::Words {
         file::HARD => decoded(call.hard()),
         file::SOFT => decoded(call.soft()),
         file::STATS => file::counted(&call.stats(at)),
+        file::LOCATED => call.located().map_or_else(file::refused, |l| file::located(&l)),
         file::EXACT => call.exact().map_or_else(file::refused, |f| file::exact(&f)),
         _ => call.selection().map_or_else(file::refused, |s| file::selected(&s)),
     }

@@ -3,13 +3,13 @@
 //! First the number of entries. Then each entry: its kind and what it holds.
 //! - 0: two pattern tables, horizontal then vertical, each a length and its entries, for all calls that follow.
 //! - 1 hard decode, 2 soft decode, 3 match statistics of the physical list, 4 hard selection on the logical list before the gate, 5 the exact mode of
-//!   request C-15: a call (see `Call`), then the answer's 17 words.
+//!   request C-15, 6 the logical list located without tables (request C-16): a call (see `Call`), then the answer's 17 words.
 //!
 //! A file of cells, which the program `poletables` reads, is of such words too. First the number of entries. Then each: two pattern tables, the columns of a list, its
 //! likelihoods of a match and of a mismatch (each a length and its entries), a transform, and the cells of its class tables, horizontal then vertical: all
 //! counts, all weights, and all sums. A sum is two words, of which the higher has the sign as its highest bit.
 
-use crate::count::ExactFound;
+use crate::count::{ExactFound, Located};
 use crate::{Case, Cells, Edge, Found, Selected, Square, Stats};
 
 pub const TABLES: u32 = 0;
@@ -18,6 +18,7 @@ pub const SOFT: u32 = 2;
 pub const STATS: u32 = 3;
 pub const SELECTION: u32 = 4;
 pub const EXACT: u32 = 5;
+pub const LOCATED: u32 = 6;
 
 /// What no answer holds: it stands in every place that a refusal, or a kind of call, leaves empty.
 pub const EMPTY: u32 = u32::MAX;
@@ -102,6 +103,16 @@ pub fn exact(f: &ExactFound) -> Words {
     words
 }
 
+/// What is located: the placing, its hits, and the runner-up's hits (a whole number) and place.
+pub fn located(l: &Located) -> Words {
+    let mut words = refused(0);
+    square(&mut words, 1, &l.square);
+    words[4] = l.hits;
+    words[10] = l.runner_hits;
+    square(&mut words, 12, &l.runner);
+    words
+}
+
 pub fn counted(s: &Stats) -> Words {
     let mut words = refused(0);
     words[4] = s.hits;
@@ -176,7 +187,7 @@ impl Call {
             kind,
             room: ROOM,
             logical: list(kind != STATS, &case.logical),
-            physical: list(kind != SELECTION, &case.physical),
+            physical: list(kind != SELECTION && kind != LOCATED, &case.physical),
             matches: column(|p| p.0),
             mismatches: column(|p| p.1),
             transforms: case.transforms.iter().map(|&t| t as u32).collect(),

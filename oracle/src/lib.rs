@@ -50,6 +50,20 @@ fn counted(kind: u32, case: &Case, at: &Square) -> file::Words {
     poles::counted(kind, &count::Board { h, v }, case, at).1
 }
 
+/// One list located (request C-16): what the Rust selects, then the gate. The runner-up's place, which the Rust has by another rule, is counted.
+fn located(case: &Case, at: &Square) -> file::Words {
+    match selection(case) {
+        Err(number) => file::refused(number),
+        Ok(s) if !count::passes(case.logical.len(), s.hits.into(), s.runner_hits.into()) => file::refused(13),
+        Ok(s) => {
+            let mut words = counted(file::LOCATED, case, at);
+            words[..5].copy_from_slice(&[0, s.square.transform, s.square.row as u32, s.square.col as u32, s.hits]);
+            words[10] = s.runner_hits;
+            words
+        }
+    }
+}
+
 /// The answer to a call of that kind, as the file's words; match statistics at the placing. The exact mode, which the Rust has not, is counted.
 pub fn answer(kind: u32, case: &Case, at: &Square) -> file::Words {
     let decoded = |r: Result<Found, u32>| r.map_or_else(file::refused, |f| file::found(&f));
@@ -58,6 +72,7 @@ pub fn answer(kind: u32, case: &Case, at: &Square) -> file::Words {
         file::SOFT => decoded(soft(case)),
         file::STATS => file::counted(&stats(case, at)),
         file::EXACT => counted(kind, case, at),
+        file::LOCATED => located(case, at),
         _ => selection(case).map_or_else(file::refused, |s| file::selected(&s)),
     }
 }

@@ -12,6 +12,8 @@ use flat::flat::NOTHING;
 use flat::flat::list_of;
 use flat::flat::position_of;
 use hard::select::Selection;
+use locate_answer::LocateAnswer;
+use locate_answer::Located;
 use refusals::Refusal;
 use scan::scan::Candidate;
 use scan::scan::RunnerUp;
@@ -100,6 +102,37 @@ pub(crate) fn words_of_exact(a: ExactAnswer) -> [u32; 17] {
     match a {
         ExactAnswer::Found(d) => exact_found(d),
         ExactAnswer::Refused(r) => refused(r),
+    }
+}
+
+// What is located: no scores.
+fn located(d: Located) -> [u32; 17] {
+    [
+        NOT_REFUSED,
+        d.square.transform as u32,
+        d.square.row,
+        d.square.col,
+        d.hits,
+        NOTHING,
+        NOTHING,
+        NOTHING,
+        NOTHING,
+        NOTHING,
+        d.runner_up_hits,
+        NOTHING,
+        d.runner_up.transform as u32,
+        d.runner_up.row,
+        d.runner_up.col,
+        NOTHING,
+        NOTHING,
+    ]
+}
+
+// A list located without tables.
+pub(crate) fn words_of_located(a: LocateAnswer) -> [u32; 17] {
+    match a {
+        LocateAnswer::Found(d) => located(d),
+        LocateAnswer::Refused(r) => refused(r),
     }
 }
 

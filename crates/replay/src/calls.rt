@@ -1,6 +1,7 @@
 // One call of the library, of columns that a file gave, in room of the lengths that it asks for. The room holds 7 before.
 use crate::answers::words_of;
 use crate::answers::words_of_exact;
+use crate::answers::words_of_located;
 use crate::answers::words_of_selection;
 use crate::answers::words_of_stats;
 use crate::selection::select;
@@ -118,6 +119,28 @@ fn exact_call(
     words_of_exact(answer)
 }
 
+// The logical list located without tables: no room is lent.
+fn locate_call(
+    l: Sizes,
+    n: Lengths,
+    limit: f32,
+    wholes: &[i32],
+    bytes: &[u8],
+    floats: &[f32],
+) -> [u32; 17] {
+    words_of_located(locate::locate(
+        part_i32(wholes, FIRST, l.rows),
+        part_i32(wholes, SECOND, l.cols),
+        part_u8(bytes, FIRST, l.orientations),
+        part_u8(bytes, SECOND, l.bits),
+        part_f32(floats, FIRST, l.confidences),
+        part_u8(bytes, FIFTH, n.transforms),
+        part_u8(bytes, SIXTH, n.h),
+        part_u8(bytes, SEVENTH, n.v),
+        limit,
+    ))
+}
+
 // Soft decode.
 fn soft_call(
     l: Sizes,
@@ -210,7 +233,8 @@ fn selection_call(
     words_of_selection(answer, transforms, counted(l.rows))
 }
 
-// The call's answer, by its kind: 1 hard decode, 2 soft decode, 3 match statistics of the physical list, 5 exact decode, else hard selection on the logical list before the gate.
+// The call's answer, by its kind: 1 hard decode, 2 soft decode, 3 match statistics of the physical list, 5 exact decode, 6 the logical list located without tables, else hard selection
+// on the logical list before the gate.
 pub(crate) fn call(
     kind: u32,
     l: Sizes,
@@ -227,6 +251,7 @@ pub(crate) fn call(
         2 => soft_call(l, p, n, s.limit, s.margin, room, wholes, bytes, floats),
         3 => stats_call(p, n, s, wholes, bytes, floats),
         5 => exact_call(l, p, n, s.limit, room, wholes, bytes, floats),
+        6 => locate_call(l, n, s.limit, wholes, bytes, floats),
         _ => selection_call(l, n, s.limit, room, wholes, bytes, floats),
     }
 }

@@ -623,7 +623,7 @@ mod tests {
                 cases::own_likelihoods(&mut r, &mut case);
             }
             let at = cases::placing(&mut r);
-            for kind in [file::HARD, file::SOFT, file::STATS, file::SELECTION] {
+            for kind in [file::HARD, file::SOFT, file::STATS, file::SELECTION, file::LOCATED] {
                 let [counted, mut given] = both(kind, &case, &at);
                 if given[0] == EITHER && [13, 15].contains(&counted[0]) {
                     given[0] = counted[0];

@@ -1,6 +1,6 @@
 // The smallest list of which the engines name different runners-up: two edges at row 0 and column 0, one horizontal and one vertical, both of bit 1, on a pole of four patterns. One bit is
 // set in either table, so one placing has two hits, and every other of its horizontal or of its vertical class has one. The tables' runner-up is the first other cell by cell position; the
-// located one is the first origin, row by row. A list of one edge is always refused with 13, so no smaller list shows it.
+// located one is the first origin, row by row. One edge alone is never found, for other origins of its class have as many hits, so no smaller list shows it.
 use crate::both::show_both;
 use console::print::print;
 

@@ -100,7 +100,7 @@ fn show_cut(
     );
 }
 
-// The same of a whole window over the four rotations, with one confidence for all edges.
+// The same of a whole window of 12 by 12 squares, with one confidence for all edges.
 fn show_window(
     name: &[u8],
     length: usize,
@@ -169,7 +169,7 @@ fn boards() {
     );
 }
 
-// The limits of a list's length.
+// The limits of a list's length, and one edge alone.
 fn lengths() {
     let ones = [1.0f32; 8193];
     let rotations = [0u8, 1, 2, 3];
@@ -221,7 +221,7 @@ fn all_zero() {
     );
 }
 
-// 2^-25, which is half a unit and becomes one; the next smaller float, which becomes none; 2^-26; and -0.
+// 2^-25, which is half a unit and becomes one; the next smaller float, which becomes none; and 2^-26.
 const HALF_UNIT: f32 = 1.0 / 33554432.0;
 
 const BELOW_HALF: f32 = 16777215.0 / 562949953421312.0;

@@ -33,10 +33,11 @@ extern "C" {
 
 /* The number of a function's form is part of its name in the library, so that a program which was compiled for another form does not link: the
    structs of another form have other fields. A program calls the functions by the names without a number. Hard and soft decode are in their
-   third form, in which exact decode came; match statistics are in their second, since their struct stayed what it was. */
+   third form, in which exact decode and locate came; match statistics are in their second, since their struct stayed what it was. */
 #define samburext_decode_hard samburext_decode_hard_3
 #define samburext_decode_exact samburext_decode_exact_3
 #define samburext_decode_soft samburext_decode_soft_3
+#define samburext_locate samburext_locate_3
 #define samburext_match_stats samburext_match_stats_2
 
 /* What changed with the third form of hard and soft decode. They had one struct, in which the runner-up's hits stood as a float beside a margin
@@ -99,7 +100,7 @@ enum samburext_refusal {
 enum samburext_list {
     SAMBUREXT_LOGICAL_LIST = 1,  /* the logical list of hard, exact and soft decode */
     SAMBUREXT_PHYSICAL_LIST = 2, /* their physical list, with its likelihoods */
-    SAMBUREXT_ONLY_LIST = 3      /* the list of match statistics */
+    SAMBUREXT_ONLY_LIST = 3      /* the list of locate and of match statistics */
 };
 
 /* The answer of hard decode. Whatever counts edges is a whole number. */
@@ -172,6 +173,21 @@ typedef struct samburext_soft_answer {
     uint32_t runner_up_col;       /* its column */
     uint32_t runner_up_hits;      /* and its hits, which are the logical list's, as `hits` above are the physical one's */
 } samburext_soft_answer;
+
+/* The answer of locate: whole numbers alone, and no score. */
+typedef struct samburext_located {
+    uint32_t refusal;             /* 0 when found, else a number of samburext_refusal */
+    uint32_t list;                /* SAMBUREXT_ONLY_LIST where the refusal is about an edge, or SAMBUREXT_NOTHING */
+    uint32_t position;            /* the place of that edge in the list, counting from 0, or SAMBUREXT_NOTHING */
+    uint32_t transform;           /* the transform's number, 0 to 7 */
+    uint32_t row;                 /* the origin's row on the board, 0 to 3L - 1: 500 on the flat board */
+    uint32_t col;                 /* the origin's column, 0 to 500 */
+    uint32_t hits;                /* edges of the list whose bit is the one that the board predicts there */
+    uint32_t runner_up_transform; /* of the other placings with most hits the first by place in `transforms`, row and column: its transform, */
+    uint32_t runner_up_row;       /* its row, */
+    uint32_t runner_up_col;       /* its column */
+    uint32_t runner_up_hits;      /* and its hits */
+} samburext_located;
 
 /* The answer of match statistics. */
 typedef struct samburext_stats {
@@ -249,6 +265,21 @@ samburext_soft_answer samburext_decode_soft(
     uint32_t *counts, size_t counts_length,              /* room, at least SAMBUREXT_ROOM_COUNTS_FOR(horizontal_length) */
     float *weights, size_t weights_length,               /* room, at least SAMBUREXT_ROOM_WEIGHTS_FOR(horizontal_length) */
     int64_t *sums, size_t sums_length);                  /* room, at least SAMBUREXT_ROOM_SUMS_FOR(horizontal_length) */
+
+/* Locate: the square by the hits of one list, without room, where there is no space for tables. It takes longer than hard decode. The square is the
+   placing within the error limit that is ahead of every other by more hits than it has misses. Refusals are 2 to 5, 7 to 9, 16 and 17, then 10, 11
+   and 13, and never 1. It is refused as hard decode of this list with itself is, or finds the same square, hits and runner-up hits; its
+   runner-up may be another square with as many hits. */
+samburext_located samburext_locate(
+    const int32_t *rows, size_t rows_length,                 /* the list: rows */
+    const int32_t *columns, size_t columns_length,           /* its columns */
+    const uint8_t *orientations, size_t orientations_length, /* its orientations, 0 or 1 */
+    const uint8_t *bits, size_t bits_length,                 /* its bits, 0 or 1 */
+    const float *confidences, size_t confidences_length,     /* its confidences, 0 to 1: where their sum is 0 it is refused, and else they have no influence */
+    const uint8_t *transforms, size_t transforms_length, /* 1 to 8 transform numbers in search order, each 0 to 7 */
+    const uint8_t *horizontal, size_t horizontal_length, /* the horizontal pattern table: L bytes, each 0 to 7, of a pole length L; 167 on the flat board */
+    const uint8_t *vertical, size_t vertical_length,     /* the vertical pattern table: 167 bytes, each 0 to 7 */
+    float error_limit);                                  /* the largest error rate that is taken, 0 to 1 */
 
 /* Match statistics: how one list fits a known transform and origin. No room is needed. */
 samburext_stats samburext_match_stats(

@@ -1,7 +1,8 @@
-/* A window of a small made-up board, decoded by hits (hard), by hits and weights that add without rounding (exact) and by likelihoods (soft): each
- * once as it is, and once so that it is refused, by an error limit that no call takes, by confidences that are too small to weigh anything, and by
- * a soft margin that no window has; and once more by hits, with one bit that is none. It prints all seven answers whole, so that what a refusal
- * holds can be seen, and how the window fits its square; and last a window of a target that is wrapped round a pole. Compiled and run by .ci/tests/boundary, which compares what it prints. */
+/* A window of a small made-up board, decoded by hits (hard), by hits and weights that add without rounding (exact), by hits without room (locate) and
+ * by likelihoods (soft): each once as it is, and once so that it is refused, by an error limit that no call takes, by confidences that are too small
+ * to weigh anything, by a transform that is listed twice, and by a soft margin that no window has; and once more by hits, and by hits without room,
+ * with one bit that is none. It prints all ten answers whole, so that what a refusal holds can be seen, and how the window fits its square; and last a
+ * window of a target that is wrapped round a pole. Compiled and run by .ci/tests/boundary, which compares what it prints. */
 #include "samburext.h"
 
 #include <inttypes.h>
@@ -17,7 +18,7 @@ static uint32_t counts[SAMBUREXT_ROOM_COUNTS_FOR(POLE)]; /* the longer board's r
 static float weights[SAMBUREXT_ROOM_WEIGHTS_FOR(POLE)];
 static uint64_t units[SAMBUREXT_ROOM_UNITS];
 static int64_t sums[SAMBUREXT_ROOM_SUMS];
-static const uint8_t transforms[] = {0, 1, 2, 3};
+static const uint8_t transforms[] = {0, 1, 2, 3}, twice[] = {0, 0};
 
 /* A pattern table of three-bit patterns from a small generator. */
 static uint32_t fill_table(uint8_t *table, int length, uint32_t state)
@@ -116,6 +117,23 @@ static void print_exact(const samburext_exact_answer *a)
     print_weight("runner_up_weight", a->runner_up_weight);
 }
 
+/* Whole numbers alone: there is no score. */
+static void print_located(const samburext_located *a)
+{
+    printf("locate: %s\n", a->refusal == SAMBUREXT_FOUND ? "found" : "refused");
+    print_whole("refusal", a->refusal);
+    print_whole("list", a->list);
+    print_whole("position", a->position);
+    print_whole("transform", a->transform);
+    print_whole("row", a->row);
+    print_whole("col", a->col);
+    print_whole("hits", a->hits);
+    print_whole("runner_up_transform", a->runner_up_transform);
+    print_whole("runner_up_row", a->runner_up_row);
+    print_whole("runner_up_col", a->runner_up_col);
+    print_whole("runner_up_hits", a->runner_up_hits);
+}
+
 /* Scores and the margin are log likelihoods here; the second by these is another square than the runner-up by hits. */
 static void print_soft(const samburext_soft_answer *a)
 {
@@ -148,7 +166,7 @@ static void print_edge(uint32_t refusal, uint32_t list, uint32_t position)
 {
     if (refusal != SAMBUREXT_FOUND && list != SAMBUREXT_NOTHING)
         printf("  look at edge %u of the %s list, counting from 1\n", (unsigned)position + 1,
-               list == SAMBUREXT_LOGICAL_LIST ? "logical" : "physical");
+               list == SAMBUREXT_LOGICAL_LIST ? "logical" : list == SAMBUREXT_PHYSICAL_LIST ? "physical" : "only");
 }
 
 static void hard_and_print(float error_limit)
@@ -170,6 +188,15 @@ static void exact_and_print(void)
         transforms, sizeof transforms, horizontal, sizeof horizontal, vertical, sizeof vertical, 0.1f,
         counts, SAMBUREXT_ROOM_COUNTS, units, SAMBUREXT_ROOM_UNITS);
     print_exact(&answer);
+    print_edge(answer.refusal, answer.list, answer.position);
+}
+
+static void locate_and_print(const uint8_t *some, size_t some_length)
+{
+    samburext_located answer = samburext_locate(
+        rows, EDGES, columns, EDGES, orientations, EDGES, bits, EDGES, confidences, EDGES, /* the list */
+        some, some_length, horizontal, sizeof horizontal, vertical, sizeof vertical, 0.1f);
+    print_located(&answer);
     print_edge(answer.refusal, answer.list, answer.position);
 }
 
@@ -201,10 +228,13 @@ int main(void)
     set_confidences(1e-9f); /* below 2^-25, which is no unit */
     exact_and_print();
     set_confidences(0.75f);
+    locate_and_print(transforms, sizeof transforms);
+    locate_and_print(twice, sizeof twice);
     soft_and_print(0.02f);
     soft_and_print(100.0f);
     bits[41] += 2; /* a slip of whoever wrote the list */
     hard_and_print(0.1f);
+    locate_and_print(transforms, sizeof transforms);
     bits[41] -= 2;
     samburext_stats stats = samburext_match_stats(
         rows, EDGES, columns, EDGES, orientations, EDGES, bits, EDGES, confidences, EDGES, 0, ROW, COLUMN,

@@ -249,6 +249,16 @@ pub struct SoftDecoded {
     pub runner_up_hits: u32,
 }
 
+/// What locate finds on one list, by hits alone.
+#[derive(Clone, Copy, Debug, PartialEq)]
+pub struct Located {
+    pub square: Square,
+    pub hits: u32,
+    /// Of the other placings with most hits the first by place in the transforms, row and column.
+    pub runner_up: Square,
+    pub runner_up_hits: u32,
+}
+
 /// How a list fits one known square.
 #[derive(Clone, Copy, Debug, PartialEq)]
 pub struct MatchStats {
@@ -292,6 +302,19 @@ fn exact_decoded(answer: raw::ExactAnswer) -> Result<ExactDecoded, Refused> {
             runner_up_hits: answer.runner_up_hits,
             runner_up_weight: answer.runner_up_weight,
             margin_hits: answer.margin_hits,
+        }),
+    }
+}
+
+// What the struct of locate says.
+fn located(answer: raw::Located) -> Result<Located, Refused> {
+    match Refused::from_numbers(answer.refusal, answer.list, answer.position) {
+        Some(refused) => Err(refused),
+        None => Ok(Located {
+            square: Square { transform: answer.transform, row: answer.row, col: answer.col },
+            hits: answer.hits,
+            runner_up: Square { transform: answer.runner_up_transform, row: answer.runner_up_row, col: answer.runner_up_col },
+            runner_up_hits: answer.runner_up_hits,
         }),
     }
 }
@@ -450,6 +473,39 @@ fn decode_exact_raw(
             room.counts.len(),
             room.units.as_mut_ptr(),
             room.units.len(),
+        )
+    }
+}
+
+/// Locate: the square by the hits of one list, without room, where there is no space for tables; it takes longer than hard decode. The square is the
+/// placing within the error limit that is ahead of every other by more hits than it has misses. It is refused as hard decode of the list with itself
+/// is, but never for its room, or finds the same square, hits and runner-up hits; its runner-up may be another square with as many hits.
+pub fn locate(list: &EdgeList, transforms: &[u8], patterns: Patterns, error_limit: f32) -> Result<Located, Refused> {
+    located(locate_raw(list, transforms, patterns, error_limit))
+}
+
+// The same with the answer as the library gives it.
+fn locate_raw(list: &EdgeList, transforms: &[u8], patterns: Patterns, error_limit: f32) -> raw::Located {
+    // As above, and nothing is written.
+    unsafe {
+        raw::samburext_locate_3(
+            list.rows.as_ptr(),
+            list.rows.len(),
+            list.cols.as_ptr(),
+            list.cols.len(),
+            list.orientations.as_ptr(),
+            list.orientations.len(),
+            list.bits.as_ptr(),
+            list.bits.len(),
+            list.confidences.as_ptr(),
+            list.confidences.len(),
+            transforms.as_ptr(),
+            transforms.len(),
+            patterns.horizontal.as_ptr(),
+            patterns.horizontal.len(),
+            patterns.vertical.as_ptr(),
+            patterns.vertical.len(),
+            error_limit,
         )
     }
 }

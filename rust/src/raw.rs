@@ -77,6 +77,23 @@ pub struct SoftAnswer {
     pub runner_up_hits: u32,
 }
 
+/// The answer of locate, with the same in its fields on a refusal.
+#[repr(C)]
+#[derive(Clone, Copy, Debug)]
+pub struct Located {
+    pub refusal: u32,
+    pub list: u32,
+    pub position: u32,
+    pub transform: u32,
+    pub row: u32,
+    pub col: u32,
+    pub hits: u32,
+    pub runner_up_transform: u32,
+    pub runner_up_row: u32,
+    pub runner_up_col: u32,
+    pub runner_up_hits: u32,
+}
+
 /// The answer of match statistics, with the same in its fields on a refusal.
 #[repr(C)]
 #[derive(Clone, Copy, Debug)]
@@ -203,6 +220,27 @@ extern "C" {
         sums: *mut i64,
         sums_length: usize,
     ) -> SoftAnswer;
+
+    /// Locate: the list's five columns, transforms, tables and error limit.
+    pub fn samburext_locate_3(
+        rows: *const i32,
+        rows_length: usize,
+        columns: *const i32,
+        columns_length: usize,
+        orientations: *const u8,
+        orientations_length: usize,
+        bits: *const u8,
+        bits_length: usize,
+        confidences: *const f32,
+        confidences_length: usize,
+        transforms: *const u8,
+        transforms_length: usize,
+        horizontal: *const u8,
+        horizontal_length: usize,
+        vertical: *const u8,
+        vertical_length: usize,
+        error_limit: f32,
+    ) -> Located;
 
     /// Match statistics: the list's five columns, a transform, an origin, and the tables.
     pub fn samburext_match_stats_2(

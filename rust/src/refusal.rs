@@ -116,7 +116,7 @@ pub enum List {
     Logical,
     /// Their physical list, with its likelihoods.
     Physical,
-    /// The list of a call that has one, as match statistics.
+    /// The list of a call that has one, as locate and match statistics.
     Only,
     /// A number that this wrapper does not know.
     Unknown(u32),

@@ -1,7 +1,8 @@
-//! The four functions through the static library: found, each refusal, the edge that it is about, the room, and what a refusal holds.
+//! The five functions through the static library: found, each refusal, the edge that it is about, the room, and what a refusal holds.
 
 mod board;
 mod exact;
+mod locate;
 mod poles;
 
 use crate::{

@@ -1,8 +1,8 @@
-//! The four functions as another crate calls them, with the types that it sees.
+//! The five functions as another crate calls them, with the types that it sees.
 
 use samburext::{
-    decode_exact, decode_hard, decode_soft, match_stats, pole_length, Decoded, Edge, EdgeList, EdgePlace, ExactDecoded,
-    ExactRoom, Likelihoods, List, Patterns, Refusal, Refused, Room, SoftDecoded, Square, UNITS,
+    decode_exact, decode_hard, decode_soft, locate, match_stats, pole_length, Decoded, Edge, EdgeList, EdgePlace, ExactDecoded,
+    ExactRoom, Likelihoods, List, Located, Patterns, Refusal, Refused, Room, SoftDecoded, Square, UNITS,
 };
 
 /// Two tables in which no two windows are alike, from a small generator, the horizontal one of a length.
@@ -50,6 +50,8 @@ fn found_and_refused() {
     // each confidence is one half
     assert_eq!((exact.weight, exact.total), (100 * UNITS, 100 * UNITS));
     assert_eq!(exact.runner_up_weight, u64::from(exact.runner_up_hits) * UNITS / 2);
+    let found: Located = locate(&list, &[0, 1, 2, 3], patterns, 0.25).expect("locate finds it");
+    assert_eq!((found.square, found.hits, found.runner_up_hits), (square, 200, hard.runner_up_hits));
     let soft: SoftDecoded =
         decode_soft(&list, &list, &likelihoods, &[0, 1, 2, 3], patterns, 0.25, 0.02, &mut room).expect("soft decode finds it");
     assert_eq!((soft.square, soft.best_score), (square, -50.0));

@@ -71,6 +71,19 @@ AT(samburext_soft_answer, runner_up_row, 18);
 AT(samburext_soft_answer, runner_up_col, 19);
 AT(samburext_soft_answer, runner_up_hits, 20);
 
+_Static_assert(sizeof(samburext_located) == 44, "samburext_located");
+AT(samburext_located, refusal, 0);
+AT(samburext_located, list, 1);
+AT(samburext_located, position, 2);
+AT(samburext_located, transform, 3);
+AT(samburext_located, row, 4);
+AT(samburext_located, col, 5);
+AT(samburext_located, hits, 6);
+AT(samburext_located, runner_up_transform, 7);
+AT(samburext_located, runner_up_row, 8);
+AT(samburext_located, runner_up_col, 9);
+AT(samburext_located, runner_up_hits, 10);
+
 _Static_assert(sizeof(samburext_stats) == 28, "samburext_stats");
 AT(samburext_stats, refusal, 0);
 AT(samburext_stats, list, 1);
@@ -129,6 +142,8 @@ samburext_soft_answer (*const soft)(const int32_t *, size_t, const int32_t *, si
                                     const float *, size_t, const float *, size_t, const float *, size_t, const uint8_t *, size_t, const uint8_t *, size_t,
                                     const uint8_t *, size_t, float, float, uint32_t *, size_t, float *, size_t, int64_t *,
                                     size_t) = samburext_decode_soft;
+samburext_located (*const locate)(const int32_t *, size_t, const int32_t *, size_t, const uint8_t *, size_t, const uint8_t *, size_t, const float *,
+                                  size_t, const uint8_t *, size_t, const uint8_t *, size_t, const uint8_t *, size_t, float) = samburext_locate;
 samburext_stats (*const stats)(const int32_t *, size_t, const int32_t *, size_t, const uint8_t *, size_t, const uint8_t *, size_t, const float *, size_t,
                                uint32_t, uint32_t, uint32_t, const uint8_t *, size_t, const uint8_t *, size_t) = samburext_match_stats;
 
@@ -147,7 +162,7 @@ typedef struct list {
 static size_t length = SAMBUREXT_TABLE_LENGTH;
 static int32_t seen_row = ROW;
 
-/* One call: each of the four functions takes from it what it needs. */
+/* One call: each of the five functions takes from it what it needs. */
 static struct call {
     list logical, physical;
     float matches[SAMBUREXT_MAX_EDGES + 1], mismatches[SAMBUREXT_MAX_EDGES + 1];
@@ -196,7 +211,7 @@ static void fill_list(list *to, int32_t at_row)
     to->edges = n;
 }
 
-/* A call that all four functions take: a clean logical list but for two wrong bits, and a physical list that is four edges shorter. A vertical
+/* A call that all five functions take: a clean logical list but for two wrong bits, and a physical list that is four edges shorter. A vertical
  * edge says less by its likelihoods than a horizontal one, so that the second by likelihood is another square than the runner-up by hits. */
 static void fill_call(void)
 {
@@ -251,6 +266,18 @@ static samburext_soft_answer run_soft(void)
     return soft(LIST(call.logical), LIST(call.physical), call.matches, call.likelihoods, call.mismatches, call.likelihoods, call.transforms,
                 call.transforms_length, TABLES, call.error_limit, call.soft_margin, counts, call.counts_length, weights, call.weights_length,
                 sums, call.sums_length);
+}
+
+static samburext_located run_locate(const list *of)
+{
+    return locate(LIST(*of), call.transforms, call.transforms_length, TABLES, call.error_limit);
+}
+
+/* Hard decode of one list with itself, in room for every board. */
+static samburext_answer run_hard_twice(const list *of)
+{
+    return hard(LIST(*of), LIST(*of), call.transforms, call.transforms_length, TABLES, call.error_limit, counts, sizeof counts / sizeof *counts,
+                weights, sizeof weights / sizeof *weights);
 }
 
 static samburext_stats run_stats(const list *of, uint32_t transform, uint32_t row, uint32_t column)
@@ -326,6 +353,8 @@ static int is_float(size_t size, size_t i)
         return i > 4;
     if (size == sizeof(samburext_exact_answer))
         return i == 8;
+    if (size == sizeof(samburext_located))
+        return 0;
     return (i > 7 && i < 12) || (size == sizeof(samburext_soft_answer) && (i == 15 || i == 16));
 }
 
@@ -346,8 +375,24 @@ static uint32_t at_list = SAMBUREXT_NOTHING, at_position = SAMBUREXT_NOTHING;
 
 static void at(uint32_t list, uint32_t position) { at_list = list, at_position = position; }
 
+/* Locate says of a list what hard decode says of it with itself, in any room: the same refusal, about the same edge of the only list, or the same square
+ * with the same hits, and a runner-up with as many hits. */
+static void as_with_tables(const list *of, const char *what)
+{
+    samburext_located l = run_locate(of);
+    samburext_answer h = run_hard_twice(of);
+    uint32_t one = h.list == SAMBUREXT_NOTHING ? SAMBUREXT_NOTHING : (uint32_t)SAMBUREXT_ONLY_LIST;
+    if (h.refusal != SAMBUREXT_FOUND) {
+        hold(only(&l, sizeof l, h.refusal, one, h.position), what);
+        return;
+    }
+    hold(l.refusal == SAMBUREXT_FOUND && l.list == SAMBUREXT_NOTHING && l.position == SAMBUREXT_NOTHING, what);
+    hold(l.transform == h.transform && l.row == h.row && l.col == h.col && l.hits == h.hits && l.runner_up_hits == h.runner_up_hits, what);
+    hold(run_stats(of, l.runner_up_transform, l.runner_up_row, l.runner_up_col).hits == l.runner_up_hits, what);
+}
+
 /* What the call as it stands must be: 0 or a refusal's number, by hard decode, by exact decode, by soft decode and by match statistics of the physical
- * list; OTHER where this does not matter. The call is made good again. */
+ * list; OTHER where this does not matter. Locate is held to hard decode of either list. The call is made good again. */
 enum { OTHER = 99 };
 
 static void expect_each(uint32_t by_hard, uint32_t by_exact, uint32_t by_soft, uint32_t by_stats, const char *what)
@@ -361,6 +406,8 @@ static void expect_each(uint32_t by_hard, uint32_t by_exact, uint32_t by_soft, u
     hold(by_exact == OTHER || (by_exact == SAMBUREXT_FOUND ? e.refusal == 0 : only(&e, sizeof e, by_exact, at_list, at_position)), what);
     hold(by_soft == OTHER || (by_soft == SAMBUREXT_FOUND ? s.refusal == 0 : only(&s, sizeof s, by_soft, at_list, at_position)), what);
     hold(by_stats == OTHER || (by_stats == SAMBUREXT_FOUND ? m.refusal == 0 : only(&m, sizeof m, by_stats, one, at_position)), what);
+    as_with_tables(&call.logical, what);
+    as_with_tables(&call.physical, what);
     at(SAMBUREXT_NOTHING, SAMBUREXT_NOTHING);
     fill_call();
 }
@@ -432,6 +479,8 @@ static void pole(size_t pole_length)
     hold(s.refusal == 0 && s.transform == 0 && s.row == call.row && s.col == COLUMN && s.hits == FEWER, "a pole, soft");
     samburext_exact_answer e = run_exact();
     hold(e.refusal == 0 && e.transform == 0 && e.row == call.row && e.col == COLUMN && e.hits == EDGES - MISSES, "a pole, exact");
+    samburext_located l = run_locate(&call.logical);
+    hold(l.refusal == 0 && l.transform == 0 && l.row == call.row && l.col == COLUMN && l.hits == EDGES - MISSES, "a pole, locate");
     hold(run_stats(&call.logical, 0, call.row, COLUMN).hits == EDGES - MISSES, "a pole, statistics");
     all(SAMBUREXT_FOUND, "a pole");
     call.counts_length--, both(SAMBUREXT_ROOM_TOO_SHORT, "SAMBUREXT_ROOM_COUNTS_FOR");
@@ -475,6 +524,11 @@ int main(void)
     hold(w[16] == w[6] - w[15], "hard, margin in hits");
     samburext_exact_answer e = run_exact();
     found_exact(&e, "exact, found");
+    samburext_located l = run_locate(&call.logical);
+    memcpy(w, &l, sizeof l);
+    hold(w[0] == SAMBUREXT_FOUND && w[1] == SAMBUREXT_NOTHING && w[2] == SAMBUREXT_NOTHING, "locate, found");
+    hold(w[3] == 0 && w[4] == ROW && w[5] == COLUMN && w[6] == EDGES - MISSES, "locate, square and hits");
+    runner_up(w + 7, "locate, runner-up");
     samburext_soft_answer s = run_soft();
     memcpy(w, &s, sizeof s);
     found(w, &call.physical, -0.125f, -0.125f * FEWER, "soft, found");

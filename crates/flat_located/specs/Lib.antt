@@ -1,0 +1,2 @@
+pub mod FlatLocated
+pub mod FlatLocatedLaws

@@ -40,6 +40,12 @@ module _ (r c : Offer) where
 abbrev pub stepped : (ℕ → Bool) → (ℕ → ℕ) → PartKept → ℕ → PartKept
 stepped inside value S m = cond (inside m) (offered S (record { value = value m; number = m })) S
 
+-- the same values
+pub walk-values : (inside : ℕ → Bool) (f g : ℕ → ℕ) (S : PartKept) (a n : ℕ) → ((k : ℕ) → k < n → f (a + k) ≡ g (a + k)) → walked inside f S a n ≡ walked inside g S a n
+unfolding walked
+walk-values inside f g S a zero h = refl
+walk-values inside f g S a (suc n) h = rw (h n (omega arith), walk-values inside f g S a n (λ k l. h k (omega arith)))
+
 module _ (value : ℕ → ℕ) where
   pub walk-none : (inside : ℕ → Bool) (S : PartKept) (a : ℕ) → walked inside value S a 0 ≡ S
   unfolding walked

@@ -32,6 +32,15 @@ pub first-of : (listed row : ℕ) → firstNumber listed row ≡ firstNumber lis
 unfolding firstNumber
 first-of listed row = omega arith
 
+-- the list position of a number, and the first number of a list position
+pub position-at : (listed k : ℕ) → k < 251001 → (firstNumber listed 0 + k) / 251001 ≡ listed
+unfolding firstNumber
+position-at listed k l = omega arith
+
+pub first-listed : (listed : ℕ) → firstNumber listed 0 ≡ 0 + listed * 251001
+unfolding firstNumber
+first-listed listed = omega arith
+
 -- the row and the column of a number
 pub number-at : (listed row col : ℕ) → row < 501 → col < 501 → (rowAt (firstNumber listed row + col) ≡ row) × (colAt (firstNumber listed row + col) ≡ col)
 unfolding firstNumber

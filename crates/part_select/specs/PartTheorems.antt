@@ -15,7 +15,9 @@ use Rattle.board.specs.declared.edge.Placing.{Placing}
 use Rattle.board.specs.Hits.{EdgeList, Board, size, hit, hits, hitsAt}
 use Rattle.board.specs.Sides.{periodOf}
 use Rattle.board.specs.Domain.{ListOk, BoardOk}
+use Rattle.board.specs.HitsLaws.{hits-le}
 use Rattle.scan.specs.Scan.{overLimit}
+use Rattle.hard.specs.RateLaws.{fewer-over}
 use Rattle.unit_terms.specs.Values.{oneHit}
 use Rattle.units.specs.Units.{unitAt}
 use Rattle.values.specs.Values.{hitsOf, weightOf}
@@ -271,3 +273,37 @@ module _ (B : Board) (E : EdgeList) (ts : List ℕ) (board : BoardOk B) (list : 
         go : (b : Bool) → cond b (Refused (numbered why.noConfidence)) (partFinished (size E) limit (partScan B E ts part)) ≡ Selected w n → PartSelected limit w n
         go true d = let z : _≡_ {A = ℕ} 0 1 = cc in absurd (omega arith)
         go false d = from-kept (partScan B E ts part) (walk-leads inside val all) w n d
+
+    -- ---- 10 and 11
+    -- a part in range has a placing wherever a transform is listed: its start, at the first list position
+    abbrev start : Placing
+    start = record { listed = 0; row = part .row; col = part .col }
+
+    start-on : 0 < length ts → OnPart ts part start
+    start-on some = (some, ((0, ok .down .some, first-of (part .row) (ok .down .begins)), (0, ok .across .some, first-of (part .col) (ok .across .begins))))
+      where
+        first-of : (x : ℕ) → x ≤ 500 → x ≡ (x + 0) % 501
+        first-of x l = omega arith
+
+    -- where the winner is over the limit, all are
+    over-all : (c : Offer) → Wins inside val all c → (next : PartNext) → finishedWith (size E) limit c next ≡ Refused (numbered why.noneWithinLimit) → (Q : Placing) → OnPart ts part Q → overLimit (size E) limit (hitsAt B E ts Q) ≡ true
+    unfolding finishedWith
+    over-all c W next e Q o =
+        fewer-over (size E) limit (hitsAt B E ts Q) (hitsAt B E ts (placingOf (c .number))) (list .few) (wins-part c W .most-hits Q o) (hits-le B E (getD ts (placingOf (c .number) .listed) 0) (placingOf (c .number) .row) (placingOf (c .number) .col))
+        (ap (overLimit (size E) limit) (sym (hits-are c W)) ∙ go (overLimit (size E) limit (hitsOf (c .value))) refl e)
+      where
+        go : (b : Bool) → overLimit (size E) limit (hitsOf (c .value)) ≡ b → cond b (Refused (numbered why.noneWithinLimit)) (Selected (winnerOf c) next) ≡ Refused (numbered why.noneWithinLimit) → overLimit (size E) limit (hitsOf (c .value)) ≡ true
+        go true f d = f
+        go false f d = let z : _≡_ {A = ℕ} 0 1 = cc in absurd (omega arith)
+
+    -- so somebody is kept
+    kept-over : 0 < length ts → (K : PartKept) → Leads inside val all K → partFinished (size E) limit K ≡ Refused (numbered why.noneWithinLimit) → (Q : Placing) → OnPart ts part Q → overLimit (size E) limit (hitsAt B E ts Q) ≡ true
+    unfolding finishedWith
+    kept-over some Nobody L e Q o = absurd (L (numberOf start) (number-below start (start-on some)) (number-inside start (start-on some)))
+    kept-over some (One c) L e Q o = over-all c (L .0) NoneShown e Q o
+    kept-over some (Two c r) L e Q o = over-all c (L .0) (Shown (winnerOf r)) e Q o
+
+    -- 11 ONLY WHERE NO PLACING OF THE PART IS WITHIN THE LIMIT
+    pub part-11 : 0 < length ts → noUnits E ≡ false → partSelection B E ts part limit ≡ Refused (numbered why.noneWithinLimit) → (Q : Placing) → OnPart ts part Q → overLimit (size E) limit (hitsAt B E ts Q) ≡ true
+    unfolding partSelection partScan partScanOf
+    part-11 some u e = kept-over some (partScan B E ts part) (walk-leads inside val all) (rw u at e)

@@ -1,0 +1,4 @@
+pub mod Select
+pub mod SelectLaws
+pub mod PartWinner
+pub mod PartTheorems

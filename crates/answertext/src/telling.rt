@@ -175,15 +175,24 @@ fn put_exact_found(page: &mut [u8; 32768], at: usize, d: ExactDecoded) -> usize 
     let n = put_square(page, at, shown);
     let n = put(page, n, b"\n  weight       ");
     let n = put_weight(page, n, d.weight, d.total);
-    let n = put_lead(page, n, lead_of(d));
+    let n = put_lead(page, n, lead_of(shown));
     let n = put_runner_up(page, n, shown);
     let n = put(page, n, b", weight ");
     put_weight(page, n, d.runner_up_weight, d.total)
 }
 
-// The hits that the square of an exact answer has more than the runner-up, which never has more.
-fn lead_of(d: ExactDecoded) -> u32 {
-    std::num::wrapping_sub_u32(d.hits, d.runner_up_hits)
+// The hits that the square of a found answer has more than the runner-up, which never has more.
+fn lead_of(shown: Shown) -> u32 {
+    std::num::wrapping_sub_u32(shown.hits, shown.runner_up_hits)
+}
+
+// What is located without tables, for people: there is no score.
+fn put_located(page: &mut [u8; 32768], at: usize, shown: Shown) -> usize {
+    let n = put_square(page, at, shown);
+    let n = put_byte(page, n, b'\n');
+    let n = put_lead(page, n, lead_of(shown));
+    let n = put_runner_up(page, n, shown);
+    put_byte(page, n, b'\n')
 }
 
 // The two best by log likelihood, for people: the lead is for each edge, and the second may be another square than the runner-up.
@@ -271,6 +280,7 @@ pub fn put_answer(page: &mut [u8; 32768], at: usize, a: Told, s: Settings, how: 
         Told::Hard(d) => put_found(page, at, d),
         Told::Soft(d) => put_soft_found(page, at, d),
         Told::Exact(d) => put_exact_found(page, at, d),
+        Told::Located(shown) => put_located(page, at, shown),
         Told::Refused(r) => put_refused(page, at, r, how),
     };
     put_settings(
@@ -364,7 +374,7 @@ fn put_plain_soft_found(page: &mut [u8; 32768], at: usize, d: SoftDecoded) -> us
 // A found exact answer in keys and values: weights are whole numbers of 2^-24.
 fn put_plain_exact_found(page: &mut [u8; 32768], at: usize, d: ExactDecoded) -> usize {
     let shown = of_exact(d);
-    let wholes = [lead_of(d)];
+    let wholes = [lead_of(shown)];
     let floats = [share_of(d.weight, d.total)];
     let n = put_plain_square(page, at, shown);
     let n = put(page, n, b" weight=");
@@ -375,6 +385,14 @@ fn put_plain_exact_found(page: &mut [u8; 32768], at: usize, d: ExactDecoded) -> 
     let n = put_plain_runner_up(page, n, shown);
     let n = put(page, n, b" runner_weight=");
     put_number(page, n, d.runner_up_weight)
+}
+
+// What is located without tables, in keys and values.
+fn put_plain_located(page: &mut [u8; 32768], at: usize, shown: Shown) -> usize {
+    let wholes = [lead_of(shown)];
+    let n = put_plain_square(page, at, shown);
+    let n = put_wholes(page, n, b" lead_hits=%", &wholes);
+    put_plain_runner_up(page, n, shown)
 }
 
 // A refusal in keys and values; where it is about an edge, its list, and its position from 0.
@@ -406,6 +424,7 @@ pub fn put_plain(page: &mut [u8; 32768], at: usize, a: Told, s: Settings, how: u
         Told::Hard(d) => put_plain_found(page, at, d),
         Told::Soft(d) => put_plain_soft_found(page, at, d),
         Told::Exact(d) => put_plain_exact_found(page, at, d),
+        Told::Located(shown) => put_plain_located(page, at, shown),
         Told::Refused(r) => put_plain_refused(page, at, r),
     };
     put_settings(

@@ -1,6 +1,7 @@
-// An answer of any decoder, as it is told: hard and soft decode's, or exact decode's.
+// An answer of any decoder, as it is told: hard and soft decode's, exact decode's, or that of the engine without tables.
 ghost use mathlib.Core.Path.{_≡_};
 ghost use Rattle.answertext.specs.Told.{toldOfAny, toldOfExact};
+use crate::shown::Shown;
 use answer::AnyAnswer;
 use answer::Decoded;
 use answer::SoftDecoded;
@@ -15,11 +16,14 @@ pub const SOFT: u32 = 1;
 
 pub const EXACT: u32 = 2;
 
+pub const LOCATED: u32 = 3;
+
 // The answer, found by one of the decoders or refused.
 pub enum Told {
     Hard(Decoded),
     Soft(SoftDecoded),
     Exact(ExactDecoded),
+    Located(Shown),
     Refused(Refusal),
 }
 

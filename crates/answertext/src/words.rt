@@ -3,25 +3,25 @@ use crate::told::EXACT;
 use console::form::put_form;
 use refusals::ListName;
 
-// How the view was decoded, for people and for programs: hard, and after it soft and exact.
+// How the view was decoded, for people and for programs: hard, and after it soft, exact and without tables.
 const DECODE: u32 = 45;
 
-const PLAIN_DECODE: u32 = 48;
+const PLAIN_DECODE: u32 = 49;
 
 // An entry of a matrix: 0, and after it 1 and -1.
-const ENTRY: u32 = 51;
+const ENTRY: u32 = 53;
 
 // A remark on a setting that the file gave, which is empty, and after it on one that it did not.
-const OWN: u32 = 54;
+const OWN: u32 = 56;
 
 // A name that stands right of its square, and after it left.
-pub(crate) const SIDE: u32 = 56;
+pub(crate) const SIDE: u32 = 58;
 
 // A list: the logical one, and after it the physical and the only one.
-const LIST: u32 = 58;
+const LIST: u32 = 60;
 
 // What refusal 10 means of exact decode, and after it what helps.
-const NO_UNITS: u32 = 61;
+const NO_UNITS: u32 = 63;
 
 // A form with phrases: orientations from 0 on and directions from 9 on by transform, meanings from 18 on and advice from 37 on by refusal, then the phrases above. A turn
 // is what the view shows of the board as printed; directions are where on the board one goes when one goes right, and down, in the view. A file that was read
@@ -85,9 +85,11 @@ pub(crate) fn put_told(
         hard, by hits (the view has no log likelihoods)\n\
         soft, by log likelihoods and then by hits\n\
         exact, by hits and then by weight in units of 2^-24 (--exact)\n\
+        without tables, by the hits of the logical list alone (--no-tables)\n\
         hard\n\
         soft\n\
         exact\n\
+        no-tables\n\
         0\n\
         1\n\
         -1\n\
@@ -126,12 +128,12 @@ fn has_no_units(number: u32, how: u32) -> bool {
 
 // How the view was decoded, for people.
 pub(crate) fn decode_of(how: u32) -> u32 {
-    if how < 3 { DECODE + how } else { DECODE }
+    if how < 4 { DECODE + how } else { DECODE }
 }
 
 // The same for programs.
 pub(crate) fn plain_decode_of(how: u32) -> u32 {
-    if how < 3 {
+    if how < 4 {
         PLAIN_DECODE + how
     } else {
         PLAIN_DECODE

@@ -9,6 +9,7 @@ pub struct Options {
     pub help: bool,
     pub plain: bool,
     pub exact: bool,
+    pub no_tables: bool,
     pub awaits: bool,
     pub board: usize,
     pub view: usize,
@@ -62,7 +63,7 @@ fn with_text(o: Options, i: usize, text: &[u8]) -> Options {
         text,
         0,
         text.len(),
-        b"--help\n-h\n--plain\n--map\n--exact\n",
+        b"--help\n-h\n--plain\n--map\n--exact\n--no-tables\n",
     );
     let mut out = o;
     if word < 2 {
@@ -73,6 +74,8 @@ fn with_text(o: Options, i: usize, text: &[u8]) -> Options {
         out.awaits = true;
     } else if word == 4 {
         out.exact = true;
+    } else if word == 5 {
+        out.no_tables = true;
     } else {
         out.wrong = true;
     }
@@ -99,6 +102,7 @@ pub fn all_options() -> Options {
         help: false,
         plain: false,
         exact: false,
+        no_tables: false,
         awaits: false,
         board: 0,
         view: 0,

@@ -9,7 +9,7 @@ fn put_use(page: &mut [u8; 32768], at: usize) -> usize {
     put(
         page,
         at,
-        b"use: samburext [--plain] [--exact] [--map FILE.svg] BOARD VIEW\n",
+        b"use: samburext [--plain] [--exact | --no-tables] [--map FILE.svg] BOARD VIEW\n",
     )
 }
 
@@ -58,6 +58,8 @@ pub fn show() {
         --plain    one line of key=value, for programs\n\
         --exact    decode by hits and then by confidences that add without rounding, in units of 2^-24; for views\n\
         \x20          without log likelihoods\n\
+        --no-tables decode by the hits of one list, without tables in memory: the logical list, or the only one;\n\
+        \x20          slower, and without scores; for views without log likelihoods, and not with --exact\n\
         --map FILE.svg writes a picture of the board; a refusal has none, and one of that name from an\n\
         \x20          earlier run is removed; any other file of that name is left as it is\n\
         \n\

@@ -19,15 +19,36 @@ pub fn give_up(o: Options) {
     }
 }
 
-// What is written where exact decode was asked for and the view has log likelihoods: which of the two to leave out.
+// The option by which decode by hits was asked for.
+fn put_way(page: &mut [u8; 32768], at: usize, o: Options) -> usize {
+    if o.exact {
+        return page::put(page, at, b"--exact");
+    }
+    page::put(page, at, b"--no-tables")
+}
+
+// What is written where two ways to decode were asked for: that one is to be left out.
+pub fn give_up_both(o: Options) {
+    io::write_all(
+        libc::STDERR_FILENO,
+        b"--exact and --no-tables are two ways to decode; leave out one of them\n",
+    );
+    give_up(o);
+}
+
+// What is written where decode by hits was asked for and the view has log likelihoods: which of the two to leave out.
 pub fn give_up_soft(o: Options) {
     let mut room = page::blank();
     let n = put_argument(&mut room, 0, o.view);
     let n = page::put(
         &mut room,
         n,
-        b": this view has log likelihoods, which ask for soft decode, and --exact decodes by hits; leave out --exact or the log likelihoods\n",
+        b": this view has log likelihoods, which ask for soft decode, and ",
     );
+    let n = put_way(&mut room, n, o);
+    let n = page::put(&mut room, n, b" decodes by hits; leave out ");
+    let n = put_way(&mut room, n, o);
+    let n = page::put(&mut room, n, b" or the log likelihoods\n");
     write(libc::STDERR_FILENO, &room, n);
     give_up(o);
 }
@@ -95,6 +116,7 @@ pub fn conclude(o: Options, a: Told, view: View, how: u32, length: usize) {
         Told::Hard(d) => conclude_found(o, a, shown::of_hard(d), view, how, length),
         Told::Soft(d) => conclude_found(o, a, shown::of_soft(d), view, how, length),
         Told::Exact(d) => conclude_found(o, a, shown::of_exact(d), view, how, length),
+        Told::Located(found) => conclude_found(o, a, found, view, how, length),
         Told::Refused(_) => tell(o, a, view, how, false),
     }
 }

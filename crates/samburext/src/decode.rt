@@ -1,10 +1,14 @@
 // The decoder called on what the files gave. One list serves for both where the view has only one; where the physical list has log likelihoods, decode is soft, else
-// hard, or exact where that is asked for. The room that is lent serves the longest pole: 6,003 counts, weights and units, and 10,005 sums.
+// hard, or exact or without tables where that is asked for. Without tables the logical list alone is looked at. The room that is lent serves the longest pole: 6,003 counts, weights and units, and 10,005 sums.
+use answertext::shown::of_located;
 use answertext::told;
 use answertext::told::EXACT;
 use answertext::told::HARD;
+use answertext::told::LOCATED;
 use answertext::told::SOFT;
 use answertext::told::Told;
+use locate_answer::LocateAnswer;
+use options::args::Options;
 use slices::part::part_f32;
 use slices::part::part_i32;
 use slices::part::part_u8;
@@ -52,12 +56,20 @@ fn is_soft(view: View) -> bool {
     }
 }
 
+// How the command was asked to decode.
+pub(crate) fn asked(o: Options) -> u32 {
+    if o.no_tables {
+        return LOCATED;
+    }
+    if o.exact { EXACT } else { HARD }
+}
+
 // How a view is decoded: soft where it has log likelihoods, else as it is asked for.
-pub(crate) fn how_of(view: View, exact: bool) -> u32 {
+pub(crate) fn how_of(view: View, asked: u32) -> u32 {
     if is_soft(view) {
         return SOFT;
     }
-    if exact { EXACT } else { HARD }
+    asked
 }
 
 // What hard decode says of two parts of the columns, on a board of a pole's length.
@@ -128,6 +140,62 @@ fn exact_of(
         &mut units,
     );
     told::of_exact(answer)
+}
+
+// The share of misses among the edges of a list; 0 where no list has so many edges or hits.
+fn rate_of(edges: u32, hits: u32) -> f32 {
+    if edges < hits {
+        return 0.0;
+    }
+    if 8192 < edges {
+        return 0.0;
+    }
+    figures::rate(edges, hits)
+}
+
+// How many edges a list has, as they are told; 0 where no list has so many.
+fn counted(edges: usize) -> u32 {
+    if 8192 < edges {
+        return 0;
+    }
+    edges as u32
+}
+
+// What is located on a list of so many edges, as it is told.
+fn told_of(answer: LocateAnswer, edges: usize) -> Told {
+    let all = counted(edges);
+    match answer {
+        LocateAnswer::Found(found) => {
+            let rate = rate_of(all, found.hits);
+            Told::Located(of_located(found, all, rate))
+        }
+        LocateAnswer::Refused(refusal) => Told::Refused(refusal),
+    }
+}
+
+// What the engine without tables says of one part of the columns.
+fn located_of(
+    l: Part,
+    wholes: &[i32],
+    bytes: &[u8],
+    floats: &[f32],
+    transforms: &[u8],
+    tables: &[u8],
+    length: usize,
+    limit: f32,
+) -> Told {
+    let answer = locate::locate(
+        part_i32(wholes, l.from, l.edges),
+        part_i32(wholes, l.second, l.edges),
+        part_u8(bytes, l.from, l.edges),
+        part_u8(bytes, l.second, l.edges),
+        part_f32(floats, l.from, l.edges),
+        transforms,
+        part_u8(tables, 0, length),
+        part_u8(tables, 500, 167),
+        limit,
+    );
+    told_of(answer, l.edges)
 }
 
 // What soft decode says of two parts of the columns, on a board of a pole's length.
@@ -203,6 +271,18 @@ pub(crate) fn decode(
             length,
             settings.limit,
             settings.margin,
+        );
+    }
+    if how == LOCATED {
+        return located_of(
+            l,
+            wholes,
+            bytes,
+            floats,
+            some,
+            tables,
+            length,
+            settings.limit,
         );
     }
     if how == EXACT {

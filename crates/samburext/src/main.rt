@@ -2,10 +2,12 @@
 mod decode; // the decoder called on what the files gave
 
 use answertext::map;
+use answertext::told::HARD;
 use answertext::told::SOFT;
 use options::args::Options;
 use outcome::conclude;
 use outcome::give_up;
+use outcome::give_up_both;
 use outcome::give_up_soft;
 use viewfiles::files;
 use viewtext::view_file;
@@ -20,8 +22,9 @@ fn face(o: Options, tables: &[u8; 667], length: usize) {
         give_up(o);
         return;
     }
-    let how = decode::how_of(view, o.exact);
-    if o.exact && how == SOFT {
+    let asked = decode::asked(o);
+    let how = decode::how_of(view, asked);
+    if asked != HARD && how == SOFT {
         give_up_soft(o);
         return;
     }
@@ -55,6 +58,10 @@ fn main() {
     }
     if o.help {
         options::help::show();
+        return;
+    }
+    if o.exact && o.no_tables {
+        give_up_both(o);
         return;
     }
     run(o);

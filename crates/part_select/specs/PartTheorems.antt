@@ -28,7 +28,7 @@ use Rattle.demand.specs.Demand.{Same}
 use Rattle.part.specs.declared.Part.{Part}
 use Rattle.part.specs.declared.Runs.{Runs}
 use Rattle.part.specs.Part.{InSide, InPart, OnPart, PartOk, runsOf, inRuns}
-use Rattle.part.specs.PartLaws.{runs-in, in-runs, side-below}
+use Rattle.part.specs.PartLaws.{runs-in, in-runs, side-below, side-one}
 use Rattle.part_scan.specs.declared.kept.Offer.{Offer}
 use Rattle.part_scan.specs.declared.kept.PartKept.{PartKept}
 use Rattle.part_scan.specs.declared.kept.PartKept.the-variants.{Nobody, One, Two}
@@ -296,6 +296,11 @@ module _ (B : Board) (E : EdgeList) (ts : List ℕ) (board : BoardOk B) (list : 
         go true f d = f
         go false f d = let z : _≡_ {A = ℕ} 0 1 = cc in absurd (omega arith)
 
+    -- and a winner over the limit is refused
+    over-one : (c : Offer) (next : PartNext) → overLimit (size E) limit (hitsOf (c .value)) ≡ true → finishedWith (size E) limit c next ≡ Refused (numbered why.noneWithinLimit)
+    unfolding finishedWith
+    over-one c next t = rw t
+
     -- so somebody is kept
     kept-over : 0 < length ts → (K : PartKept) → Leads inside val all K → partFinished (size E) limit K ≡ Refused (numbered why.noneWithinLimit) → (Q : Placing) → OnPart ts part Q → overLimit (size E) limit (hitsAt B E ts Q) ≡ true
     unfolding finishedWith
@@ -307,3 +312,32 @@ module _ (B : Board) (E : EdgeList) (ts : List ℕ) (board : BoardOk B) (list : 
     pub part-11 : 0 < length ts → noUnits E ≡ false → partSelection B E ts part limit ≡ Refused (numbered why.noneWithinLimit) → (Q : Placing) → OnPart ts part Q → overLimit (size E) limit (hitsAt B E ts Q) ≡ true
     unfolding partSelection partScan partScanOf
     part-11 some u e = kept-over some (partScan B E ts part) (walk-leads inside val all) (rw u at e)
+
+    -- 11 WHEREVER NO PLACING OF THE PART IS WITHIN THE LIMIT
+    pub part-11-given : noUnits E ≡ false → ((Q : Placing) → OnPart ts part Q → overLimit (size E) limit (hitsAt B E ts Q) ≡ true) → partSelection B E ts part limit ≡ Refused (numbered why.noneWithinLimit)
+    unfolding partSelection partScan partScanOf
+    part-11-given u over = rw u (all-over (partScan B E ts part) (walk-leads inside val all))
+      where
+        one-over : (c : Offer) (next : PartNext) → Wins inside val all c → finishedWith (size E) limit c next ≡ Refused (numbered why.noneWithinLimit)
+        one-over c next W = over-one c next (ap (overLimit (size E) limit) (hits-are c W) ∙ over (placingOf (c .number)) (wins-part c W .on-part))
+
+        all-over : (K : PartKept) → Leads inside val all K → partFinished (size E) limit K ≡ Refused (numbered why.noneWithinLimit)
+        all-over Nobody L = refl
+        all-over (One c) L = one-over c NoneShown (L .0)
+        all-over (Two c r) L = one-over c (Shown (winnerOf r)) (L .0)
+
+    -- WITH ONE ORIGIN AND ONE LIST POSITION NO RUNNER-UP IS SHOWN
+    pub part-alone : length ts ≡ 1 → part .rows ≡ 1 → part .cols ≡ 1 → (w : ExactWinner) (n : PartNext) → partSelection B E ts part limit ≡ Selected w n → n ≡ NoneShown
+    part-alone one r c w n e = go n (part-winner w n e)
+      where
+        same : (P Q : Placing) → OnPart ts part P → OnPart ts part Q → Same P Q
+        same P Q p q =
+            let x = side-one (part .row) (P .row) (ok .down .begins) (subst (λ (k : ℕ). InSide (part .row) k (P .row)) r (p .1 .0)) in
+            let y = side-one (part .row) (Q .row) (ok .down .begins) (subst (λ (k : ℕ). InSide (part .row) k (Q .row)) r (q .1 .0)) in
+            let z = side-one (part .col) (P .col) (ok .across .begins) (subst (λ (k : ℕ). InSide (part .col) k (P .col)) c (p .1 .1)) in
+            let u = side-one (part .col) (Q .col) (ok .across .begins) (subst (λ (k : ℕ). InSide (part .col) k (Q .col)) c (q .1 .1)) in
+            (omega (arith, p .0, q .0, one), x ∙ sym y, z ∙ sym u)
+
+        go : (k : PartNext) → PartSelected limit w k → k ≡ NoneShown
+        go NoneShown S = refl
+        go (Shown s) S = absurd (S .shown .0 .other (same (s .placing) (w .placing) (S .shown .0 .on-part) (S .winner .on-part)))

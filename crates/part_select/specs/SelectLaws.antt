@@ -16,14 +16,15 @@ use Rattle.board.specs.HitsLaws.{hits-le}
 use Rattle.board.specs.Sides.{periodOf}
 use Rattle.board.specs.Domain.{ListOk, BoardOk}
 use Rattle.scan.specs.Scan.{overLimit}
+use Rattle.room.specs.Room.{used}
 use Rattle.unit_terms.specs.Values.{oneHit}
 use Rattle.units.specs.Units.{unitAt, valuesOf, UnitsBuilt}
 use Rattle.units.specs.UnitsTheorems.{value-reads}
 use Rattle.values.specs.Values.{hitsOf, weightOf, vAt, nAt, pairValue}
 use Rattle.exact_scan.specs.Exact.{ValueTables, ValuesOk}
 use Rattle.exact_scan.specs.declared.kept.ExactWinner.{ExactWinner}
-use Rattle.exact.specs.Select.{unitsTo, noUnits, valueTablesOf, builtAt, ExactSelectReady, ValueRoom, valuesTo}
-use Rattle.exact.specs.SelectLaws.{origin-value, weight-few, built-values, roomValues, ValueRoomReady, value-rooms-ready, value-rooms-more}
+use Rattle.exact.specs.Select.{unitsTo, noUnits, valueTablesOf, builtAt, exactSelection, ExactSelectReady, ValueRoom, valuesTo}
+use Rattle.exact.specs.SelectLaws.{origin-value, weight-few, built-values, roomValues, ValueRoomReady, value-rooms-ready, value-rooms-more, exact-beyond, exact-unique}
 use Rattle.part.specs.declared.Part.{Part}
 use Rattle.part.specs.declared.Runs.{Runs}
 use Rattle.part.specs.Part.{runsOf}
@@ -178,3 +179,13 @@ module _ (B : Board) (E : EdgeList) (ts : List ℕ) (part : Part) (limit : Float
         answer = rw n (e ∙ ap (partFinished (size E) limit) (d .answer ∙ ap₂ (λ (x y : Runs). partScanOf B E ts x y (length ts)) ed ea));
         room = rw n (d .room);
       }
+
+  -- any two results that it allows are equal, and so are the rooms, which are the exact selection's
+  pub part-unique : (a' b' : List ℕ) (r s : PartSelection) → PartDone B E ts part limit a a' r → PartDone B E ts part limit a b' s → (r ≡ s) × (a' ≡ b')
+  part-unique a' b' r s p q =
+      let x = exactSelection B E ts limit in
+      (p .answer ∙ sym (q .answer), exact-unique B E ts limit a a' b' x x (record { answer = refl; room = p .room }) (record { answer = refl; room = q .room }) .1)
+
+  -- whatever it comes to, the surplus of the room is what it was
+  pub part-beyond : ExactSelectReady B E ts a → (a' : List ℕ) (r : PartSelection) → PartDone B E ts part limit a a' r → SameBeyond 0 (used (periodOf B) 1) a a'
+  part-beyond R a' r d = exact-beyond B E ts limit a R a' (exactSelection B E ts limit) (record { answer = refl; room = d .room })

@@ -9,7 +9,7 @@ pub record HardCall : Type 0 where
   pub physical : EdgeList
   pub transforms : List ℕ
   pub board : Board
-  pub error-limit : Float
+  pub error_limit : Float
 
 -- a soft call: a hard call, with the two likelihoods of each physical edge and the soft margin besides
 pub record SoftCall : Type 0 where
@@ -29,8 +29,8 @@ pub record SoftRoom : Type 0 where
   pub sums : List ℤ
 
 -- a call from its parts, in the order of the entry points
-abbrev pub hardCall : EdgeList → EdgeList → List ℕ → Board → Float → HardCall
-hardCall logical physical ts B limit = record { logical = logical; physical = physical; transforms = ts; board = B; error-limit = limit }
+abbrev pub hard_call : EdgeList → EdgeList → List ℕ → Board → Float → HardCall
+hard_call logical physical ts B limit = record { logical = logical; physical = physical; transforms = ts; board = B; error_limit = limit }
 
-abbrev pub softCall : EdgeList → EdgeList → Likelihoods → List ℕ → Board → Float → Float → SoftCall
-softCall logical physical X ts B limit margin = record { hard = hardCall logical physical ts B limit; likelihoods = X; soft-margin = margin }
+abbrev pub soft_call : EdgeList → EdgeList → Likelihoods → List ℕ → Board → Float → Float → SoftCall
+soft_call logical physical X ts B limit margin = record { hard = hard_call logical physical ts B limit; likelihoods = X; soft-margin = margin }

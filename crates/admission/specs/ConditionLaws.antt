@@ -6,8 +6,8 @@ use Rattle.refusals.specs.declared.Refusal.{Refusal}
 use Rattle.refusals.specs.declared.Admission.{Admission}
 use Rattle.refusals.specs.declared.Admission.TheVariants.{Accepted, Refused}
 use Rattle.refusals.specs.declared.ListName.{ListName}
-use Rattle.refusals.specs.Numbers.{numbered, edgeRefusal}
-use Rattle.findings.specs.Findings.{refusedIf, refusedAt, orElse}
+use Rattle.refusals.specs.Numbers.{numbered, edge_refusal}
+use Rattle.findings.specs.Findings.{refused_if, refused_at, or_else}
 use Rattle.findings.specs.FindingsLaws.{no-refusal}
 use Rattle.admission.specs.Conditions.{Condition, AllMet, FirstFails}
 
@@ -63,10 +63,10 @@ pub record InOtherWords (rows others : List Condition) : Type 0 where
   pub met : AllMet rows → AllMet others
   pub back : AllMet others → AllMet rows
   pub fails : (n : ℕ) → FirstFails rows n → FirstFails others n
-  pub fails-back : (n : ℕ) → FirstFails others n → FirstFails rows n
+  pub fails_back : (n : ℕ) → FirstFails others n → FirstFails rows n
 
 pub word-for-word : (rows : List Condition) → InOtherWords rows rows
-word-for-word rows = record { met = λ m. m; back = λ m. m; fails = λ n f. f; fails-back = λ n f. f }
+word-for-word rows = record { met = λ m. m; back = λ m. m; fails = λ n f. f; fails_back = λ n f. f }
 
 -- one fact for another, and then the rest
 pub reworded : {n : ℕ} {fact other : Type 0} {rows others : List Condition} → (fact → other) → (other → fact) → InOtherWords rows others → InOtherWords ((n, fact) ∷ rows) ((n, other) ∷ others)
@@ -75,7 +75,7 @@ reworded to from w = record {
   met = λ m. (to m.0, w.met m.1);
   back = λ m. (from m.0, w.back m.1);
   fails = λ k f. ⊎_elim (λ g. inl ((λ h. g.0 (from h)), g.1)) (λ g. inr (to g.0, w.fails k g.1)) f;
-  fails-back = λ k f. ⊎_elim (λ g. inl ((λ h. g.0 (to h)), g.1)) (λ g. inr (from g.0, w.fails-back k g.1)) f;
+  fails_back = λ k f. ⊎_elim (λ g. inl ((λ h. g.0 (to h)), g.1)) (λ g. inr (from g.0, w.fails_back k g.1)) f;
 }
 
 -- with late conditions after them
@@ -84,7 +84,7 @@ reworded-early rows others late w = record {
   met = λ m. let p = met-parts rows late m in met-both others late (w.met p.0) p.1;
   back = λ m. let p = met-parts others late m in met-both rows late (w.back p.0) p.1;
   fails = λ n f. ⊎_elim (λ g. fails-early others late n (w.fails n g)) (λ g. fails-late others late n (w.met g.0) g.1) (fails-parts rows late n f);
-  fails-back = λ n f. ⊎_elim (λ g. fails-early rows late n (w.fails-back n g)) (λ g. fails-late rows late n (w.back g.0) g.1) (fails-parts others late n f);
+  fails_back = λ n f. ⊎_elim (λ g. fails-early rows late n (w.fails_back n g)) (λ g. fails-late rows late n (w.back g.0) g.1) (fails-parts others late n f);
 }
 
 -- ---- how a check judges one condition: it accepts exactly where the fact holds, and refuses by the number
@@ -97,15 +97,15 @@ pub record Judged (a : Admission) (n : ℕ) (fact : Type 0) : Type 0 where
 abbrev pub Tests : Bool → Type 0 → Type 0
 Tests bad fact = (bad ≡ false → fact) × (fact → bad ≡ false)
 
-pub judged-if : (bad : Bool) (n : ℕ) {fact : Type 0} → Tests bad fact → Judged (refusedIf bad n) n fact
+pub judged-if : (bad : Bool) (n : ℕ) {fact : Type 0} → Tests bad fact → Judged (refused_if bad n) n fact
 judged-if true n t = record { holds = λ e. no-refusal _ (sym e); accepted = λ h. clash refl (t.1 h); number = λ r e. let q : numbered n ≡ r = cc in sym (ap (λ (x : Refusal). x.number) q) }
 judged-if false n t = record { holds = λ e. t.0 refl; accepted = λ h. refl; number = λ r e. no-refusal r e }
 
-pub judged-at : (n : ℕ) (l : ListName) (i k : ℕ) {fact : Type 0} → Tests (ltb i k) fact → Judged (refusedAt n l i k) n fact
+pub judged-at : (n : ℕ) (l : ListName) (i k : ℕ) {fact : Type 0} → Tests (ltb i k) fact → Judged (refused_at n l i k) n fact
 judged-at n l i k {fact} t = go (ltb i k) t
   where
-    go : (bad : Bool) → Tests bad fact → Judged (cond bad (Refused (edgeRefusal n l i)) Accepted) n fact
-    go true t = record { holds = λ e. no-refusal _ (sym e); accepted = λ h. clash refl (t.1 h); number = λ r e. let q : edgeRefusal n l i ≡ r = cc in sym (ap (λ (x : Refusal). x.number) q) }
+    go : (bad : Bool) → Tests bad fact → Judged (cond bad (Refused (edge_refusal n l i)) Accepted) n fact
+    go true t = record { holds = λ e. no-refusal _ (sym e); accepted = λ h. clash refl (t.1 h); number = λ r e. let q : edge_refusal n l i ≡ r = cc in sym (ap (λ (x : Refusal). x.number) q) }
     go false t = record { holds = λ e. t.0 refl; accepted = λ h. refl; number = λ r e. no-refusal r e }
 
 -- nothing is asked
@@ -113,14 +113,14 @@ pub judged-none : (n : ℕ) → Judged Accepted n (Unit {0})
 judged-none n = record { holds = λ e. tt; accepted = λ h. refl; number = λ r e. no-refusal r e }
 
 -- two facts by one number
-pub judged-both : (a b : Admission) {n : ℕ} {A B : Type 0} → Judged a n A → Judged b n B → Judged (orElse a b) n (A × B)
-unfolding orElse
+pub judged-both : (a b : Admission) {n : ℕ} {A B : Type 0} → Judged a n A → Judged b n B → Judged (or_else a b) n (A × B)
+unfolding or_else
 judged-both Accepted b j k = record { holds = λ e. (j.holds refl, k.holds e); accepted = λ h. k.accepted h.1; number = k.number }
 judged-both (Refused x) b j k = record { holds = λ e. no-refusal x (sym e); accepted = λ h. no-refusal x (sym (j.accepted h.0)); number = j.number }
 
 -- a part in which nothing of the kind is looked for
-pub judged-alone : (a : Admission) {n : ℕ} {fact : Type 0} → Judged a n fact → Judged (orElse a Accepted) n fact
-unfolding orElse
+pub judged-alone : (a : Admission) {n : ℕ} {fact : Type 0} → Judged a n fact → Judged (or_else a Accepted) n fact
+unfolding or_else
 judged-alone Accepted j = j
 judged-alone (Refused x) j = j
 
@@ -139,8 +139,8 @@ unfolding AllMet
 judges-none = record { met = λ e. tt; accepted = λ m. refl; refused = λ r e. no-refusal r e }
 
 -- THE BRIDGE: one condition and then the rest, where what is said of the rest may rest on it
-pub judges-row : (a b : Admission) {n : ℕ} {fact : Type 0} {rows : List Condition} → Judged a n fact → (fact → Judges rows b) → Judges ((n, fact) ∷ rows) (orElse a b)
-unfolding AllMet FirstFails orElse
+pub judges-row : (a b : Admission) {n : ℕ} {fact : Type 0} {rows : List Condition} → Judged a n fact → (fact → Judges rows b) → Judges ((n, fact) ∷ rows) (or_else a b)
+unfolding AllMet FirstFails or_else
 judges-row Accepted b j k =
     let h = j.holds refl in
     record { met = λ e. (h, (k h).met e); accepted = λ m. (k h).accepted m.1; refused = λ r e. inr (h, (k h).refused r e) }

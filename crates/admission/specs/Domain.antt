@@ -4,7 +4,7 @@ use Rattle.std.specs.Prelude.{◌≡◌, cond, List, [], ◌∷◌, ℕ, ◌*◌
 use Rattle.std.specs.Float.{nan, inf, fin}
 use Rattle.std.specs.Float.Ieee.{up, down}
 use Rattle.board.specs.Hits.{EdgeList, Board, size}
-use Rattle.room.specs.Room.{tablesFor, sumsFor}
+use Rattle.room.specs.Room.{tables_for, sums_for}
 use Rattle.admission.specs.Calls.{HardCall, SoftCall, HardRoom, SoftRoom}
 use Rattle.admission.specs.Conditions.{Condition}
 
@@ -40,20 +40,20 @@ early each least transforms long board room columns likelihoods settings =
     ∷ (9, settings) ∷ []
 
 -- a hard call with its room: "9L+1,503 u32 and f32", "Error limit: f32 from 0 to 1"
-unfoldable pub hardEarly : HardCall → HardRoom → List Condition
-hardEarly call room =
+unfoldable pub hard_early : HardCall → HardRoom → List Condition
+hard_early call room =
     early (λ P. P call.logical × P call.physical) 1 call.transforms PoleLength call.board
-    (Lent tablesFor (length call.board.h) (length room.counts) × Lent tablesFor (length call.board.h) (length room.weights)) (Unit {0}) (Unit {0}) (Between 0 1 call.error-limit)
+    (Lent tables_for (length call.board.h) (length room.counts) × Lent tables_for (length call.board.h) (length room.weights)) (Unit {0}) (Unit {0}) (Between 0 1 call.error_limit)
 
 -- a soft call: "15L+2,505 i64", "Each log likelihood is a finite f32 from -65,536 to 65,536", "Soft margin: f32 from 0 to 65,536"
-unfoldable pub softEarly : SoftCall → SoftRoom → List Condition
-softEarly call room =
+unfoldable pub soft_early : SoftCall → SoftRoom → List Condition
+soft_early call room =
     early (λ P. P call.hard.logical × P call.hard.physical) 1 call.hard.transforms PoleLength call.hard.board
-    (Lent tablesFor (length call.hard.board.h) (length room.counts) × Lent tablesFor (length call.hard.board.h) (length room.weights) × Lent sumsFor (length call.hard.board.h) (length room.sums))
+    (Lent tables_for (length call.hard.board.h) (length room.counts) × Lent tables_for (length call.hard.board.h) (length room.weights) × Lent sums_for (length call.hard.board.h) (length room.sums))
     ((length call.likelihoods.matches ≡ size call.hard.physical) × (length call.likelihoods.mismatches ≡ size call.hard.physical))
     ((i : ℕ) → i < size call.hard.physical → Between 65536 65536 (get_or call.likelihoods.matches i nan) × Between 65536 65536 (get_or call.likelihoods.mismatches i nan))
-    (Between 0 1 call.hard.error-limit × Between 0 65536 call.soft-margin)
+    (Between 0 1 call.hard.error_limit × Between 0 65536 call.soft-margin)
 
 -- match statistics, which have no room and also take no edges: "one row below 3L, the bound for a given origin's row too; columns stay 501"
-unfoldable pub statsEarly : EdgeList → ℕ → ℕ → ℕ → Board → List Condition
-statsEarly list transform row col board = early (λ P. P list) 0 (transform ∷ []) PoleLength board (Unit {0}) (Unit {0}) (Unit {0}) ((row < 3 * length board.h) × (col ≤ 500))
+unfoldable pub stats_early : EdgeList → ℕ → ℕ → ℕ → Board → List Condition
+stats_early list transform row col board = early (λ P. P list) 0 (transform ∷ []) PoleLength board (Unit {0}) (Unit {0}) (Unit {0}) ((row < 3 * length board.h) × (col ≤ 500))

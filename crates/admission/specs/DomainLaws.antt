@@ -8,7 +8,7 @@ use Rattle.std.specs.Float.{nan, inf, fin}
 use Rattle.std.specs.Float.Ieee.{up, down, le, lt, eq}
 use Rattle.std.proofs.lemmas.Bool.{eqb-false, not-false}
 use Rattle.laws.specs.Tests.{or-true, or-false, and-true, compared}
-use Rattle.laws.specs.Words.{first, zeroF, oneF, Weight}
+use Rattle.laws.specs.Words.{first, zero_f, one_f, Weight}
 use Rattle.laws.specs.First.{first-least, first-none}
 use Rattle.board.specs.Hits.{EdgeList, Board, size}
 use Rattle.likelihood.specs.Likelihood.{acceptable}
@@ -18,15 +18,15 @@ use Rattle.refusals.specs.declared.Admission.{Admission}
 use Rattle.refusals.specs.declared.Admission.TheVariants.{Accepted, Refused}
 use Rattle.refusals.specs.declared.ListName.{ListName}
 use Rattle.refusals.specs.declared.ListName.TheVariants as list
-use Rattle.room.specs.Room.{tablesFor, sumsFor}
-use Rattle.checks.specs.Checks.{far, badCoordinate, badLikelihood, firstBadCoordinate, firstBadLikelihood, lengthsDiffer, sizeBad, likelihoodsDiffer, originBad}
-use Rattle.ranges.specs.Ranges.{badByte, in_range, marginTop, badConfidence, firstBadByte, firstBadConfidence, transformsBad, poleLength, patternsBad, horizontalBad, verticalBad}
-use Rattle.findings.specs.Findings.{refusedIf, refusedAt, orElse, first_of, firstFound, roomFindings, listFindings, likelihoodFindings, settingsFindings}
+use Rattle.room.specs.Room.{tables_for, sums_for}
+use Rattle.checks.specs.Checks.{far, bad_coordinate, bad_likelihood, first_bad_coordinate, first_bad_likelihood, lengths_differ, size_bad, likelihoods_differ, origin_bad}
+use Rattle.ranges.specs.Ranges.{bad_byte, in_range, margin_top, bad_confidence, first_bad_byte, first_bad_confidence, transforms_bad, pole_length, patterns_bad, horizontal_bad, vertical_bad}
+use Rattle.findings.specs.Findings.{refused_if, refused_at, or_else, first_of, first_found, room_findings, list_findings, likelihood_findings, settings_findings}
 use Rattle.admission.specs.Calls.{HardCall, SoftCall, HardRoom, SoftRoom}
-use Rattle.admission.specs.Refusals.{askedLength, tablesBad, roomShort, softRoomShort, hardAdmission, softAdmission, statsAdmission, hardChecked, softChecked}
+use Rattle.admission.specs.Refusals.{asked_length, tables_bad, room_short, soft_room_short, hard_admission, soft_admission, stats_admission, hard_checked, soft_checked}
 use Rattle.admission.specs.Conditions.{AllMet, FirstFails}
 use Rattle.admission.specs.ConditionLaws.{Tests, Judged, judged-if, judged-at, judged-none, judged-both, judged-alone, judged-same, Judges, judges-none, judges-row}
-use Rattle.admission.specs.Domain.{AtMost, Between, PoleLength, Lent, early, hardEarly, softEarly, statsEarly}
+use Rattle.admission.specs.Domain.{AtMost, Between, PoleLength, Lent, early, hard_early, soft_early, stats_early}
 
 -- ---- tests and facts
 -- two tests, of which neither is to hold
@@ -80,7 +80,7 @@ none_left : (m u : ℕ) → 0 < u → m * u ≡ 0 → m ≡ 0
 none_left zero u h k = refl
 none_left (suc m) u h k = let p = mul-pos (zero-lt-suc m) h in absurd (omega arith)
 
-between-value : (k : ℕ) (x : Float) → Compared zeroF (fin false 1 (pos k)) x → Weight x (2 ^ k)
+between-value : (k : ℕ) (x : Float) → Compared zero_f (fin false 1 (pos k)) x → Weight x (2 ^ k)
 unfolding le lt eq
 between-value k nan h = absurd (true≢false (sym h.0))
 between-value k (inf true) h = absurd (true≢false (sym h.0))
@@ -91,7 +91,7 @@ between-value k (fin true m e) h =
     none_left m (up e) (up_pos e) (sym z)
 between-value k (fin false m e) h = rw (mul-one, one-mul) at (le_of (m * up e * 1) (1 * 2 ^ k * down e) true h.1)
 
-value-between : (k : ℕ) (x : Float) → Weight x (2 ^ k) → Compared zeroF (fin false 1 (pos k)) x
+value-between : (k : ℕ) (x : Float) → Weight x (2 ^ k) → Compared zero_f (fin false 1 (pos k)) x
 unfolding le lt eq
 value-between k (fin true m e) h =
     let z : 0 * down e ≡ m * up e * 1 = rw (h, zero-mul, zero-mul, zero-mul) in
@@ -126,7 +126,7 @@ between-tested : (k : ℕ) (x : Float) → Tests (not (in_range (fin false 1 (po
 unfolding in_range
 between-tested k x =
     let top = fin false 1 (pos k) in
-    let t : Tests (not (le zeroF x && le x top)) (Compared zeroF top x) = and-tested (le zeroF x) (le x top) (so-tested (le zeroF x)) (so-tested (le x top)) in
+    let t : Tests (not (le zero_f x && le x top)) (Compared zero_f top x) = and-tested (le zero_f x) (le x top) (so-tested (le zero_f x)) (so-tested (le x top)) in
     ((λ e. weight-between (2 ^ k) x (between-value k x (t.0 e))), λ h. t.1 (value-between k x (between-weight (2 ^ k) x h)))
 
 likely-tested : (x : Float) → Tests (not (acceptable x)) (Between 65536 65536 x)
@@ -144,13 +144,13 @@ far-tested (negsuc n) = (
     none : (p : Bool) → p ≡ false → (p || false) ≡ false
     none p a = rw a
 
-bytes-tested : (most : ℕ) (xs : List ℕ) → Tests (ltb (firstBadByte most xs) (length xs)) (AtMost most xs)
-unfolding firstBadByte
-bytes-tested most xs = first-tested (badByte most xs) (length xs) (λ i. get_or xs i 0 ≤ most) (λ i. at-most-tested most (get_or xs i 0))
+bytes-tested : (most : ℕ) (xs : List ℕ) → Tests (ltb (first_bad_byte most xs) (length xs)) (AtMost most xs)
+unfolding first_bad_byte
+bytes-tested most xs = first-tested (bad_byte most xs) (length xs) (λ i. get_or xs i 0 ≤ most) (λ i. at-most-tested most (get_or xs i 0))
 
 module _ (E : EdgeList) where
-  lengths-tested : Tests (lengthsDiffer E) ((length E.cols ≡ size E) × (length E.orientations ≡ size E) × (length E.bits ≡ size E) × (length E.confidences ≡ size E))
-  unfolding lengthsDiffer
+  lengths-tested : Tests (lengths_differ E) ((length E.cols ≡ size E) × (length E.orientations ≡ size E) × (length E.bits ≡ size E) × (length E.confidences ≡ size E))
+  unfolding lengths_differ
   lengths-tested =
       let n = size E in
       let t = and-tested (eqb n (length E.cols)) _ (same-tested n (length E.cols)) (and-tested (eqb n (length E.orientations)) _ (same-tested n (length E.orientations))
@@ -159,29 +159,29 @@ module _ (E : EdgeList) where
         λ h. t.1 (h.0, (h.1, (h.2, h.3))),
       )
 
-  sizes-tested : (least : ℕ) → Tests (sizeBad least (size E)) ((least ≤ size E) × (size E ≤ 8192))
-  unfolding sizeBad
+  sizes-tested : (least : ℕ) → Tests (size_bad least (size E)) ((least ≤ size E) × (size E ≤ 8192))
+  unfolding size_bad
   sizes-tested least = or-tested (at-least-tested least (size E)) (at-most-tested 8192 (size E))
 
-  coordinates-tested : Tests (ltb (firstBadCoordinate E.rows E.cols) (size E)) ((i : ℕ) → i < size E → (nat_abs (get_or E.rows i (pos 0)) ≤ 1000000) × (nat_abs (get_or E.cols i (pos 0)) ≤ 1000000))
-  unfolding firstBadCoordinate
-  coordinates-tested = first-tested (badCoordinate E.rows E.cols) (size E) _ (λ i. or-tested (far-tested (get_or E.rows i (pos 0))) (far-tested (get_or E.cols i (pos 0))))
+  coordinates-tested : Tests (ltb (first_bad_coordinate E.rows E.cols) (size E)) ((i : ℕ) → i < size E → (nat_abs (get_or E.rows i (pos 0)) ≤ 1000000) × (nat_abs (get_or E.cols i (pos 0)) ≤ 1000000))
+  unfolding first_bad_coordinate
+  coordinates-tested = first-tested (bad_coordinate E.rows E.cols) (size E) _ (λ i. or-tested (far-tested (get_or E.rows i (pos 0))) (far-tested (get_or E.cols i (pos 0))))
 
-  confidences-tested : Tests (ltb (firstBadConfidence E.confidences) (length E.confidences)) ((i : ℕ) → i < length E.confidences → Between 0 1 (get_or E.confidences i nan))
-  unfolding firstBadConfidence
-  confidences-tested = first-tested (badConfidence E.confidences) (length E.confidences) _ (λ i. between-tested 0 (get_or E.confidences i nan))
+  confidences-tested : Tests (ltb (first_bad_confidence E.confidences) (length E.confidences)) ((i : ℕ) → i < length E.confidences → Between 0 1 (get_or E.confidences i nan))
+  unfolding first_bad_confidence
+  confidences-tested = first-tested (bad_confidence E.confidences) (length E.confidences) _ (λ i. between-tested 0 (get_or E.confidences i nan))
 
 -- ---- transforms, tables
-transforms-tested : (ts : List ℕ) → Tests (transformsBad ts) ((1 ≤ length ts) × (length ts ≤ 8) × AtMost 7 ts)
-unfolding transformsBad
+transforms-tested : (ts : List ℕ) → Tests (transforms_bad ts) ((1 ≤ length ts) × (length ts ≤ 8) × AtMost 7 ts)
+unfolding transforms_bad
 transforms-tested ts =
     let some : Tests (eqb (length ts) 0) (1 ≤ length ts) = ((λ e. let z : length ts ≡ 0 → ⊥ = eqb-false _ _ e in omega arith), λ h. ne_eqb (length ts) 0 (λ e. omega (arith, h, e))) in
     let t = or-tested some (or-tested (at-most-tested 8 (length ts)) (bytes-tested 7 ts)) in
     ((λ e. let h = t.0 e in (h.0, h.1.0, h.1.1)), λ h. t.1 (h.0, (h.1, h.2)))
 
 -- a length that a horizontal table may have
-pole-tested : (L : ℕ) → Tests (not (poleLength L)) (PoleLength L)
-unfolding poleLength
+pole-tested : (L : ℕ) → Tests (not (pole_length L)) (PoleLength L)
+unfolding pole_length
 pole-tested L =
     let size = or-tested (at-least-tested 4 L) (at-most-tested 500 L) in
     let sizes : Tests (not (not (ltb L 4 || ltb 500 L))) ((4 ≤ L) × (L ≤ 500)) = ((λ e. size.0 (not-not _ ∙ e)), λ h. sym (not-not _) ∙ size.1 h) in
@@ -194,71 +194,71 @@ pole-tested L =
     not-not false = refl
 
 -- a table of a length that it may have
-table-tested : (may-be : Bool) (ps : List ℕ) {fact : Type 0} → Tests (not may-be) fact → Tests (patternsBad may-be ps) (fact × AtMost 7 ps)
-unfolding patternsBad
+table-tested : (may-be : Bool) (ps : List ℕ) {fact : Type 0} → Tests (not may-be) fact → Tests (patterns_bad may-be ps) (fact × AtMost 7 ps)
+unfolding patterns_bad
 table-tested may-be ps t = or-tested t (bytes-tested 7 ps)
 
-tables-tested : (B : Board) → Tests (tablesBad B) (PoleLength (length B.h) × AtMost 7 B.h × (length B.v ≡ 167) × AtMost 7 B.v)
-unfolding horizontalBad verticalBad
+tables-tested : (B : Board) → Tests (tables_bad B) (PoleLength (length B.h) × AtMost 7 B.h × (length B.v ≡ 167) × AtMost 7 B.v)
+unfolding horizontal_bad vertical_bad
 tables-tested B =
     let same : Tests (not (eqb (length B.v) 167)) (length B.v ≡ 167) = ((λ e. eqb-true _ _ (not-false _ e)), λ h. ap not (eq-eqb _ _ h)) in
     let t = or-tested (table-tested _ B.h (pole-tested (length B.h))) (table-tested _ B.v same) in
     ((λ e. let h = t.0 e in (h.0.0, h.0.1, h.1.0, h.1.1)), λ h. t.1 ((h.0, h.1), (h.2, h.3)))
 
 -- room that is lent, where more is asked for with a greater length
-lent-tested : (asked : ℕ → ℕ) → ((L : ℕ) → 4 ≤ L → asked 4 ≤ asked L) → (L n : ℕ) → Tests (ltb n (asked (askedLength L))) (Lent asked L n)
-unfolding askedLength
-lent-tested asked more L n = go (poleLength L) (pole-tested L)
+lent-tested : (asked : ℕ → ℕ) → ((L : ℕ) → 4 ≤ L → asked 4 ≤ asked L) → (L n : ℕ) → Tests (ltb n (asked (asked_length L))) (Lent asked L n)
+unfolding asked_length
+lent-tested asked more L n = go (pole_length L) (pole-tested L)
   where
     go : (good : Bool) → Tests (not good) (PoleLength L) → Tests (ltb n (asked (cond good L 4))) (Lent asked L n)
     go true t = let g = t.0 refl in ((λ e. let l = ltb-false _ _ e in (le_trans (more L g.0) l, λ h. l)), λ h. le-ltb _ _ (h.1 g))
     go false t = ((λ e. (ltb-false _ _ e, λ h. absurd (true≢false (t.1 h)))), λ h. le-ltb _ _ h.0)
 
-tables-lent : (L n : ℕ) → Tests (ltb n (tablesFor (askedLength L))) (Lent tablesFor L n)
-tables-lent = lent-tested tablesFor (λ L h. omega arith)
+tables-lent : (L n : ℕ) → Tests (ltb n (tables_for (asked_length L))) (Lent tables_for L n)
+tables-lent = lent-tested tables_for (λ L h. omega arith)
 
-sums-lent : (L n : ℕ) → Tests (ltb n (sumsFor (askedLength L))) (Lent sumsFor L n)
-sums-lent = lent-tested sumsFor (λ L h. omega arith)
+sums-lent : (L n : ℕ) → Tests (ltb n (sums_for (asked_length L))) (Lent sums_for L n)
+sums-lent = lent-tested sums_for (λ L h. omega arith)
 
 -- ---- what is found of each kind judges its condition: in one list
-lengths-judged : (l : ListName) (E : EdgeList) → Judged (refusedIf (lengthsDiffer E) 2) 2 ((length E.cols ≡ size E) × (length E.orientations ≡ size E) × (length E.bits ≡ size E) × (length E.confidences ≡ size E))
-lengths-judged l E = judged-if (lengthsDiffer E) 2 (lengths-tested E)
+lengths-judged : (l : ListName) (E : EdgeList) → Judged (refused_if (lengths_differ E) 2) 2 ((length E.cols ≡ size E) × (length E.orientations ≡ size E) × (length E.bits ≡ size E) × (length E.confidences ≡ size E))
+lengths-judged l E = judged-if (lengths_differ E) 2 (lengths-tested E)
 
-sizes-judged : (least : ℕ) (l : ListName) (E : EdgeList) → Judged (refusedIf (sizeBad least (size E)) 3) 3 ((least ≤ size E) × (size E ≤ 8192))
-sizes-judged least l E = judged-if (sizeBad least (size E)) 3 (sizes-tested E least)
+sizes-judged : (least : ℕ) (l : ListName) (E : EdgeList) → Judged (refused_if (size_bad least (size E)) 3) 3 ((least ≤ size E) × (size E ≤ 8192))
+sizes-judged least l E = judged-if (size_bad least (size E)) 3 (sizes-tested E least)
 
 coordinates-judged : (l : ListName) (E : EdgeList)
-    → Judged (refusedAt 4 l (firstBadCoordinate E.rows E.cols) (size E)) 4 ((i : ℕ) → i < size E → (nat_abs (get_or E.rows i (pos 0)) ≤ 1000000) × (nat_abs (get_or E.cols i (pos 0)) ≤ 1000000))
-coordinates-judged l E = judged-at 4 l (firstBadCoordinate E.rows E.cols) (size E) (coordinates-tested E)
+    → Judged (refused_at 4 l (first_bad_coordinate E.rows E.cols) (size E)) 4 ((i : ℕ) → i < size E → (nat_abs (get_or E.rows i (pos 0)) ≤ 1000000) × (nat_abs (get_or E.cols i (pos 0)) ≤ 1000000))
+coordinates-judged l E = judged-at 4 l (first_bad_coordinate E.rows E.cols) (size E) (coordinates-tested E)
 
-orientations-judged : (l : ListName) (E : EdgeList) → Judged (refusedAt 16 l (firstBadByte 1 E.orientations) (length E.orientations)) 16 (AtMost 1 E.orientations)
-orientations-judged l E = judged-at 16 l (firstBadByte 1 E.orientations) (length E.orientations) (bytes-tested 1 E.orientations)
+orientations-judged : (l : ListName) (E : EdgeList) → Judged (refused_at 16 l (first_bad_byte 1 E.orientations) (length E.orientations)) 16 (AtMost 1 E.orientations)
+orientations-judged l E = judged-at 16 l (first_bad_byte 1 E.orientations) (length E.orientations) (bytes-tested 1 E.orientations)
 
-bits-judged : (l : ListName) (E : EdgeList) → Judged (refusedAt 17 l (firstBadByte 1 E.bits) (length E.bits)) 17 (AtMost 1 E.bits)
-bits-judged l E = judged-at 17 l (firstBadByte 1 E.bits) (length E.bits) (bytes-tested 1 E.bits)
+bits-judged : (l : ListName) (E : EdgeList) → Judged (refused_at 17 l (first_bad_byte 1 E.bits) (length E.bits)) 17 (AtMost 1 E.bits)
+bits-judged l E = judged-at 17 l (first_bad_byte 1 E.bits) (length E.bits) (bytes-tested 1 E.bits)
 
 confidences-judged : (l : ListName) (E : EdgeList)
-    → Judged (refusedAt 5 l (firstBadConfidence E.confidences) (length E.confidences)) 5 ((i : ℕ) → i < length E.confidences → Between 0 1 (get_or E.confidences i nan))
-confidences-judged l E = judged-at 5 l (firstBadConfidence E.confidences) (length E.confidences) (confidences-tested E)
+    → Judged (refused_at 5 l (first_bad_confidence E.confidences) (length E.confidences)) 5 ((i : ℕ) → i < length E.confidences → Between 0 1 (get_or E.confidences i nan))
+confidences-judged l E = judged-at 5 l (first_bad_confidence E.confidences) (length E.confidences) (confidences-tested E)
 
 -- in both lists of a call
 both-judged : (call : HardCall) {found : ListName → EdgeList → Admission} {n : ℕ} {Fact : EdgeList → Type 0} → ((l : ListName) (E : EdgeList) → Judged (found l E) n (Fact E))
-    → Judged (orElse (found list.Logical call.logical) (found list.Physical call.physical)) n (Fact call.logical × Fact call.physical)
+    → Judged (or_else (found list.Logical call.logical) (found list.Physical call.physical)) n (Fact call.logical × Fact call.physical)
 both-judged call j = judged-both _ _ (j list.Logical call.logical) (j list.Physical call.physical)
 
 -- and in what comes last
 settings-judged : (ts : List ℕ) (B : Board) (bad : Bool) {fact : Type 0} → Tests bad fact
     → Judges ((7, (1 ≤ length ts) × (length ts ≤ 8) × AtMost 7 ts) ∷ (8, PoleLength (length B.h) × AtMost 7 B.h × (length B.v ≡ 167) × AtMost 7 B.v) ∷ (9, fact) ∷ [])
-    (orElse (refusedIf (transformsBad ts) 7) (orElse (refusedIf (tablesBad B) 8) (orElse (refusedIf bad 9) Accepted)))
+    (or_else (refused_if (transforms_bad ts) 7) (or_else (refused_if (tables_bad B) 8) (or_else (refused_if bad 9) Accepted)))
 settings-judged ts B bad t =
-    judges-row _ _ (judged-if (transformsBad ts) 7 (transforms-tested ts)) (λ h.
-    judges-row _ _ (judged-if (tablesBad B) 8 (tables-tested B)) (λ h.
+    judges-row _ _ (judged-if (transforms_bad ts) 7 (transforms-tested ts)) (λ h.
+    judges-row _ _ (judged-if (tables_bad B) 8 (tables-tested B)) (λ h.
     judges-row _ _ (judged-if bad 9 t) (λ h. judges-none)))
 
 -- ---- hard decode
 module _ (call : HardCall) (room : HardRoom) where
-  hard-judged : Judges (hardEarly call room) (hardChecked call room)
-  unfolding early hardEarly hardAdmission firstFound first_of orElse roomFindings listFindings settingsFindings roomShort
+  hard-judged : Judges (hard_early call room) (hard_checked call room)
+  unfolding early hard_early hard_admission first_found first_of or_else room_findings list_findings settings_findings room_short
   hard-judged =
       judges-row _ _ (judged-alone _ (judged-if _ 1 (or-tested (tables-lent (length call.board.h) (length room.counts)) (tables-lent (length call.board.h) (length room.weights))))) (λ h.
       judges-row _ _ (judged-both _ Accepted (both-judged call lengths-judged) (judged-none 2)) (λ h.
@@ -267,14 +267,14 @@ module _ (call : HardCall) (room : HardRoom) where
       judges-row _ _ (judged-alone _ (both-judged call orientations-judged)) (λ h.
       judges-row _ _ (judged-alone _ (both-judged call bits-judged)) (λ h.
       judges-row _ _ (judged-alone _ (both-judged call confidences-judged)) (λ h.
-      judges-row Accepted _ (judged-none 6) (λ h. settings-judged call.transforms call.board _ (between-tested 0 call.error-limit)))))))))
+      judges-row Accepted _ (judged-none 6) (λ h. settings-judged call.transforms call.board _ (between-tested 0 call.error_limit)))))))))
 
   -- HARD: accepted exactly when all conditions are met
-  pub hard-domain : (hardChecked call room ≡ Accepted → AllMet (hardEarly call room)) × (AllMet (hardEarly call room) → hardChecked call room ≡ Accepted)
+  pub hard-domain : (hard_checked call room ≡ Accepted → AllMet (hard_early call room)) × (AllMet (hard_early call room) → hard_checked call room ≡ Accepted)
   hard-domain = (hard-judged.met, hard-judged.accepted)
 
   -- and else refused by the number of the first that is not
-  pub hard-first : (r : Refusal) → hardChecked call room ≡ Refused r → FirstFails (hardEarly call room) r.number
+  pub hard-first : (r : Refusal) → hard_checked call room ≡ Refused r → FirstFails (hard_early call room) r.number
   hard-first = hard-judged.refused
 
 -- ---- soft decode
@@ -288,32 +288,32 @@ module _ (call : SoftCall) (room : SoftRoom) where
   abbrev L : ℕ
   L = length call.hard.board.h
 
-  rooms-judged : Judged (refusedIf (softRoomShort L (length room.counts) (length room.weights) (length room.sums)) 1) 1
-      (Lent tablesFor L (length room.counts) × Lent tablesFor L (length room.weights) × Lent sumsFor L (length room.sums))
-  unfolding softRoomShort roomShort
+  rooms-judged : Judged (refused_if (soft_room_short L (length room.counts) (length room.weights) (length room.sums)) 1) 1
+      (Lent tables_for L (length room.counts) × Lent tables_for L (length room.weights) × Lent sums_for L (length room.sums))
+  unfolding soft_room_short room_short
   rooms-judged =
       judged-same (λ h. (h.0.0, h.0.1, h.1)) (λ h. ((h.0, h.1), h.2))
       (judged-if _ 1 (or-tested (or-tested (tables-lent L (length room.counts)) (tables-lent L (length room.weights))) (sums-lent L (length room.sums))))
 
   -- the likelihoods are as many as the edges, and so not over 8,192
-  sizes-with : (length ms ≡ size call.hard.physical) → Judged (orElse (orElse (refusedIf (sizeBad 1 (size call.hard.logical)) 3) (refusedIf (sizeBad 1 (size call.hard.physical)) 3)) (refusedIf (sizeBad 0 (length ms)) 3)) 3
+  sizes-with : (length ms ≡ size call.hard.physical) → Judged (or_else (or_else (refused_if (size_bad 1 (size call.hard.logical)) 3) (refused_if (size_bad 1 (size call.hard.physical)) 3)) (refused_if (size_bad 0 (length ms)) 3)) 3
       (((1 ≤ size call.hard.logical) × (size call.hard.logical ≤ 8192)) × ((1 ≤ size call.hard.physical) × (size call.hard.physical ≤ 8192)))
-  unfolding sizeBad
+  unfolding size_bad
   sizes-with e = judged-same (λ h. h.0) (λ h. (h, (omega arith, omega (arith, e, h.1.1))))
-      (judged-both _ _ (both-judged call.hard (sizes-judged 1)) (judged-if (sizeBad 0 (length ms)) 3 (or-tested (at-least-tested 0 (length ms)) (at-most-tested 8192 (length ms)))))
+      (judged-both _ _ (both-judged call.hard (sizes-judged 1)) (judged-if (size_bad 0 (length ms)) 3 (or-tested (at-least-tested 0 (length ms)) (at-most-tested 8192 (length ms)))))
 
-  likelihoods-tested : length ms ≡ size call.hard.physical → Tests (ltb (firstBadLikelihood ms us) (length ms))
+  likelihoods-tested : length ms ≡ size call.hard.physical → Tests (ltb (first_bad_likelihood ms us) (length ms))
       ((i : ℕ) → i < size call.hard.physical → Between 65536 65536 (get_or ms i nan) × Between 65536 65536 (get_or us i nan))
-  unfolding firstBadLikelihood
+  unfolding first_bad_likelihood
   likelihoods-tested e =
-      let t = first-tested (badLikelihood ms us) (length ms) _ (λ i. or-tested (likely-tested (get_or ms i nan)) (likely-tested (get_or us i nan))) in
+      let t = first-tested (bad_likelihood ms us) (length ms) _ (λ i. or-tested (likely-tested (get_or ms i nan)) (likely-tested (get_or us i nan))) in
       ((λ b i l. t.0 b i (omega (arith, e, l))), λ h. t.1 (λ i l. h i (omega (arith, e, l))))
 
-  soft-judged : Judges (softEarly call room) (softChecked call room)
-  unfolding early softEarly softAdmission firstFound first_of orElse roomFindings listFindings likelihoodFindings settingsFindings roomShort softRoomShort likelihoodsDiffer
+  soft-judged : Judges (soft_early call room) (soft_checked call room)
+  unfolding early soft_early soft_admission first_found first_of or_else room_findings list_findings likelihood_findings settings_findings room_short soft_room_short likelihoods_differ
   soft-judged =
       let edges = size call.hard.physical in
-      let columns = judged-if (likelihoodsDiffer edges ms us) 2 (and-tested (eqb edges (length ms)) (eqb edges (length us)) (same-tested edges (length ms)) (same-tested edges (length us))) in
+      let columns = judged-if (likelihoods_differ edges ms us) 2 (and-tested (eqb edges (length ms)) (eqb edges (length us)) (same-tested edges (length ms)) (same-tested edges (length us))) in
       judges-row _ _ (judged-alone _ rooms-judged) (λ h.
       judges-row _ _ (judged-alone _ (judged-both _ _ (both-judged call.hard lengths-judged) columns)) (λ same.
       judges-row _ _ (judged-alone _ (sizes-with same.1.0)) (λ h.
@@ -321,28 +321,28 @@ module _ (call : SoftCall) (room : SoftRoom) where
       judges-row _ _ (judged-alone _ (judged-alone _ (both-judged call.hard orientations-judged))) (λ h.
       judges-row _ _ (judged-alone _ (judged-alone _ (both-judged call.hard bits-judged))) (λ h.
       judges-row _ _ (judged-alone _ (judged-alone _ (both-judged call.hard confidences-judged))) (λ h.
-      judges-row _ _ (judged-alone _ (judged-at 6 list.Physical (firstBadLikelihood ms us) (length ms) (likelihoods-tested same.1.0))) (λ h.
-      settings-judged call.hard.transforms call.hard.board _ (or-tested (between-tested 0 call.hard.error-limit) (between-tested 16 call.soft-margin))))))))))
+      judges-row _ _ (judged-alone _ (judged-at 6 list.Physical (first_bad_likelihood ms us) (length ms) (likelihoods-tested same.1.0))) (λ h.
+      settings-judged call.hard.transforms call.hard.board _ (or-tested (between-tested 0 call.hard.error_limit) (between-tested 16 call.soft-margin))))))))))
 
   -- SOFT: the same
-  pub soft-domain : (softChecked call room ≡ Accepted → AllMet (softEarly call room)) × (AllMet (softEarly call room) → softChecked call room ≡ Accepted)
+  pub soft-domain : (soft_checked call room ≡ Accepted → AllMet (soft_early call room)) × (AllMet (soft_early call room) → soft_checked call room ≡ Accepted)
   soft-domain = (soft-judged.met, soft-judged.accepted)
 
-  pub soft-first : (r : Refusal) → softChecked call room ≡ Refused r → FirstFails (softEarly call room) r.number
+  pub soft-first : (r : Refusal) → soft_checked call room ≡ Refused r → FirstFails (soft_early call room) r.number
   soft-first = soft-judged.refused
 
 -- ---- match statistics
 module _ (E : EdgeList) (t row col : ℕ) (B : Board) where
   -- one transform number, as a list of one
-  one-judged : Judged (refusedIf (ltb 7 t) 7) 7 ((1 ≤ length (t ∷ [])) × (length (t ∷ []) ≤ 8) × AtMost 7 (t ∷ []))
+  one-judged : Judged (refused_if (ltb 7 t) 7) 7 ((1 ≤ length (t ∷ [])) × (length (t ∷ []) ≤ 8) × AtMost 7 (t ∷ []))
   one-judged = judged-same (λ h. (omega arith, omega arith, each h)) (λ h. h.2 0 (omega arith)) (judged-if (ltb 7 t) 7 (at-most-tested 7 t))
     where
       each : t ≤ 7 → AtMost 7 (t ∷ [])
       each h zero l = h
       each h (suc i) l = absurd (omega arith)
 
-  stats-judged : Judges (statsEarly E t row col B) (statsAdmission E t row col B)
-  unfolding early statsEarly statsAdmission firstFound first_of orElse listFindings settingsFindings originBad
+  stats-judged : Judges (stats_early E t row col B) (stats_admission E t row col B)
+  unfolding early stats_early stats_admission first_found first_of or_else list_findings settings_findings origin_bad
   stats-judged =
       judges-row Accepted _ (judged-none 1) (λ h.
       judges-row _ _ (judged-both _ Accepted (lengths-judged list.Only E) (judged-none 2)) (λ h.
@@ -353,12 +353,12 @@ module _ (E : EdgeList) (t row col : ℕ) (B : Board) where
       judges-row _ _ (judged-alone _ (confidences-judged list.Only E)) (λ h.
       judges-row Accepted _ (judged-none 6) (λ h.
       judges-row _ _ one-judged (λ h.
-      judges-row _ _ (judged-if (tablesBad B) 8 (tables-tested B)) (λ h.
-      judges-row _ _ (judged-if (originBad (length B.h) row col) 9 (or-tested (below-tested (3 * length B.h) row) (at-most-tested 500 col))) (λ h. judges-none)))))))))))
+      judges-row _ _ (judged-if (tables_bad B) 8 (tables-tested B)) (λ h.
+      judges-row _ _ (judged-if (origin_bad (length B.h) row col) 9 (or-tested (below-tested (3 * length B.h) row) (at-most-tested 500 col))) (λ h. judges-none)))))))))))
 
   -- MATCH STATISTICS: the same
-  pub stats-domain : (statsAdmission E t row col B ≡ Accepted → AllMet (statsEarly E t row col B)) × (AllMet (statsEarly E t row col B) → statsAdmission E t row col B ≡ Accepted)
+  pub stats-domain : (stats_admission E t row col B ≡ Accepted → AllMet (stats_early E t row col B)) × (AllMet (stats_early E t row col B) → stats_admission E t row col B ≡ Accepted)
   stats-domain = (stats-judged.met, stats-judged.accepted)
 
-  pub stats-first : (r : Refusal) → statsAdmission E t row col B ≡ Refused r → FirstFails (statsEarly E t row col B) r.number
+  pub stats-first : (r : Refusal) → stats_admission E t row col B ≡ Refused r → FirstFails (stats_early E t row col B) r.number
   stats-first = stats-judged.refused

@@ -1,81 +1,81 @@
 -- The first of the parts, by rank, is the earliest of all that is found.
 use Rattle.std.specs.Prelude.{◌≡◌, refl, Bool, true, false, not, cond, List, ℕ, ltb, length, Float}
 use Rattle.std.proofs.Common.{ap, ap₂, ◌∙◌}
-use Rattle.laws.specs.Words.{oneF}
+use Rattle.laws.specs.Words.{one_f}
 use Rattle.board.specs.Hits.{EdgeList, Board, size}
 use Rattle.refusals.specs.declared.Refusal.{Refusal}
 use Rattle.refusals.specs.declared.Admission.{Admission}
 use Rattle.refusals.specs.declared.Admission.TheVariants.{Accepted, Refused}
 use Rattle.refusals.specs.declared.ListName.{ListName}
 use Rattle.refusals.specs.declared.ListName.TheVariants as list
-use Rattle.refusals.specs.Numbers.{edgeRefusal}
+use Rattle.refusals.specs.Numbers.{edge_refusal}
 use Rattle.refusals.specs.Numbers as why
 use Rattle.refusals.specs.Order.{earlier}
-use Rattle.checks.specs.Checks.{originBad}
-use Rattle.ranges.specs.Ranges.{in_range, transformsBad}
-use Rattle.findings.specs.Findings.{refusedIf, refusedAt, Findings, firstFound, joined, roomFindings, listFindings, likelihoodFindings, settingsFindings}
+use Rattle.checks.specs.Checks.{origin_bad}
+use Rattle.ranges.specs.Ranges.{in_range, transforms_bad}
+use Rattle.findings.specs.Findings.{refused_if, refused_at, Findings, first_found, joined, room_findings, list_findings, likelihood_findings, settings_findings}
 use Rattle.findings.specs.FindingsLaws.{room-found}
 use Rattle.findings.specs.Joined.{Sorted, sorted-joined, first-joined, found_early, sorted-room, sorted-list, sorted-likelihoods, sorted-settings}
 use Rattle.admission.specs.Calls.{HardCall, SoftCall}
-use Rattle.admission.specs.Refusals.{tablesBad, roomShort, softRoomShort, bothLists, softLikelihoods, softSettingsBad, hardAdmission, softAdmission, statsAdmission}
+use Rattle.admission.specs.Refusals.{tables_bad, room_short, soft_room_short, both_lists, soft_likelihoods, soft_settings_bad, hard_admission, soft_admission, stats_admission}
 
 -- the lent room, and then the rest
-with-room : (short : Bool) (f : Findings) (a : Admission) → Sorted f → a ≡ firstFound f → earlier (refusedIf short why.roomTooShort) a ≡ firstFound (joined (roomFindings short) f)
-with-room short f a s e = ap₂ earlier (room-found short) e ∙ first-joined (roomFindings short) f (sorted-room short) s
+with-room : (short : Bool) (f : Findings) (a : Admission) → Sorted f → a ≡ first_found f → earlier (refused_if short why.room_too_short) a ≡ first_found (joined (room_findings short) f)
+with-room short f a s e = ap₂ earlier (room-found short) e ∙ first-joined (room_findings short) f (sorted-room short) s
 
 -- the two lists
-two-lists : (call : HardCall) → earlier (firstFound (listFindings 1 list.Logical call.logical)) (firstFound (listFindings 1 list.Physical call.physical)) ≡ firstFound (bothLists call)
-two-lists call = first-joined (listFindings 1 list.Logical call.logical) (listFindings 1 list.Physical call.physical) (sorted-list 1 list.Logical call.logical) (sorted-list 1 list.Physical call.physical)
+two-lists : (call : HardCall) → earlier (first_found (list_findings 1 list.Logical call.logical)) (first_found (list_findings 1 list.Physical call.physical)) ≡ first_found (both_lists call)
+two-lists call = first-joined (list_findings 1 list.Logical call.logical) (list_findings 1 list.Physical call.physical) (sorted-list 1 list.Logical call.logical) (sorted-list 1 list.Physical call.physical)
 
-sorted-both : (call : HardCall) → Sorted (bothLists call)
-sorted-both call = sorted-joined (listFindings 1 list.Logical call.logical) (listFindings 1 list.Physical call.physical) (sorted-list 1 list.Logical call.logical) (sorted-list 1 list.Physical call.physical)
+sorted-both : (call : HardCall) → Sorted (both_lists call)
+sorted-both call = sorted-joined (list_findings 1 list.Logical call.logical) (list_findings 1 list.Physical call.physical) (sorted-list 1 list.Logical call.logical) (sorted-list 1 list.Physical call.physical)
 
 pub hard-parts : (call : HardCall) (m n : ℕ)
-    → earlier (refusedIf (roomShort (length call.board.h) m n) why.roomTooShort) (earlier (earlier (firstFound (listFindings 1 list.Logical call.logical)) (firstFound (listFindings 1 list.Physical call.physical))) (firstFound (settingsFindings (transformsBad call.transforms) (tablesBad call.board) (not (in_range oneF call.error-limit)))))
-    ≡ hardAdmission call m n
-unfolding hardAdmission
+    → earlier (refused_if (room_short (length call.board.h) m n) why.room_too_short) (earlier (earlier (first_found (list_findings 1 list.Logical call.logical)) (first_found (list_findings 1 list.Physical call.physical))) (first_found (settings_findings (transforms_bad call.transforms) (tables_bad call.board) (not (in_range one_f call.error_limit)))))
+    ≡ hard_admission call m n
+unfolding hard_admission
 hard-parts call m n =
-    let s = settingsFindings (transformsBad call.transforms) (tablesBad call.board) (not (in_range oneF call.error-limit)) in
-    let k = sorted-settings (transformsBad call.transforms) (tablesBad call.board) (not (in_range oneF call.error-limit)) in
-    with-room (roomShort (length call.board.h) m n) (joined (bothLists call) s) _ (sorted-joined (bothLists call) s (sorted-both call) k)
-    (ap (λ (x : Admission). earlier x (firstFound s)) (two-lists call) ∙ first-joined (bothLists call) s (sorted-both call) k)
+    let s = settings_findings (transforms_bad call.transforms) (tables_bad call.board) (not (in_range one_f call.error_limit)) in
+    let k = sorted-settings (transforms_bad call.transforms) (tables_bad call.board) (not (in_range one_f call.error_limit)) in
+    with-room (room_short (length call.board.h) m n) (joined (both_lists call) s) _ (sorted-joined (both_lists call) s (sorted-both call) k)
+    (ap (λ (x : Admission). earlier x (first_found s)) (two-lists call) ∙ first-joined (both_lists call) s (sorted-both call) k)
 
 pub soft-parts : (call : SoftCall) (m n k : ℕ)
-    → earlier (refusedIf (softRoomShort (length call.hard.board.h) m n k) why.roomTooShort) (earlier (earlier (earlier (firstFound (listFindings 1 list.Logical call.hard.logical)) (firstFound (listFindings 1 list.Physical call.hard.physical))) (firstFound (softLikelihoods call))) (firstFound (settingsFindings (transformsBad call.hard.transforms) (tablesBad call.hard.board) (softSettingsBad call))))
-    ≡ softAdmission call m n k
-unfolding softAdmission
+    → earlier (refused_if (soft_room_short (length call.hard.board.h) m n k) why.room_too_short) (earlier (earlier (earlier (first_found (list_findings 1 list.Logical call.hard.logical)) (first_found (list_findings 1 list.Physical call.hard.physical))) (first_found (soft_likelihoods call))) (first_found (settings_findings (transforms_bad call.hard.transforms) (tables_bad call.hard.board) (soft_settings_bad call))))
+    ≡ soft_admission call m n k
+unfolding soft_admission
 soft-parts call m n k =
-    let s = settingsFindings (transformsBad call.hard.transforms) (tablesBad call.hard.board) (softSettingsBad call) in
-    let t = sorted-settings (transformsBad call.hard.transforms) (tablesBad call.hard.board) (softSettingsBad call) in
+    let s = settings_findings (transforms_bad call.hard.transforms) (tables_bad call.hard.board) (soft_settings_bad call) in
+    let t = sorted-settings (transforms_bad call.hard.transforms) (tables_bad call.hard.board) (soft_settings_bad call) in
     let l = sorted-likelihoods (size call.hard.physical) call.likelihoods.matches call.likelihoods.mismatches in
-    let b = sorted-joined (bothLists call.hard) (softLikelihoods call) (sorted-both call.hard) l in
-    with-room (softRoomShort (length call.hard.board.h) m n k) (joined (joined (bothLists call.hard) (softLikelihoods call)) s) _ (sorted-joined (joined (bothLists call.hard) (softLikelihoods call)) s b t)
-    (ap (λ (x : Admission). earlier x (firstFound s)) (ap (λ (x : Admission). earlier x (firstFound (softLikelihoods call))) (two-lists call.hard) ∙ first-joined (bothLists call.hard) (softLikelihoods call) (sorted-both call.hard) l)
-    ∙ first-joined (joined (bothLists call.hard) (softLikelihoods call)) s b t)
+    let b = sorted-joined (both_lists call.hard) (soft_likelihoods call) (sorted-both call.hard) l in
+    with-room (soft_room_short (length call.hard.board.h) m n k) (joined (joined (both_lists call.hard) (soft_likelihoods call)) s) _ (sorted-joined (joined (both_lists call.hard) (soft_likelihoods call)) s b t)
+    (ap (λ (x : Admission). earlier x (first_found s)) (ap (λ (x : Admission). earlier x (first_found (soft_likelihoods call))) (two-lists call.hard) ∙ first-joined (both_lists call.hard) (soft_likelihoods call) (sorted-both call.hard) l)
+    ∙ first-joined (joined (both_lists call.hard) (soft_likelihoods call)) s b t)
 
-pub stats-parts : (E : EdgeList) (t row col : ℕ) (B : Board) → earlier (firstFound (listFindings 0 list.Only E)) (firstFound (settingsFindings (ltb 7 t) (tablesBad B) (originBad (length B.h) row col))) ≡ statsAdmission E t row col B
-unfolding statsAdmission
-stats-parts E t row col B = first-joined (listFindings 0 list.Only E) (settingsFindings (ltb 7 t) (tablesBad B) (originBad (length B.h) row col)) (sorted-list 0 list.Only E) (sorted-settings (ltb 7 t) (tablesBad B) (originBad (length B.h) row col))
+pub stats-parts : (E : EdgeList) (t row col : ℕ) (B : Board) → earlier (first_found (list_findings 0 list.Only E)) (first_found (settings_findings (ltb 7 t) (tables_bad B) (origin_bad (length B.h) row col))) ≡ stats_admission E t row col B
+unfolding stats_admission
+stats-parts E t row col B = first-joined (list_findings 0 list.Only E) (settings_findings (ltb 7 t) (tables_bad B) (origin_bad (length B.h) row col)) (sorted-list 0 list.Only E) (sorted-settings (ltb 7 t) (tables_bad B) (origin_bad (length B.h) row col))
 
 -- ---- refused early means by one of 1 to 9, 16 and 17
-pub hard-early : (call : HardCall) (m n : ℕ) (r : Refusal) → hardAdmission call m n ≡ Refused r → why.Early r.number
-unfolding hardAdmission
+pub hard-early : (call : HardCall) (m n : ℕ) (r : Refusal) → hard_admission call m n ≡ Refused r → why.Early r.number
+unfolding hard_admission
 hard-early call m n r =
-    let s = settingsFindings (transformsBad call.transforms) (tablesBad call.board) (not (in_range oneF call.error-limit)) in
-    let k = sorted-settings (transformsBad call.transforms) (tablesBad call.board) (not (in_range oneF call.error-limit)) in
-    found_early (joined (roomFindings (roomShort (length call.board.h) m n)) (joined (bothLists call) s)) r (sorted-joined (roomFindings (roomShort (length call.board.h) m n)) (joined (bothLists call) s) (sorted-room (roomShort (length call.board.h) m n)) (sorted-joined (bothLists call) s (sorted-both call) k))
+    let s = settings_findings (transforms_bad call.transforms) (tables_bad call.board) (not (in_range one_f call.error_limit)) in
+    let k = sorted-settings (transforms_bad call.transforms) (tables_bad call.board) (not (in_range one_f call.error_limit)) in
+    found_early (joined (room_findings (room_short (length call.board.h) m n)) (joined (both_lists call) s)) r (sorted-joined (room_findings (room_short (length call.board.h) m n)) (joined (both_lists call) s) (sorted-room (room_short (length call.board.h) m n)) (sorted-joined (both_lists call) s (sorted-both call) k))
 
-pub soft-early : (call : SoftCall) (m n k : ℕ) (r : Refusal) → softAdmission call m n k ≡ Refused r → why.Early r.number
-unfolding softAdmission
+pub soft-early : (call : SoftCall) (m n k : ℕ) (r : Refusal) → soft_admission call m n k ≡ Refused r → why.Early r.number
+unfolding soft_admission
 soft-early call m n k r =
-    let s = settingsFindings (transformsBad call.hard.transforms) (tablesBad call.hard.board) (softSettingsBad call) in
-    let t = sorted-settings (transformsBad call.hard.transforms) (tablesBad call.hard.board) (softSettingsBad call) in
-    let l = joined (bothLists call.hard) (softLikelihoods call) in
-    let b = sorted-joined (bothLists call.hard) (softLikelihoods call) (sorted-both call.hard) (sorted-likelihoods (size call.hard.physical) call.likelihoods.matches call.likelihoods.mismatches) in
-    found_early (joined (roomFindings (softRoomShort (length call.hard.board.h) m n k)) (joined l s)) r (sorted-joined (roomFindings (softRoomShort (length call.hard.board.h) m n k)) (joined l s) (sorted-room (softRoomShort (length call.hard.board.h) m n k)) (sorted-joined l s b t))
+    let s = settings_findings (transforms_bad call.hard.transforms) (tables_bad call.hard.board) (soft_settings_bad call) in
+    let t = sorted-settings (transforms_bad call.hard.transforms) (tables_bad call.hard.board) (soft_settings_bad call) in
+    let l = joined (both_lists call.hard) (soft_likelihoods call) in
+    let b = sorted-joined (both_lists call.hard) (soft_likelihoods call) (sorted-both call.hard) (sorted-likelihoods (size call.hard.physical) call.likelihoods.matches call.likelihoods.mismatches) in
+    found_early (joined (room_findings (soft_room_short (length call.hard.board.h) m n k)) (joined l s)) r (sorted-joined (room_findings (soft_room_short (length call.hard.board.h) m n k)) (joined l s) (sorted-room (soft_room_short (length call.hard.board.h) m n k)) (sorted-joined l s b t))
 
-pub stats-early : (E : EdgeList) (t row col : ℕ) (B : Board) (r : Refusal) → statsAdmission E t row col B ≡ Refused r → why.Early r.number
-unfolding statsAdmission
+pub stats-early : (E : EdgeList) (t row col : ℕ) (B : Board) (r : Refusal) → stats_admission E t row col B ≡ Refused r → why.Early r.number
+unfolding stats_admission
 stats-early E t row col B r =
-    let s = settingsFindings (ltb 7 t) (tablesBad B) (originBad (length B.h) row col) in
-    found_early (joined (listFindings 0 list.Only E) s) r (sorted-joined (listFindings 0 list.Only E) s (sorted-list 0 list.Only E) (sorted-settings (ltb 7 t) (tablesBad B) (originBad (length B.h) row col)))
+    let s = settings_findings (ltb 7 t) (tables_bad B) (origin_bad (length B.h) row col) in
+    found_early (joined (list_findings 0 list.Only E) s) r (sorted-joined (list_findings 0 list.Only E) s (sorted-list 0 list.Only E) (sorted-settings (ltb 7 t) (tables_bad B) (origin_bad (length B.h) row col)))

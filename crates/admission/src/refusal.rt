@@ -1,15 +1,15 @@
 // Whether a hard call is taken on: the early refusals 1 to 9, 16 and 17, the first in their order over both lists, or accepted.
 ghost use Rattle.std.specs.Prelude.{◌≡◌, ◌≤◌};
 ghost use Rattle.board.specs.Hits.{edges, tables};
-ghost use Rattle.admission.specs.Calls.{hardCall};
-ghost use Rattle.admission.specs.Refusals.{askedLength, roomShort, tablesBad, hardAdmission};
+ghost use Rattle.admission.specs.Calls.{hard_call};
+ghost use Rattle.admission.specs.Refusals.{asked_length, room_short, tables_bad, hard_admission};
 
 use findings::{list_admission, refused_if, settings_admission};
 use refusals::{Admission, ListName, first_of};
 
 // The length by which room is asked for: that of the horizontal table, or the smallest where the table may not have its own.
 pub fn asked_length(l: usize) -> usize
-    ensures { (result ≡ askedLength l) × (result ≤ 500) }
+    ensures { (result ≡ asked_length l) × (result ≤ 500) }
 {
     if ranges::pole_length(l) {
         l
@@ -20,7 +20,7 @@ pub fn asked_length(l: usize) -> usize
 
 // Whether the room of a hard call with l horizontal patterns is too short.
 pub fn room_short(l: usize, counts: usize, weights: usize) -> bool
-    ensures { result ≡ roomShort l counts weights }
+    ensures { result ≡ room_short l counts weights }
 {
     let least = room::tables_for(asked_length(l));
     counts < least || weights < least
@@ -28,7 +28,7 @@ pub fn room_short(l: usize, counts: usize, weights: usize) -> bool
 
 // Whether one of the two pattern tables is wrong.
 pub fn tables_bad(h: &[u8], v: &[u8]) -> bool
-    ensures { result ≡ tablesBad (tables h.now v.now) }
+    ensures { result ≡ tables_bad (tables h.now v.now) }
 {
     ranges::horizontal_bad(h) || ranges::vertical_bad(v)
 }
@@ -52,8 +52,8 @@ pub fn hard_admission(
     counts: usize,
     weights: usize,
 ) -> Admission
-    ensures { result ≡ hardAdmission
-        (hardCall
+    ensures { result ≡ hard_admission
+        (hard_call
         (edges lrows.now lcols.now lorientations.now lbits.now lconfidences.now)
         (edges prows.now pcols.now porientations.now pbits.now pconfidences.now)
         transforms.now (tables h.now v.now) error_limit) counts weights }

@@ -3,12 +3,12 @@ use Rattle.std.specs.Prelude.{Bool, ◌||◌, ℕ, ◌≤◌, ◌<◌, eqb, ltb}
 use Rattle.answer.specs.declared.Decoded.{Decoded}
 
 -- the number of that refusal
-abbrev pub badFigures : ℕ
-badFigures = 25
+abbrev pub bad_figures : ℕ
+bad_figures = 25
 
 -- a found answer that does not fit itself
-unfoldable pub foundBad : Decoded → Bool
-foundBad d = eqb d.edges 0 || (ltb 8192 d.edges || (ltb d.edges d.hits || ltb d.hits d.runner_up_hits))
+unfoldable pub found_bad : Decoded → Bool
+found_bad d = eqb d.edges 0 || (ltb 8192 d.edges || (ltb d.edges d.hits || ltb d.hits d.runner_up_hits))
 
 -- one that does: what the words say, as facts
 pub record FoundFits (d : Decoded) : Type 0 where

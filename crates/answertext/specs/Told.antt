@@ -7,12 +7,12 @@ use Rattle.answertext.specs.declared.told.Told.{Told}
 use Rattle.answertext.specs.declared.told.Told.TheVariants as told
 
 -- hard and soft decode's
-abbrev pub toldOfAny : AnyAnswer → Told
-toldOfAny (any.Hard d) = told.Hard d
-toldOfAny (any.Soft d) = told.Soft d
-toldOfAny (any.Refused r) = told.Refused r
+abbrev pub told_of_any : AnyAnswer → Told
+told_of_any (any.Hard d) = told.Hard d
+told_of_any (any.Soft d) = told.Soft d
+told_of_any (any.Refused r) = told.Refused r
 
 -- exact decode's
-abbrev pub toldOfExact : ExactAnswer → Told
-toldOfExact (exact.Found d) = told.Exact d
-toldOfExact (exact.Refused r) = told.Refused r
+abbrev pub told_of_exact : ExactAnswer → Told
+told_of_exact (exact.Found d) = told.Exact d
+told_of_exact (exact.Refused r) = told.Refused r

@@ -1,6 +1,6 @@
 // What the found answers of all decoders have in common: the square and how well a list fits there, and the runner-up by hits.
 ghost use Rattle.std.specs.Prelude.{◌≡◌};
-ghost use Rattle.answertext.specs.Shown.{shownOfHard, shownOfSoft, shownOfExact, shownOfLocated};
+ghost use Rattle.answertext.specs.Shown.{shown_of_hard, shown_of_soft, shown_of_exact, shown_of_located};
 
 use answer::{Decoded, SoftDecoded, Square};
 use exact_answer::ExactDecoded;
@@ -19,7 +19,7 @@ pub struct Shown {
 
 // Of a hard answer.
 pub fn of_hard(d: Decoded) -> Shown
-    ensures { result ≡ shownOfHard d }
+    ensures { result ≡ shown_of_hard d }
 {
     let square = d.square;
     let runner_up = d.runner_up;
@@ -35,7 +35,7 @@ pub fn of_hard(d: Decoded) -> Shown
 
 // Of a soft answer.
 pub fn of_soft(d: SoftDecoded) -> Shown
-    ensures { result ≡ shownOfSoft d }
+    ensures { result ≡ shown_of_soft d }
 {
     let square = d.square;
     let runner_up = d.runner_up;
@@ -51,7 +51,7 @@ pub fn of_soft(d: SoftDecoded) -> Shown
 
 // Of an exact answer.
 pub fn of_exact(d: ExactDecoded) -> Shown
-    ensures { result ≡ shownOfExact d }
+    ensures { result ≡ shown_of_exact d }
 {
     let square = d.square;
     let runner_up = d.runner_up;
@@ -67,7 +67,7 @@ pub fn of_exact(d: ExactDecoded) -> Shown
 
 // Of what is located without tables, with the edges of its list and the error rate there, which that answer has not.
 pub fn of_located(l: Located, edges: u32, error_rate: f32) -> Shown
-    ensures { result ≡ shownOfLocated l edges error_rate }
+    ensures { result ≡ shown_of_located l edges error_rate }
 {
     let square = l.square;
     let runner_up = l.runner_up;

@@ -1,6 +1,6 @@
 // An answer of any decoder, as it is told: hard and soft decode's, exact decode's, or that of the engine without tables.
 ghost use Rattle.std.specs.Prelude.{◌≡◌};
-ghost use Rattle.answertext.specs.Told.{toldOfAny, toldOfExact};
+ghost use Rattle.answertext.specs.Told.{told_of_any, told_of_exact};
 
 use crate::shown::Shown;
 use answer::{AnyAnswer, Decoded, SoftDecoded};
@@ -28,7 +28,7 @@ pub enum Told {
 
 // Of hard or soft decode's answer.
 pub fn of_any(answer: AnyAnswer) -> Told
-    ensures { result ≡ toldOfAny answer }
+    ensures { result ≡ told_of_any answer }
 {
     match answer {
         AnyAnswer::Hard(d) => Told::Hard(d),
@@ -39,7 +39,7 @@ pub fn of_any(answer: AnyAnswer) -> Told
 
 // Of exact decode's answer.
 pub fn of_exact(answer: ExactAnswer) -> Told
-    ensures { result ≡ toldOfExact answer }
+    ensures { result ≡ told_of_exact answer }
 {
     match answer {
         ExactAnswer::Found(d) => Told::Exact(d),

@@ -13,8 +13,8 @@ pub record Period (n : ℕ) : Type 0 where
 abbrev pub c_at : List ℕ → ℕ → ℕ
 c_at cs i = get_or cs i 0
 
-abbrev pub wAt : List Float → ℕ → Float
-wAt ws i = get_or ws i nan
+abbrev pub w_at : List Float → ℕ → Float
+w_at ws i = get_or ws i nan
 
 -- horizontal counts and weights, vertical counts and weights
 pub record CellTables : Type 0 where
@@ -33,7 +33,7 @@ pub record TablesOk (L M edges : ℕ) (X : CellTables) : Type 0 where
   pub hws : length X.hw ≡ 3 * L
   pub vcs : length X.vc ≡ 3 * M
   pub vws : length X.vw ≡ 3 * M
-  pub hweights : (i : ℕ) → i < 3 * L → T (weightlike (wAt X.hw i))
-  pub vweights : (i : ℕ) → i < 3 * M → T (weightlike (wAt X.vw i))
+  pub hweights : (i : ℕ) → i < 3 * L → T (weightlike (w_at X.hw i))
+  pub vweights : (i : ℕ) → i < 3 * M → T (weightlike (w_at X.vw i))
   pub bounded : (i j : ℕ) → i < 3 * L → j < 3 * M → c_at X.hc i + c_at X.vc j ≤ edges
   pub few : edges ≤ 8192

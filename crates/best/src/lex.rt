@@ -1,6 +1,6 @@
 // One table of counts and weights: its first best cell, how many cells are as good, and its second-best cell.
 ghost use Rattle.std.specs.Prelude.{◌≡◌, ◌<◌, length};
-ghost use Rattle.best.specs.Lex.{TableOk, wins, isOptimal, lexBest, lexAround, lexOf};
+ghost use Rattle.best.specs.Lex.{TableOk, wins, is_optimal, lex_best, lex_around, lex_of};
 ghost use Rattle.best.specs.LexLaws.{Most};
 
 // What one table says: the first cell of largest count and then largest weight, both, how many cells have the count and how many have both,
@@ -26,7 +26,7 @@ pub fn beats(c: u32, w: f32, d: u32, v: f32) -> bool
 // The first cell of largest count and, of those, largest weight. Most cells stand below the largest count so far, and their weight is not looked at.
 fn lex_best(counts: &[u32], weights: &[f32]) -> usize
     requires { TableOk counts.now weights.now }
-    ensures { (result ≡ lexBest counts.now weights.now) × (result < length counts.now) }
+    ensures { (result ≡ lex_best counts.now weights.now) × (result < length counts.now) }
 {
     let mut best: usize = 0;
     let mut top = counts[0];
@@ -49,7 +49,7 @@ fn lex_best(counts: &[u32], weights: &[f32]) -> usize
 
 // Whether a cell has both the count and the weight.
 pub fn is_optimal(c: u32, w: f32, top: u32, heavy: f32) -> bool
-    ensures { result ≡ isOptimal c w top heavy }
+    ensures { result ≡ is_optimal c w top heavy }
 {
     c == top && w == heavy
 }
@@ -58,7 +58,7 @@ pub fn is_optimal(c: u32, w: f32, top: u32, heavy: f32) -> bool
 // cells by count. Most cells stand below the second best so far, and no more is asked of them.
 fn lex_around(counts: &[u32], weights: &[f32], cell: usize) -> LexMax
     requires { TableOk counts.now weights.now × (cell < length counts.now) × Most counts.now cell }
-    ensures { result ≡ lexAround counts.now weights.now cell }
+    ensures { result ≡ lex_around counts.now weights.now cell }
 {
     let top = counts[cell];
     let heavy = weights[cell];
@@ -102,7 +102,7 @@ fn lex_around(counts: &[u32], weights: &[f32], cell: usize) -> LexMax
 // All that is asked of one table, in two walks: for the best cell, and for what is around it.
 pub fn lex_max(counts: &[u32], weights: &[f32]) -> LexMax
     requires { TableOk counts.now weights.now }
-    ensures { result ≡ lexOf counts.now weights.now }
+    ensures { result ≡ lex_of counts.now weights.now }
 {
     lex_around(counts, weights, lex_best(counts, weights))
 }

@@ -6,7 +6,7 @@ use Rattle.answer.specs.declared.Square.{Square}
 use Rattle.board.specs.declared.edge.Edge.{Edge}
 use Rattle.board.specs.declared.edge.Placing.{Placing}
 use Rattle.board.specs.declared.edge.EdgeLookup.{EdgeLookup}
-use Rattle.board.specs.Transform.{lookupOf}
+use Rattle.board.specs.Transform.{lookup_of}
 
 -- an edge list, a list for each field
 pub record EdgeList : Type 0 where
@@ -47,7 +47,7 @@ edge_at E i = record { row = get_or E.rows i (pos 0); col = get_or E.cols i (pos
 
 -- edge i looked up under the transform t
 unfoldable pub look : EdgeList → ℕ → ℕ → EdgeLookup
-look E t i = lookupOf t (get_or E.rows i (pos 0)) (get_or E.cols i (pos 0)) (get_or E.orientations i 0)
+look E t i = lookup_of t (get_or E.rows i (pos 0)) (get_or E.cols i (pos 0)) (get_or E.orientations i 0)
 
 abbrev pub horizontal : EdgeLookup → Bool
 horizontal l = eqb l.orientation 0
@@ -57,20 +57,20 @@ abbrev pub bit_at : ℕ → ℕ → ℕ
 bit_at p j = p / 2 ^ j % 2
 
 -- bit (short) mod 3 of pattern (long) mod 167, of one table. "Remainders are never negative": see `emod`
-abbrev pub patternBit : List ℕ → ℤ → ℤ → ℕ
-patternBit ps long short = bit_at (get_or ps (emod long (length ps)) 0) (emod short 3)
+abbrev pub pattern_bit : List ℕ → ℤ → ℤ → ℕ
+pattern_bit ps long short = bit_at (get_or ps (emod long (length ps)) 0) (emod short 3)
 
 -- "At origin (r, c) a horizontal edge is predicted by bit (lookup column + c) mod 3 of horizontal pattern (lookup row + r) mod 167. A vertical edge
 -- is predicted by bit (lookup row + r) mod 3 of vertical pattern (lookup column + c) mod 167."
 unfoldable pub predicted : Board → EdgeLookup → ℕ → ℕ → ℕ
 predicted B l r c =
     cond (horizontal l)
-    (patternBit B.h (l.row +ℤ pos r) (l.col +ℤ pos c))
-    (patternBit B.v (l.col +ℤ pos c) (l.row +ℤ pos r))
+    (pattern_bit B.h (l.row +ℤ pos r) (l.col +ℤ pos c))
+    (pattern_bit B.v (l.col +ℤ pos c) (l.row +ℤ pos r))
 
 -- "A hit is an equal bit": whether one edge, by value, is a hit at a square
-unfoldable pub edgeHit : Board → Edge → Square → Bool
-edgeHit B e q = eqb (predicted B (lookupOf q.transform e.row e.col e.orientation) q.row q.col) e.bit
+unfoldable pub edge_hit : Board → Edge → Square → Bool
+edge_hit B e q = eqb (predicted B (lookup_of q.transform e.row e.col e.orientation) q.row q.col) e.bit
 
 -- whether edge i is a hit under the transform t at the origin (r, c)
 unfoldable pub hit : Board → EdgeList → ℕ → ℕ → ℕ → ℕ → Bool
@@ -85,5 +85,5 @@ unfoldable pub misses : Board → EdgeList → ℕ → ℕ → ℕ → ℕ
 misses B E t r c = count (size E) (λ i. not (hit B E t r c i))
 
 -- the hits of a placing, of the transform list ts
-abbrev pub hitsAt : Board → EdgeList → List ℕ → Placing → ℕ
-hitsAt B E ts P = hits B E (get_or ts P.listed 0) P.row P.col
+abbrev pub hits_at : Board → EdgeList → List ℕ → Placing → ℕ
+hits_at B E ts P = hits B E (get_or ts P.listed 0) P.row P.col

@@ -10,24 +10,24 @@ is true b = b
 is false b = not b
 
 -- edge i lies on the side s under the transform t
-abbrev pub onSide : EdgeList → ℕ → Bool → ℕ → Bool
-onSide E t s i = is s (horizontal (look E t i))
+abbrev pub on_side : EdgeList → ℕ → Bool → ℕ → Bool
+on_side E t s i = is s (horizontal (look E t i))
 
 -- a side's pattern table and its period
 abbrev pub table_of : Board → Bool → List ℕ
 table_of B s = cond s B.h B.v
 
-abbrev pub periodOf : Board → Bool → ℕ
-periodOf B s = length (table_of B s)
+abbrev pub period_of : Board → Bool → ℕ
+period_of B s = length (table_of B s)
 
 -- the coordinate of a lookup that goes round the table, and the one that goes by 3: "An edge's long residue is lookup row mod 167 if horizontal,
 -- lookup column mod 167 if vertical"
-abbrev pub longOf : EdgeList → ℕ → Bool → ℕ → ℤ
-longOf E t s i = cond s (look E t i).row (look E t i).col
+abbrev pub long_of : EdgeList → ℕ → Bool → ℕ → ℤ
+long_of E t s i = cond s (look E t i).row (look E t i).col
 
 abbrev pub short_of : EdgeList → ℕ → Bool → ℕ → ℤ
 short_of E t s i = cond s (look E t i).col (look E t i).row
 
 -- the hits among the edges of one side
-unfoldable pub sideHits : Board → EdgeList → ℕ → Bool → ℕ → ℕ → ℕ
-sideHits B E t s r c = count (size E) (λ i. onSide E t s i && hit B E t r c i)
+unfoldable pub side_hits : Board → EdgeList → ℕ → Bool → ℕ → ℕ → ℕ
+side_hits B E t s r c = count (size E) (λ i. on_side E t s i && hit B E t r c i)

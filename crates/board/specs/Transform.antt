@@ -1,7 +1,7 @@
 -- Document 01, 'Transforms and lookup', first two paragraphs: the eight transforms, and where an edge is looked up. The quotes are the document's.
 use Rattle.std.specs.Prelude.{ℕ, List, [], ◌∷◌, cond, get_or, eqb, ℤ, pos, negsuc, ◌+ℤ◌, ◌-ℤ◌, ◌*ℤ◌}
 use Rattle.std.specs.Int.Signed.{lt_z}
-use Rattle.laws.specs.Words.{eqZ}
+use Rattle.laws.specs.Words.{eq_z}
 use Rattle.board.specs.declared.edge.EdgeLookup.{EdgeLookup}
 
 -- "The numbering is ours: 0 [[1,0],[0,1]]; 1 [[0,-1],[1,0]]; .." (-1 is `negsuc 0`)
@@ -14,13 +14,13 @@ matrices =
     ∷ []
 
 -- the matrix of transform t
-abbrev pub matrixOf : ℕ → List (List ℤ)
-matrixOf t = get_or matrices t []
+abbrev pub matrix_of : ℕ → List (List ℤ)
+matrix_of t = get_or matrices t []
 
 -- entry (i, j) of the matrix of transform t
 unfoldable pub mat : ℕ → ℕ → ℕ → ℤ
 unfolding matrices
-mat t i j = get_or (get_or (matrixOf t) i []) j (pos 0)
+mat t i j = get_or (get_or (matrix_of t) i []) j (pos 0)
 
 -- "A transform maps (column, row) by a matrix, translation zero": row i of the matrix times (col, row), so 0 gives the column and 1 the row
 unfoldable pub mapped : ℕ → ℕ → ℤ → ℤ → ℤ
@@ -28,19 +28,19 @@ mapped t i col row = mat t i 0 *ℤ col +ℤ mat t i 1 *ℤ row
 
 -- the ends are mapped to (c, r) and (d, s). "Equal rows: the result is horizontal, its anchor the end of smaller column, lookup (anchor row - 1,
 -- anchor column). Otherwise vertical, anchor the end of smaller row, lookup (anchor row, anchor column - 1)."
-unfoldable pub lookupOfEnds : ℤ → ℤ → ℤ → ℤ → EdgeLookup
-lookupOfEnds c r d s =
-    cond (eqZ r s)
+unfoldable pub lookup_of_ends : ℤ → ℤ → ℤ → ℤ → EdgeLookup
+lookup_of_ends c r d s =
+    cond (eq_z r s)
     (record { orientation = 0; row = r -ℤ pos 1; col = cond (lt_z c d) c d })
     (record { orientation = 1; row = cond (lt_z r s) r s; col = cond (lt_z r s) c d -ℤ pos 1 })
 
 -- "Map both ends": the edge that joins (c, r) to (d, s), under the transform t
 unfoldable pub joined : ℕ → ℤ → ℤ → ℤ → ℤ → EdgeLookup
-unfolding mapped lookupOfEnds
-joined t c r d s = lookupOfEnds (mapped t 0 c r) (mapped t 1 c r) (mapped t 0 d s) (mapped t 1 d s)
+unfolding mapped lookup_of_ends
+joined t c r d s = lookup_of_ends (mapped t 0 c r) (mapped t 1 c r) (mapped t 0 d s) (mapped t 1 d s)
 
 -- "A horizontal edge at (row, col) joins (col, row) to (col+1, row); a vertical one joins it to (col, row+1)": horizontal is orientation 0
-unfoldable pub lookupOf : ℕ → ℤ → ℤ → ℕ → EdgeLookup
+unfoldable pub lookup_of : ℕ → ℤ → ℤ → ℕ → EdgeLookup
 unfolding joined
-lookupOf t row col orientation =
+lookup_of t row col orientation =
     cond (eqb orientation 0) (joined t col row (col +ℤ pos 1) row) (joined t col row col (row +ℤ pos 1))

@@ -5,10 +5,10 @@ use Rattle.std.proofs.Math.Path.{sym, ap}
 use Rattle.std.proofs.Common.{subst, ◌∙◌, arith, leb→le}
 use Rattle.std.proofs.Math.IntN.{suc_ℤ, +ℤ_one, +ℤ_assoc, +ℤ_comm, *ℤ_comm, suc_ℤ-*ℤ}
 use Rattle.std.specs.Int.Signed.{lt_z}
-use Rattle.laws.specs.Words.{eqZ}
-use Rattle.laws.specs.Whole.{abs-add, abs-sub, abs-mul, eq-eqZ, ne-eqZ}
+use Rattle.laws.specs.Words.{eq_z}
+use Rattle.laws.specs.Whole.{abs-add, abs-sub, abs-mul, eq-eq_z, ne-eq_z}
 use Rattle.board.specs.declared.edge.EdgeLookup.{EdgeLookup}
-use Rattle.board.specs.Transform.{mat, matrices, mapped, lookupOfEnds, joined, lookupOf}
+use Rattle.board.specs.Transform.{mat, matrices, mapped, lookup_of_ends, joined, lookup_of}
 
 -- ---- what holds of every element of a list and of the default holds of `get_or`
 left : (a b : Bool) → T (a && b) → T a
@@ -83,17 +83,17 @@ module _ (t i : ℕ) (col row : ℤ) where
 
 -- ---- the three cases of the lookup
 module _ (c r d s : ℤ) where
-  pub flat : (x y : ℤ) → r ≡ s → x ≡ r -ℤ pos 1 → y ≡ cond (lt_z c d) c d → record { orientation = 0; row = x; col = y } ≡ lookupOfEnds c r d s
-  unfolding lookupOfEnds
-  flat x y e p q = rw (eq-eqZ r s e, p, q)
+  pub flat : (x y : ℤ) → r ≡ s → x ≡ r -ℤ pos 1 → y ≡ cond (lt_z c d) c d → record { orientation = 0; row = x; col = y } ≡ lookup_of_ends c r d s
+  unfolding lookup_of_ends
+  flat x y e p q = rw (eq-eq_z r s e, p, q)
 
-  pub rising : (x y : ℤ) → (r ≡ s → ⊥) → lt_z r s ≡ true → x ≡ r → y ≡ c -ℤ pos 1 → record { orientation = 1; row = x; col = y } ≡ lookupOfEnds c r d s
-  unfolding lookupOfEnds
-  rising x y n t p q = rw (ne-eqZ r s n, t, p, q)
+  pub rising : (x y : ℤ) → (r ≡ s → ⊥) → lt_z r s ≡ true → x ≡ r → y ≡ c -ℤ pos 1 → record { orientation = 1; row = x; col = y } ≡ lookup_of_ends c r d s
+  unfolding lookup_of_ends
+  rising x y n t p q = rw (ne-eq_z r s n, t, p, q)
 
-  pub falling : (x y : ℤ) → (r ≡ s → ⊥) → lt_z r s ≡ false → x ≡ s → y ≡ d -ℤ pos 1 → record { orientation = 1; row = x; col = y } ≡ lookupOfEnds c r d s
-  unfolding lookupOfEnds
-  falling x y n t p q = rw (ne-eqZ r s n, t, p, q)
+  pub falling : (x y : ℤ) → (r ≡ s → ⊥) → lt_z r s ≡ false → x ≡ s → y ≡ d -ℤ pos 1 → record { orientation = 1; row = x; col = y } ≡ lookup_of_ends c r d s
+  unfolding lookup_of_ends
+  falling x y n t p q = rw (ne-eq_z r s n, t, p, q)
 
 -- ---- a lookup of an edge in range lies near
 abbrev Near : EdgeLookup → Type 0
@@ -109,9 +109,9 @@ less z h = omega (arith, abs-sub z (pos 1))
 more : (z : ℤ) → nat_abs z ≤ 1000000 → nat_abs (z +ℤ pos 1) ≤ 1000001
 more z h = omega (arith, abs-add z (pos 1))
 
-ends-near : (c r d s : ℤ) → nat_abs c ≤ 2000001 → nat_abs r ≤ 2000001 → nat_abs d ≤ 2000001 → nat_abs s ≤ 2000001 → Near (lookupOfEnds c r d s)
-unfolding lookupOfEnds
-ends-near c r d s hc hr hd hs = go (eqZ r s)
+ends-near : (c r d s : ℤ) → nat_abs c ≤ 2000001 → nat_abs r ≤ 2000001 → nat_abs d ≤ 2000001 → nat_abs s ≤ 2000001 → Near (lookup_of_ends c r d s)
+unfolding lookup_of_ends
+ends-near c r d s hc hr hd hs = go (eq_z r s)
   where
     wide : (z : ℤ) → nat_abs z ≤ 2000001 → nat_abs z ≤ 2000002
     wide z h = omega arith
@@ -131,8 +131,8 @@ joined-near t c r d s p q = ends-near (mapped t 0 c r) (mapped t 1 c r) (mapped 
     other i = omega (arith, mapped-abs t i d s, q)
 
 pub lookup-near : (t : ℕ) (row col : ℤ) (o : ℕ) → nat_abs row ≤ 1000000 → nat_abs col ≤ 1000000
-    → (nat_abs (lookupOf t row col o).row ≤ 2000002) × (nat_abs (lookupOf t row col o).col ≤ 2000002)
-unfolding lookupOf
+    → (nat_abs (lookup_of t row col o).row ≤ 2000002) × (nat_abs (lookup_of t row col o).col ≤ 2000002)
+unfolding lookup_of
 lookup-near t row col o p q = go (eqb o 0)
   where
     go : (b : Bool) → Near (cond b (joined t col row (col +ℤ pos 1) row) (joined t col row col (row +ℤ pos 1)))

@@ -7,22 +7,22 @@ use Rattle.std.proofs.Math.Arith.{digits_div, digits_mod}
 use Rattle.std.proofs.Math.ListN.{get_or}
 use Rattle.std.specs.Float.Ieee.{nan, add}
 use Rattle.std.specs.Float.{binary32}
-use Rattle.laws.specs.Words.{fold, all, zeroF}
+use Rattle.laws.specs.Words.{fold, all, zero_f}
 use Rattle.laws.specs.PlusZero.{add-plus-zero}
 use Rattle.laws.specs.Residues.{below-3}
 use Rattle.laws.specs.Tests.{split}
 use Rattle.laws.specs.Zone.{zone-none}
 use Rattle.board.specs.Hits.{Board}
-use Rattle.board.specs.Sides.{table_of, periodOf}
+use Rattle.board.specs.Sides.{table_of, period_of}
 use Rattle.board.specs.HitsLaws.{side-some}
 use Rattle.terms.specs.declared.FamilyTerm.{FamilyTerm}
 use Rattle.cells.specs.Spread.{Fits, Spread, fits_next, spread-next, fits-perm, spread-perm}
-use Rattle.terms.specs.Terms.{term, Terms, noTerm, placesN, placesF}
+use Rattle.terms.specs.Terms.{term, Terms, no_term, places_n, places_f}
 use Rattle.terms.specs.TermsLaws.{terms-at, no-term}
-use Rattle.cells.specs.Cells.{longClass, shortClass}
-use Rattle.cells.specs.Credit.{stepped, termIn, CountsFit, WeightsFit, CountsAdded, WeightsAdded, CountsIn, WeightsIn, runPlace, entry, runTerm, fourPlace, fourTerm, Standing, RunReady, RunCells, RunCredited, cellPattern, FamilyReady, FamilyCredited}
+use Rattle.cells.specs.Cells.{long_class, short_class}
+use Rattle.cells.specs.Credit.{stepped, term_in, CountsFit, WeightsFit, CountsAdded, WeightsAdded, CountsIn, WeightsIn, run_place, entry, run_term, four_place, four_term, Standing, RunReady, RunCells, RunCredited, cell_pattern, FamilyReady, FamilyCredited}
 use Rattle.room.specs.declared.Side.{Side}
-use Rattle.room.specs.Room.{isHorizontal, stride_of, acrossOf}
+use Rattle.room.specs.Room.{is_horizontal, stride_of, across_of}
 use Rattle.cells.specs.LayoutLaws.{stand, short-below}
 use Rattle.cells.specs.RunLaws.{run-place, run-term, after-long, after-short, pattern-small, first-places, first-inside, first_holds, second-place, second-places, second-inside, second-fresh, second_holds, family-zone}
 
@@ -44,23 +44,23 @@ below-four : (P : ℕ → Type 0) → P 0 → P 1 → P 2 → P 3 → (m : ℕ) 
 below-four P a b c d m h = ⊎_elim (λ e. subst P (sym e) d) (below-3 P a b c m) (split m 3 (omega arith))
 
 module _ {A : Type 0} (d : A) (op : A → A → A) (takes : A → A → Type 0) (of : FamilyTerm → A) (terms : List (List FamilyTerm)) (part : List ℕ) (n at stride across : ℕ) (old : List A)
-    (F : Fits d op takes (runPlace at stride across) (λ j. of (runTerm noTerm terms part j)) (n * 3) old) where
+    (F : Fits d op takes (run_place at stride across) (λ j. of (run_term no_term terms part j)) (n * 3) old) where
   -- the first q cells are done
   abbrev Done : ℕ → List A → Type 0
-  Done q l = Spread d op (runPlace at stride across) (λ j. of (runTerm noTerm terms part j)) q old l
+  Done q l = Spread d op (run_place at stride across) (λ j. of (run_term no_term terms part j)) q old l
 
   -- class i, with its row of terms; its cells stand from k on
   module _ (i k : ℕ) (row : List FamilyTerm) (hi : i < n) (ek : k ≡ at + i * stride) (er : row ≡ get_or terms (get_or part i 0) []) (mid : List A) (s : Done (i * 3) mid) where
-    class-place : (j : ℕ) → j < 3 → runPlace at stride across (i * 3 + j) ≡ stepped k across j
+    class-place : (j : ℕ) → j < 3 → run_place at stride across (i * 3 + j) ≡ stepped k across j
     class-place j h = run-place at stride across i j h ∙ sym (add_assoc at (i * stride) (j * across)) ∙ ap (λ x. x + j * across) (sym ek)
 
-    class-term : (j : ℕ) → j < 3 → of (runTerm noTerm terms part (i * 3 + j)) ≡ of (termIn row j)
-    class-term j h = ap of (run-term noTerm terms part i j h ∙ ap (λ r. get_or r j noTerm) (sym er))
+    class-term : (j : ℕ) → j < 3 → of (run_term no_term terms part (i * 3 + j)) ≡ of (term_in row j)
+    class-term j h = ap of (run-term no_term terms part i j h ∙ ap (λ r. get_or r j no_term) (sym er))
 
-    pub class-fits : Fits d op takes (stepped k across) (λ j. of (termIn row j)) 3 mid
+    pub class-fits : Fits d op takes (stepped k across) (λ j. of (term_in row j)) 3 mid
     class-fits = fits_next d op takes _ _ (n * 3) old F (i * 3) mid s (stepped k across) _ 3 (omega arith) class-place class-term
 
-    pub class-more : (q : ℕ) → q ≡ (i + 1) * 3 → (new : List A) → Spread d op (stepped k across) (λ j. of (termIn row j)) 3 mid new → Done q new
+    pub class-more : (q : ℕ) → q ≡ (i + 1) * 3 → (new : List A) → Spread d op (stepped k across) (λ j. of (term_in row j)) 3 mid new → Done q new
     class-more q e new u = spread-next d op takes _ _ (n * 3) old F (i * 3) mid s (stepped k across) _ 3 (omega arith) class-place class-term q (omega arith) new u
 
   -- four neighbouring classes from the i-th on, short class by short class
@@ -75,10 +75,10 @@ module _ {A : Type 0} (d : A) (op : A → A → A) (takes : A → A → Type 0) 
 
     -- the same cells, class by class
     abbrev place : ℕ → ℕ
-    place j = runPlace at stride across (i * 3 + j)
+    place j = run_place at stride across (i * 3 + j)
 
     abbrev said : ℕ → A
-    said j = of (runTerm noTerm terms part (i * 3 + j))
+    said j = of (run_term no_term terms part (i * 3 + j))
 
     abbrev turn : ℕ → ℕ
     turn j = j % 4 * 3 + j / 4
@@ -92,69 +92,69 @@ module _ {A : Type 0} (d : A) (op : A → A → A) (takes : A → A → Type 0) 
     later : (a b : ℕ) → i * 3 + (a * 3 + b) ≡ (i + a) * 3 + b
     later a b = omega arith
 
-    four-place : (j : ℕ) → j < 12 → place (turn j) ≡ fourPlace k across j
-    unfolding fourPlace
-    four-place j h = ap (runPlace at stride across) (later (j % 4) (j / 4)) ∙ run-place at stride across (i + j % 4) (j / 4) (third j h) ∙ rw (one, ek) (omega arith)
+    four-place : (j : ℕ) → j < 12 → place (turn j) ≡ four_place k across j
+    unfolding four_place
+    four-place j h = ap (run_place at stride across) (later (j % 4) (j / 4)) ∙ run-place at stride across (i + j % 4) (j / 4) (third j h) ∙ rw (one, ek) (omega arith)
 
-    four-term : (j : ℕ) → j < 12 → said (turn j) ≡ of (fourTerm rows j)
-    unfolding fourTerm
+    four-term : (j : ℕ) → j < 12 → said (turn j) ≡ of (four_term rows j)
+    unfolding four_term
     four-term j h =
-        ap (λ x. of (runTerm noTerm terms part x)) (later (j % 4) (j / 4))
-        ∙ ap of (run-term noTerm terms part (i + j % 4) (j / 4) (third j h) ∙ ap (λ r. get_or r (j / 4) noTerm) (sym (row-at (j % 4) (mod-lt j (lit< tt)))))
+        ap (λ x. of (run_term no_term terms part x)) (later (j % 4) (j / 4))
+        ∙ ap of (run-term no_term terms part (i + j % 4) (j / 4) (third j h) ∙ ap (λ r. get_or r (j / 4) no_term) (sym (row-at (j % 4) (mod-lt j (lit< tt)))))
 
-    pub four-fits : Fits d op takes (fourPlace k across) (λ j. of (fourTerm rows j)) 12 mid
+    pub four-fits : Fits d op takes (four_place k across) (λ j. of (four_term rows j)) 12 mid
     four-fits =
-        fits-perm d op place (fourPlace k across) said _ 12 turn back four-turn four-back four-place four-term takes mid
+        fits-perm d op place (four_place k across) said _ 12 turn back four-turn four-back four-place four-term takes mid
         (fits_next d op takes _ _ (n * 3) old F (i * 3) mid s place said 12 (omega arith) (λ j h. refl) (λ j h. refl))
 
-    pub four-more : (q : ℕ) → q ≡ (i + 4) * 3 → (new : List A) → Spread d op (fourPlace k across) (λ j. of (fourTerm rows j)) 12 mid new → Done q new
+    pub four-more : (q : ℕ) → q ≡ (i + 4) * 3 → (new : List A) → Spread d op (four_place k across) (λ j. of (four_term rows j)) 12 mid new → Done q new
     four-more q e new u =
         spread-next d op takes _ _ (n * 3) old F (i * 3) mid s place said 12 (omega arith) (λ j h. refl) (λ j h. refl) q (omega arith) new
-        (spread-perm d op place (fourPlace k across) said _ 12 turn back four-turn four-back four-place four-term mid new u)
+        (spread-perm d op place (four_place k across) said _ 12 turn back four-turn four-back four-place four-term mid new u)
 
   -- the other classes, where m are done: a run of its own
   module _ (m r : ℕ) (e : m + r ≡ n) (mid : List A) (s : Done (m * 3) mid) where
-    rest-place : (j : ℕ) → j < r * 3 → runPlace at stride across (m * 3 + j) ≡ runPlace (at + m * stride) stride across j
-    unfolding runPlace
+    rest-place : (j : ℕ) → j < r * 3 → run_place at stride across (m * 3 + j) ≡ run_place (at + m * stride) stride across j
+    unfolding run_place
     rest-place j h = rw (after-long m j, after-short m j) (omega arith)
 
-    rest-term : (j : ℕ) → j < r * 3 → of (runTerm noTerm terms part (m * 3 + j)) ≡ of (runTerm noTerm terms (drop m part) j)
-    unfolding runTerm
-    rest-term j h = rw (after-long m j, after-short m j) (ap (λ (p : ℕ). of (entry noTerm terms p (j % 3))) (sym (get_or-drop m part (j / 3) 0)))
+    rest-term : (j : ℕ) → j < r * 3 → of (run_term no_term terms part (m * 3 + j)) ≡ of (run_term no_term terms (drop m part) j)
+    unfolding run_term
+    rest-term j h = rw (after-long m j, after-short m j) (ap (λ (p : ℕ). of (entry no_term terms p (j % 3))) (sym (get_or-drop m part (j / 3) 0)))
 
-    pub rest-fits : Fits d op takes (runPlace (at + m * stride) stride across) (λ j. of (runTerm noTerm terms (drop m part) j)) (r * 3) mid
+    pub rest-fits : Fits d op takes (run_place (at + m * stride) stride across) (λ j. of (run_term no_term terms (drop m part) j)) (r * 3) mid
     rest-fits = fits_next d op takes _ _ (n * 3) old F (m * 3) mid s _ _ (r * 3) (omega arith) rest-place rest-term
 
-    pub rest-done : (new : List A) → Spread d op (runPlace (at + m * stride) stride across) (λ j. of (runTerm noTerm terms (drop m part) j)) (r * 3) mid new → Done (n * 3) new
+    pub rest-done : (new : List A) → Spread d op (run_place (at + m * stride) stride across) (λ j. of (run_term no_term terms (drop m part) j)) (r * 3) mid new → Done (n * 3) new
     rest-done new u = spread-next d op takes _ _ (n * 3) old F (m * 3) mid s _ _ (r * 3) (omega arith) rest-place rest-term (n * 3) (omega arith) new u
 
 -- ---- four classes: the four neighbours of short class m
-pub first-across : (k across m : ℕ) → fourPlace k across (m * 4 + 0) ≡ k + m * across
-unfolding fourPlace
+pub first-across : (k across m : ℕ) → four_place k across (m * 4 + 0) ≡ k + m * across
+unfolding four_place
 first-across k across m = rw (digits_mod m {m = 4} {r = 0} (lit< tt), digits_div m {m = 4} {r = 0} (lit< tt)) (omega arith)
 
 module _ {A : Type 0} (d : A) (op : A → A → A) (takes : A → A → Type 0) (of : FamilyTerm → A) (k across : ℕ) (r₀ r₁ r₂ r₃ : List FamilyTerm) (old : List A)
-    (F : Fits d op takes (fourPlace k across) (λ j. of (fourTerm (r₀ ∷ r₁ ∷ r₂ ∷ r₃ ∷ []) j)) 12 old) (m k' : ℕ) (hm : m < 3) (ek : k' ≡ k + m * across)
-    (mid : List A) (s : Spread d op (fourPlace k across) (λ j. of (fourTerm (r₀ ∷ r₁ ∷ r₂ ∷ r₃ ∷ []) j)) (m * 4) old mid) where
+    (F : Fits d op takes (four_place k across) (λ j. of (four_term (r₀ ∷ r₁ ∷ r₂ ∷ r₃ ∷ []) j)) 12 old) (m k' : ℕ) (hm : m < 3) (ek : k' ≡ k + m * across)
+    (mid : List A) (s : Spread d op (four_place k across) (λ j. of (four_term (r₀ ∷ r₁ ∷ r₂ ∷ r₃ ∷ []) j)) (m * 4) old mid) where
   abbrev four : List (List FamilyTerm)
   four = r₀ ∷ r₁ ∷ r₂ ∷ r₃ ∷ []
 
   abbrev abreast : List FamilyTerm
-  abreast = get_or r₀ m noTerm ∷ get_or r₁ m noTerm ∷ get_or r₂ m noTerm ∷ get_or r₃ m noTerm ∷ []
+  abreast = get_or r₀ m no_term ∷ get_or r₁ m no_term ∷ get_or r₂ m no_term ∷ get_or r₃ m no_term ∷ []
 
-  abreast-place : (j : ℕ) → j < 4 → fourPlace k across (m * 4 + j) ≡ stepped k' 1 j
-  unfolding fourPlace
+  abreast-place : (j : ℕ) → j < 4 → four_place k across (m * 4 + j) ≡ stepped k' 1 j
+  unfolding four_place
   abreast-place j h = rw (digits_mod m h, digits_div m h, ek) (omega arith)
 
-  abreast-term : (j : ℕ) → j < 4 → of (fourTerm four (m * 4 + j)) ≡ of (termIn abreast j)
-  unfolding fourTerm
-  abreast-term j h = ap of (rw (digits_mod m h, digits_div m h) (below-four (λ j. get_or (get_or four j []) m noTerm ≡ termIn abreast j) refl refl refl refl j h))
+  abreast-term : (j : ℕ) → j < 4 → of (four_term four (m * 4 + j)) ≡ of (term_in abreast j)
+  unfolding four_term
+  abreast-term j h = ap of (rw (digits_mod m h, digits_div m h) (below-four (λ j. get_or (get_or four j []) m no_term ≡ term_in abreast j) refl refl refl refl j h))
 
-  pub abreast-fits : Fits d op takes (stepped k' 1) (λ j. of (termIn abreast j)) 4 mid
+  pub abreast-fits : Fits d op takes (stepped k' 1) (λ j. of (term_in abreast j)) 4 mid
   abreast-fits = fits_next d op takes _ _ 12 old F (m * 4) mid s (stepped k' 1) _ 4 (omega arith) abreast-place abreast-term
 
-  pub abreast-more : (q : ℕ) → q ≡ m * 4 + 4 → (new : List A) → Spread d op (stepped k' 1) (λ j. of (termIn abreast j)) 4 mid new
-      → Spread d op (fourPlace k across) (λ j. of (fourTerm four j)) q old new
+  pub abreast-more : (q : ℕ) → q ≡ m * 4 + 4 → (new : List A) → Spread d op (stepped k' 1) (λ j. of (term_in abreast j)) 4 mid new
+      → Spread d op (four_place k across) (λ j. of (four_term four j)) q old new
   abreast-more q e new u = spread-next d op takes _ _ 12 old F (m * 4) mid s (stepped k' 1) _ 4 (omega arith) abreast-place abreast-term q e new u
 
 -- which way a side's cells stand
@@ -172,10 +172,10 @@ stride-small stride across (inr s) = omega arith
 
 -- what a run's counts and weights ask
 module _ (terms : List (List FamilyTerm)) (part : List ℕ) (n at stride across : ℕ) (c : List ℕ) (w : List Float) (R : RunReady terms part n at stride across c w) where
-  pub run-counts : CountsFit (runPlace at stride across) (runTerm noTerm terms part) (n * 3) c
+  pub run-counts : CountsFit (run_place at stride across) (run_term no_term terms part) (n * 3) c
   run-counts = record { inside = λ j h. (R.inside j h).0; apart = R.places.apart; taken = R.fits }
 
-  pub run-weights : WeightsFit (runPlace at stride across) (runTerm noTerm terms part) (n * 3) w
+  pub run-weights : WeightsFit (run_place at stride across) (run_term no_term terms part) (n * 3) w
   run-weights = record { inside = λ j h. (R.inside j h).1; apart = R.places.apart; taken = λ j h. tt }
 
   -- class i, where those before are done; its cells stand from k on
@@ -187,17 +187,17 @@ module _ (terms : List (List FamilyTerm)) (part : List ℕ) (n at stride across 
     cell_in = let a = subst (λ (x : ℕ). x < length c) (run-place at stride across i 0 (lit< tt)) (R.inside (i * 3 + 0) (omega arith)).0 in omega arith
 
     module _ (l : List ℕ) (d : CountsIn terms part at stride across (i * 3) c l) where
-      pub counts-fit : CountsFit (stepped k across) (termIn row) 3 l
+      pub counts-fit : CountsFit (stepped k across) (term_in row) 3 l
       counts-fit = class-fits 0 ◌+◌ _ (λ x. x.count) terms part n at stride across c run-counts i k row h ek refl l d
 
-      pub counts-more : (q : ℕ) → q ≡ (i + 1) * 3 → (l' : List ℕ) → CountsAdded (stepped k across) (termIn row) 3 l l' → CountsIn terms part at stride across q c l'
+      pub counts-more : (q : ℕ) → q ≡ (i + 1) * 3 → (l' : List ℕ) → CountsAdded (stepped k across) (term_in row) 3 l l' → CountsIn terms part at stride across q c l'
       counts-more q e l' u = class-more 0 ◌+◌ _ (λ x. x.count) terms part n at stride across c run-counts i k row h ek refl l d q e l' u
 
     module _ (l : List Float) (d : WeightsIn terms part at stride across (i * 3) w l) where
-      pub weights-fit : WeightsFit (stepped k across) (termIn row) 3 l
+      pub weights-fit : WeightsFit (stepped k across) (term_in row) 3 l
       weights-fit = class-fits nan (add binary32) _ (λ x. x.weight) terms part n at stride across w run-weights i k row h ek refl l d
 
-      pub weights-more : (q : ℕ) → q ≡ (i + 1) * 3 → (l' : List Float) → WeightsAdded (stepped k across) (termIn row) 3 l l' → WeightsIn terms part at stride across q w l'
+      pub weights-more : (q : ℕ) → q ≡ (i + 1) * 3 → (l' : List Float) → WeightsAdded (stepped k across) (term_in row) 3 l l' → WeightsIn terms part at stride across q w l'
       weights-more q e l' u = class-more nan (add binary32) _ (λ x. x.weight) terms part n at stride across w run-weights i k row h ek refl l d q e l' u
 
   -- four classes from the i-th on, whose cells stand side by side from k on
@@ -205,21 +205,21 @@ module _ (terms : List (List FamilyTerm)) (part : List ℕ) (n at stride across 
     abbrev row_at : ℕ → List FamilyTerm
     row_at j = get_or terms (get_or part (i + j) 0) []
 
-    abbrev fourRows : List (List FamilyTerm)
-    fourRows = get_or terms (get_or part i 0) [] ∷ row_at 1 ∷ row_at 2 ∷ row_at 3 ∷ []
+    abbrev four_rows : List (List FamilyTerm)
+    four_rows = get_or terms (get_or part i 0) [] ∷ row_at 1 ∷ row_at 2 ∷ row_at 3 ∷ []
 
     module _ (l : List ℕ) (d : CountsIn terms part at stride across (i * 3) c l) where
-      pub four-counts-fit : CountsFit (fourPlace k across) (fourTerm fourRows) 12 l
+      pub four-counts-fit : CountsFit (four_place k across) (four_term four_rows) 12 l
       four-counts-fit = four-fits 0 ◌+◌ _ (λ x. x.count) terms part n at stride across c run-counts one i k _ _ _ _ h ek refl refl refl refl l d
 
-      pub four-counts-more : (q : ℕ) → q ≡ (i + 4) * 3 → (l' : List ℕ) → CountsAdded (fourPlace k across) (fourTerm fourRows) 12 l l' → CountsIn terms part at stride across q c l'
+      pub four-counts-more : (q : ℕ) → q ≡ (i + 4) * 3 → (l' : List ℕ) → CountsAdded (four_place k across) (four_term four_rows) 12 l l' → CountsIn terms part at stride across q c l'
       four-counts-more q e l' u = four-more 0 ◌+◌ _ (λ x. x.count) terms part n at stride across c run-counts one i k _ _ _ _ h ek refl refl refl refl l d q e l' u
 
     module _ (l : List Float) (d : WeightsIn terms part at stride across (i * 3) w l) where
-      pub four-weights-fit : WeightsFit (fourPlace k across) (fourTerm fourRows) 12 l
+      pub four-weights-fit : WeightsFit (four_place k across) (four_term four_rows) 12 l
       four-weights-fit = four-fits nan (add binary32) _ (λ x. x.weight) terms part n at stride across w run-weights one i k _ _ _ _ h ek refl refl refl refl l d
 
-      pub four-weights-more : (q : ℕ) → q ≡ (i + 4) * 3 → (l' : List Float) → WeightsAdded (fourPlace k across) (fourTerm fourRows) 12 l l' → WeightsIn terms part at stride across q w l'
+      pub four-weights-more : (q : ℕ) → q ≡ (i + 4) * 3 → (l' : List Float) → WeightsAdded (four_place k across) (four_term four_rows) 12 l l' → WeightsIn terms part at stride across q w l'
       four-weights-more q e l' u = four-more nan (add binary32) _ (λ x. x.weight) terms part n at stride across w run-weights one i k _ _ _ _ h ek refl refl refl refl l d q e l' u
 
   -- the first cell of the next class is no larger than a number can be, also where there is no next class
@@ -272,19 +272,19 @@ module _ (terms : List (List FamilyTerm)) (part : List ℕ) (n at stride across 
     }
 
 -- ---- a family that holds no edge: nothing is stored
-pub family-empty : (B : Board) (d : Side) (f : ℕ) (c : List ℕ) (w : List Float) → FamilyReady B d f c w → fold ◌+◌ 0 6 all (placesN (d.groups + f * 6) c) ≡ 0 → FamilyCredited B d f c c w w
-family-empty B d f c w R none = let s = isHorizontal d in let cells = d.cells in let groups = d.groups in record {
-  counts = zone-none 0 _ cells (3 * periodOf B s) c (λ k h. sym (ap (λ x. placesN cells c k + x) (no-term (placesN (groups + f * 6) c) none (cellPattern B s f k) (shortClass B s k) ◌+◌ 0 false (λ b. placesN (groups + f * 6) c)) ∙ add-zero (placesN cells c k)));
+pub family-empty : (B : Board) (d : Side) (f : ℕ) (c : List ℕ) (w : List Float) → FamilyReady B d f c w → fold ◌+◌ 0 6 all (places_n (d.groups + f * 6) c) ≡ 0 → FamilyCredited B d f c c w w
+family-empty B d f c w R none = let s = is_horizontal d in let cells = d.cells in let groups = d.groups in record {
+  counts = zone-none 0 _ cells (3 * period_of B s) c (λ k h. sym (ap (λ x. places_n cells c k + x) (no-term (places_n (groups + f * 6) c) none (cell_pattern B s f k) (short_class B s k) ◌+◌ 0 false (λ b. places_n (groups + f * 6) c)) ∙ add-zero (places_n cells c k)));
   weights =
-      zone-none nan _ cells (3 * periodOf B s) w
-      (λ k h. sym (ap (add binary32 (placesF cells w k)) (no-term (placesN (groups + f * 6) c) none (cellPattern B s f k) (shortClass B s k) (add binary32) zeroF false (λ b. placesF (groups + f * 6) w)) ∙ add-plus-zero (placesF cells w k) (R.plain k h)));
+      zone-none nan _ cells (3 * period_of B s) w
+      (λ k h. sym (ap (add binary32 (places_f cells w k)) (no-term (places_n (groups + f * 6) c) none (cell_pattern B s f k) (short_class B s k) (add binary32) zero_f false (λ b. places_f (groups + f * 6) w)) ∙ add-plus-zero (places_f cells w k) (R.plain k h)));
 }
 
 -- ---- a family, where its terms stand in a table
 module _ (B : Board) (d : Side) (f : ℕ) (c : List ℕ) (w : List Float) (R : FamilyReady B d f c w)
-    (t : List (List FamilyTerm)) (T : Terms (placesN (d.groups + f * 6) c) (placesF (d.groups + f * 6) w) t) where
+    (t : List (List FamilyTerm)) (T : Terms (places_n (d.groups + f * 6) c) (places_f (d.groups + f * 6) w) t) where
   abbrev s : Bool
-  s = isHorizontal d
+  s = is_horizontal d
 
   abbrev cells : ℕ
   cells = d.cells
@@ -300,23 +300,23 @@ module _ (B : Board) (d : Side) (f : ℕ) (c : List ℕ) (w : List Float) (R : F
 
   -- what the family adds to cell k
   abbrev gain : ℕ → FamilyTerm
-  gain k = term (placesN (groups + f * 6) c) (placesF (groups + f * 6) w) (cellPattern B s f k) (shortClass B s k)
+  gain k = term (places_n (groups + f * 6) c) (places_f (groups + f * 6) w) (cell_pattern B s f k) (short_class B s k)
 
-  gains : (k : ℕ) → k < 3 * periodOf B s → entry noTerm t (cellPattern B s f k) (shortClass B s k) ≡ gain k
+  gains : (k : ℕ) → k < 3 * period_of B s → entry no_term t (cell_pattern B s f k) (short_class B s k) ≡ gain k
   gains k h =
-      terms-at (placesN (groups + f * 6) c) (placesF (groups + f * 6) w) t (cellPattern B s f k) (shortClass B s k) T (pattern-small B d f R.places (longClass B s k + f)) (short-below B (side-some B R.places.board) k s h)
+      terms-at (places_n (groups + f * 6) c) (places_f (groups + f * 6) w) t (cell_pattern B s f k) (short_class B s k) T (pattern-small B d f R.places (long_class B s k + f)) (short-below B (side-some B R.places.board) k s h)
 
   abbrev Room : ℕ → FamilyTerm → Type 0
   Room k x = get_or c k 0 + x.count < 2 ^ 32
 
-  room : (k : ℕ) → k < 3 * periodOf B s → Room (cells + k) (gain k)
+  room : (k : ℕ) → k < 3 * period_of B s → Room (cells + k) (gain k)
   unfolding term
   room k h = R.fits k h
 
   standing : Standing d.stride d.across
   standing = rw (R.places.steps.0, R.places.steps.1) (of s)
     where
-      of : (s : Bool) → Standing (stride_of s) (acrossOf (periodOf B false) s)
+      of : (s : Bool) → Standing (stride_of s) (across_of (period_of B false) s)
       of true = inl (refl, refl)
       of false = inr refl
 
@@ -325,7 +325,7 @@ module _ (B : Board) (d : Side) (f : ℕ) (c : List ℕ) (w : List Float) (R : F
     standing = standing;
     places = first-places B d f R.places;
     inside = λ j h. (first-inside B d f R.places (length c) R.room.0 j h, first-inside B d f R.places (length w) R.room.1 j h);
-    fits = first_holds B d f R.places noTerm t gain gains Room room;
+    fits = first_holds B d f R.places no_term t gain gains Room room;
   })
 
   -- the second run, after the first
@@ -340,12 +340,12 @@ module _ (B : Board) (d : Side) (f : ℕ) (c : List ℕ) (w : List Float) (R : F
       );
       fits = λ j h.
           rw (second-place B d f R.places, r₁.counts.rest (cells + stand B s (n₁ * 3 + j)) (second-fresh B d f R.places j h))
-          (second_holds B d f R.places noTerm t gain gains Room room j h);
+          (second_holds B d f R.places no_term t gain gains Room room j h);
     })
 
     pub family-credited : (c₂ : List ℕ) (w₂ : List Float) → RunCredited t (drop 0 ps) f (cells + n₁ * d.stride) d.stride d.across c₁ c₂ w₁ w₂ → FamilyCredited B d f c c₂ w w₂
     unfolding term
     family-credited c₂ w₂ r₂ = record {
-      counts = family-zone B d f R.places noTerm t gain gains 0 ◌+◌ (λ x. x.count) c c₁ c₂ r₁.counts r₂.counts;
-      weights = family-zone B d f R.places noTerm t gain gains nan (add binary32) (λ x. x.weight) w w₁ w₂ r₁.weights r₂.weights;
+      counts = family-zone B d f R.places no_term t gain gains 0 ◌+◌ (λ x. x.count) c c₁ c₂ r₁.counts r₂.counts;
+      weights = family-zone B d f R.places no_term t gain gains nan (add binary32) (λ x. x.weight) w w₁ w₂ r₁.weights r₂.weights;
     }

@@ -7,23 +7,23 @@ use native.Mathlib.Omega.{arith}
 use Rattle.std.proofs.Math.Arith.{digits_div, digits_mod}
 use Rattle.laws.specs.Zone.{Zone, zone-ext}
 use Rattle.board.specs.Hits.{Board}
-use Rattle.board.specs.Sides.{table_of, periodOf}
+use Rattle.board.specs.Sides.{table_of, period_of}
 use Rattle.board.specs.Domain.{Patterns}
 use Rattle.board.specs.HitsLaws.{side-some}
 use Rattle.cells.specs.Spread.{Spread, spread-more, spread-ext, spread-then, spread-zone}
-use Rattle.cells.specs.Cells.{shortClass, patternAt}
-use Rattle.cells.specs.Credit.{runPlace, entry, runTerm, RunPlaces, cellPattern, FamilyPlaces}
+use Rattle.cells.specs.Cells.{short_class, pattern_at}
+use Rattle.cells.specs.Credit.{run_place, entry, run_term, RunPlaces, cell_pattern, FamilyPlaces}
 use Rattle.room.specs.declared.Side.{Side}
-use Rattle.room.specs.Room.{isHorizontal, stride_of, acrossOf}
+use Rattle.room.specs.Room.{is_horizontal, stride_of, across_of}
 use Rattle.cells.specs.LayoutLaws.{stand, turn, stand-in, stand-apart, turn_in, turn-long, turn-short, stand-turn, turn-stand}
 
 -- ---- a run, cell by cell
-pub run-place : (at stride across i j : ℕ) → j < 3 → runPlace at stride across (i * 3 + j) ≡ at + (i * stride + j * across)
-unfolding runPlace
+pub run-place : (at stride across i j : ℕ) → j < 3 → run_place at stride across (i * 3 + j) ≡ at + (i * stride + j * across)
+unfolding run_place
 run-place at stride across i j h = rw (digits_div i h, digits_mod i h)
 
-pub run-term : {X : Type 0} (d : X) (terms : List (List X)) (part : List ℕ) (i j : ℕ) → j < 3 → runTerm d terms part (i * 3 + j) ≡ entry d terms (get_or part i 0) j
-unfolding runTerm
+pub run-term : {X : Type 0} (d : X) (terms : List (List X)) (part : List ℕ) (i j : ℕ) → j < 3 → run_term d terms part (i * 3 + j) ≡ entry d terms (get_or part i 0) j
+unfolding run_term
 run-term d terms part i j h = rw (digits_div i h, digits_mod i h)
 
 -- the cell at place k, of short class j of class i, is the q-th
@@ -31,24 +31,24 @@ module _ (part : List ℕ) (n at stride across : ℕ) (R : RunPlaces part n at s
   pub in-run : q < n * 3
   in-run = omega arith
 
-  pub cell-place : k ≡ runPlace at stride across q
-  cell-place = ek ∙ sym (run-place at stride across i j hj) ∙ ap (runPlace at stride across) (sym eq)
+  pub cell-place : k ≡ run_place at stride across q
+  cell-place = ek ∙ sym (run-place at stride across i j hj) ∙ ap (run_place at stride across) (sym eq)
 
-  pub cell-term : {X : Type 0} (d : X) (terms : List (List X)) (x : X) → x ≡ entry d terms (get_or part i 0) j → x ≡ runTerm d terms part q
-  cell-term d terms x ex = ex ∙ sym (run-term d terms part i j hj) ∙ ap (runTerm d terms part) (sym eq)
+  pub cell-term : {X : Type 0} (d : X) (terms : List (List X)) (x : X) → x ≡ entry d terms (get_or part i 0) j → x ≡ run_term d terms part q
+  cell-term d terms x ex = ex ∙ sym (run-term d terms part i j hj) ∙ ap (run_term d terms part) (sym eq)
 
   -- it is none of those before
-  pub cell-fresh : (m : ℕ) → m < q → runPlace at stride across q ≡ runPlace at stride across m → ⊥
+  pub cell-fresh : (m : ℕ) → m < q → run_place at stride across q ≡ run_place at stride across m → ⊥
   cell-fresh m h e = let z = R.apart q m in-run (omega (arith, in-run)) e in omega arith
 
   -- it has its term added
-  pub cell-added : {A : Type 0} (d : A) (op : A → A → A) (T : ℕ → A) (old new new' : List A) (x : A) → Spread d op (runPlace at stride across) T q old new → runPlace at stride across q < length old → x ≡ T q
-      → new' ≡ set new k (op (get_or new k d) x) → Spread d op (runPlace at stride across) T (q + 1) old new'
-  cell-added d op T old new new' x s room e p = rw (p, cell-place) (spread-more d op (runPlace at stride across) T q old new x s cell-fresh room e)
+  pub cell-added : {A : Type 0} (d : A) (op : A → A → A) (T : ℕ → A) (old new new' : List A) (x : A) → Spread d op (run_place at stride across) T q old new → run_place at stride across q < length old → x ≡ T q
+      → new' ≡ set new k (op (get_or new k d) x) → Spread d op (run_place at stride across) T (q + 1) old new'
+  cell-added d op T old new new' x s room e p = rw (p, cell-place) (spread-more d op (run_place at stride across) T q old new x s cell-fresh room e)
 
 -- ---- two runs: the classes that read the table from the family on, and those that read it from its start
 module _ (ps : List ℕ) (f : ℕ) (h : f < length ps) where
-  first_reads : (i : ℕ) → i < length ps - f → get_or (drop f ps) i 0 ≡ patternAt ps i f
+  first_reads : (i : ℕ) → i < length ps - f → get_or (drop f ps) i 0 ≡ pattern_at ps i f
   first_reads i l = get_or-drop f ps i 0 ∙ ap (λ x. get_or ps x 0) (flip ∙ sym (mod-eq_of_lt under))
     where
       flip : f + i ≡ i + f
@@ -57,7 +57,7 @@ module _ (ps : List ℕ) (f : ℕ) (h : f < length ps) where
       under : i + f < length ps
       under = omega arith
 
-  second_reads : (i : ℕ) → i < f → get_or (drop 0 ps) i 0 ≡ patternAt ps (length ps - f + i) f
+  second_reads : (i : ℕ) → i < f → get_or (drop 0 ps) i 0 ≡ pattern_at ps (length ps - f + i) f
   second_reads i l = get_or-drop 0 ps i 0 ∙ ap (λ x. get_or ps x 0) (zero ∙ sym (ap (λ x. x % length ps) round ∙ add-mod_left (length ps) i ∙ mod-eq_of_lt under))
     where
       zero : 0 + i ≡ i
@@ -78,7 +78,7 @@ after-short n j = omega arith
 
 module _ (B : Board) (d : Side) (f : ℕ) (R : FamilyPlaces B d f) where
   abbrev s : Bool
-  s = isHorizontal d
+  s = is_horizontal d
 
   abbrev stride : ℕ
   stride = d.stride
@@ -113,11 +113,11 @@ module _ (B : Board) (d : Side) (f : ℕ) (R : FamilyPlaces B d f) where
   third j m h = omega arith
 
   -- ---- the first run
-  pub first-in : (j : ℕ) → j < n₁ * 3 → j < 3 * periodOf B s
+  pub first-in : (j : ℕ) → j < n₁ * 3 → j < 3 * period_of B s
   first-in j h = omega (arith, R.in_table)
 
-  pub first-place : (j : ℕ) → runPlace cells stride across j ≡ cells + stand B s j
-  unfolding runPlace
+  pub first-place : (j : ℕ) → run_place cells stride across j ≡ cells + stand B s j
+  unfolding run_place
   first-place j = rw (R.steps.0, R.steps.1)
 
   pub first-places : RunPlaces (drop f ps) n₁ cells stride across
@@ -127,24 +127,24 @@ module _ (B : Board) (d : Side) (f : ℕ) (R : FamilyPlaces B d f) where
     apart = λ i j h l q. stand-apart B s i j (first-in i h) (first-in j l) (cancel i j (sym (first-place i) ∙ q ∙ first-place j));
   }
 
-  pub first-inside : (room : ℕ) → cells + 3 * periodOf B s ≤ room → (j : ℕ) → j < n₁ * 3 → runPlace cells stride across j < room
+  pub first-inside : (room : ℕ) → cells + 3 * period_of B s ≤ room → (j : ℕ) → j < n₁ * 3 → run_place cells stride across j < room
   first-inside room h j l = rw first-place (omega (arith, stand-in B j s (first-in j l)))
 
   -- it ends inside the table
-  pub first-stride : n₁ * stride ≤ 3 * periodOf B s
+  pub first-stride : n₁ * stride ≤ 3 * period_of B s
   first-stride = rw R.steps.0 (go s)
     where
-      go : (s : Bool) → (length (table_of B s) - f) * stride_of s ≤ 3 * periodOf B s
+      go : (s : Bool) → (length (table_of B s) - f) * stride_of s ≤ 3 * period_of B s
       go true = omega arith
       go false = omega arith
 
   -- ---- the second run
-  pub second-in : (j : ℕ) → j < f * 3 → n₁ * 3 + j < 3 * periodOf B s
+  pub second-in : (j : ℕ) → j < f * 3 → n₁ * 3 + j < 3 * period_of B s
   second-in j h = omega (arith, R.in_table)
 
-  pub second-place : (j : ℕ) → runPlace (cells + n₁ * stride) stride across j ≡ cells + stand B s (n₁ * 3 + j)
-  unfolding runPlace
-  second-place j = rw (R.steps.0, R.steps.1, after-long n₁ j, after-short n₁ j) (arrange (stride_of s) (acrossOf (periodOf B false) s))
+  pub second-place : (j : ℕ) → run_place (cells + n₁ * stride) stride across j ≡ cells + stand B s (n₁ * 3 + j)
+  unfolding run_place
+  second-place j = rw (R.steps.0, R.steps.1, after-long n₁ j, after-short n₁ j) (arrange (stride_of s) (across_of (period_of B false) s))
     where
       arrange : (a b : ℕ) → cells + n₁ * a + (j / 3 * a + j % 3 * b) ≡ cells + ((n₁ + j / 3) * a + j % 3 * b)
       arrange a b = omega arith
@@ -159,64 +159,64 @@ module _ (B : Board) (d : Side) (f : ℕ) (R : FamilyPlaces B d f) where
       under : (i j : ℕ) → n₁ * 3 + i ≡ n₁ * 3 + j → i ≡ j
       under i j q = omega arith
 
-  pub second-inside : (room : ℕ) → cells + 3 * periodOf B s ≤ room → (j : ℕ) → j < f * 3 → runPlace (cells + n₁ * stride) stride across j < room
+  pub second-inside : (room : ℕ) → cells + 3 * period_of B s ≤ room → (j : ℕ) → j < f * 3 → run_place (cells + n₁ * stride) stride across j < room
   second-inside room h j l = rw second-place (omega (arith, stand-in B (n₁ * 3 + j) s (second-in j l)))
 
   -- a cell of the second run is none of the first
-  pub second-fresh : (j : ℕ) → j < f * 3 → (i : ℕ) → i < n₁ * 3 → cells + stand B s (n₁ * 3 + j) ≡ runPlace cells stride across i → ⊥
+  pub second-fresh : (j : ℕ) → j < f * 3 → (i : ℕ) → i < n₁ * 3 → cells + stand B s (n₁ * 3 + j) ≡ run_place cells stride across i → ⊥
   second-fresh j h i l q = past (stand-apart B s (n₁ * 3 + j) i (second-in j h) (first-in i l) (cancel (n₁ * 3 + j) i (q ∙ first-place i)))
     where
       past : n₁ * 3 + j ≡ i → ⊥
       past e = omega arith
 
   -- ---- the family's terms, from a table of terms whose entry for cell k is T k
-  module _ {X : Type 0} (past_end : X) (t : List (List X)) (T : ℕ → X) (e : (k : ℕ) → k < 3 * periodOf B s → entry past_end t (cellPattern B s f k) (shortClass B s k) ≡ T k) where
+  module _ {X : Type 0} (past_end : X) (t : List (List X)) (T : ℕ → X) (e : (k : ℕ) → k < 3 * period_of B s → entry past_end t (cell_pattern B s f k) (short_class B s k) ≡ T k) where
     -- the term of the j-th cell
-    abbrev familyTerm : ℕ → X
-    familyTerm j = entry past_end t (patternAt ps (j / 3) f) (j % 3)
+    abbrev family_term : ℕ → X
+    family_term j = entry past_end t (pattern_at ps (j / 3) f) (j % 3)
 
-    first-term : (j : ℕ) → j < n₁ * 3 → runTerm past_end t (drop f ps) j ≡ familyTerm j
-    unfolding runTerm
+    first-term : (j : ℕ) → j < n₁ * 3 → run_term past_end t (drop f ps) j ≡ family_term j
+    unfolding run_term
     first-term j h = ap (λ (p : ℕ). entry past_end t p (j % 3)) (first_reads ps f R.in_table (j / 3) (third j n₁ h))
 
-    second-term : (j : ℕ) → j < f * 3 → runTerm past_end t (drop 0 ps) j ≡ familyTerm (n₁ * 3 + j)
-    unfolding runTerm
+    second-term : (j : ℕ) → j < f * 3 → run_term past_end t (drop 0 ps) j ≡ family_term (n₁ * 3 + j)
+    unfolding run_term
     second-term j h = ap (λ (p : ℕ). entry past_end t p (j % 3)) (second_reads ps f R.in_table (j / 3) (third j f h)) ∙ sym (rw (after-long n₁ j, after-short n₁ j))
 
-    turn-term : (k : ℕ) → k < 3 * periodOf B s → familyTerm (turn B s k) ≡ T k
-    turn-term k h = let some = side-some B R.board in ap₂ (λ (x y : ℕ). entry past_end t (patternAt ps x f) y) (turn-long B some k s h) (turn-short B some k s h) ∙ e k h
+    turn-term : (k : ℕ) → k < 3 * period_of B s → family_term (turn B s k) ≡ T k
+    turn-term k h = let some = side-some B R.board in ap₂ (λ (x y : ℕ). entry past_end t (pattern_at ps x f) y) (turn-long B some k s h) (turn-short B some k s h) ∙ e k h
 
-    stand-term : (j : ℕ) → j < 3 * periodOf B s → T (stand B s j) ≡ familyTerm j
-    stand-term j h = sym (turn-term (stand B s j) (stand-in B j s h)) ∙ ap familyTerm (turn-stand B j s h)
+    stand-term : (j : ℕ) → j < 3 * period_of B s → T (stand B s j) ≡ family_term j
+    stand-term j h = sym (turn-term (stand B s j) (stand-in B j s h)) ∙ ap family_term (turn-stand B j s h)
 
     -- what holds of each cell's place and term holds of each run's
-    module _ (Q : ℕ → X → Type 0) (all : (k : ℕ) → k < 3 * periodOf B s → Q (cells + k) (T k)) where
-      at-stand : (j : ℕ) → j < 3 * periodOf B s → Q (cells + stand B s j) (familyTerm j)
+    module _ (Q : ℕ → X → Type 0) (all : (k : ℕ) → k < 3 * period_of B s → Q (cells + k) (T k)) where
+      at-stand : (j : ℕ) → j < 3 * period_of B s → Q (cells + stand B s j) (family_term j)
       at-stand j h = subst (Q (cells + stand B s j)) (stand-term j h) (all (stand B s j) (stand-in B j s h))
 
-      pub first_holds : (j : ℕ) → j < n₁ * 3 → Q (runPlace cells stride across j) (runTerm past_end t (drop f ps) j)
+      pub first_holds : (j : ℕ) → j < n₁ * 3 → Q (run_place cells stride across j) (run_term past_end t (drop f ps) j)
       first_holds j h = rw (first-place, first-term j h) (at-stand j (first-in j h))
 
-      pub second_holds : (j : ℕ) → j < f * 3 → Q (cells + stand B s (n₁ * 3 + j)) (runTerm past_end t (drop 0 ps) j)
+      pub second_holds : (j : ℕ) → j < f * 3 → Q (cells + stand B s (n₁ * 3 + j)) (run_term past_end t (drop 0 ps) j)
       second_holds j h = rw (second-term j h) (at-stand (n₁ * 3 + j) (second-in j h))
 
     -- ---- both runs: every cell has its term added
     module _ {A : Type 0} (z : A) (op : A → A → A) (of : X → A) (old mid new : List A)
-        (a : Spread z op (runPlace cells stride across) (λ j. of (runTerm past_end t (drop f ps) j)) (n₁ * 3) old mid)
-        (b : Spread z op (runPlace (cells + n₁ * stride) stride across) (λ j. of (runTerm past_end t (drop 0 ps) j)) (f * 3) mid new) where
-      whole : n₁ * 3 + f * 3 ≡ 3 * periodOf B s
+        (a : Spread z op (run_place cells stride across) (λ j. of (run_term past_end t (drop f ps) j)) (n₁ * 3) old mid)
+        (b : Spread z op (run_place (cells + n₁ * stride) stride across) (λ j. of (run_term past_end t (drop 0 ps) j)) (f * 3) mid new) where
+      whole : n₁ * 3 + f * 3 ≡ 3 * period_of B s
       whole = omega (arith, R.in_table)
 
-      both : Spread z op (λ j. cells + stand B s j) (λ j. of (familyTerm j)) (3 * periodOf B s) old new
+      both : Spread z op (λ j. cells + stand B s j) (λ j. of (family_term j)) (3 * period_of B s) old new
       both =
-          subst (λ m. Spread z op (λ j. cells + stand B s j) (λ j. of (familyTerm j)) m old new) whole
-          (spread-then z op (λ j. cells + stand B s j) (λ j. of (familyTerm j)) (n₁ * 3) (f * 3) old mid new
+          subst (λ m. Spread z op (λ j. cells + stand B s j) (λ j. of (family_term j)) m old new) whole
+          (spread-then z op (λ j. cells + stand B s j) (λ j. of (family_term j)) (n₁ * 3) (f * 3) old mid new
           (λ i j h l q. stand-apart B s i j (omega (arith, whole, h)) (omega (arith, whole, l)) (cancel i j q))
           (spread-ext z op _ _ _ _ (n₁ * 3) old mid (λ j h. first-place j) (λ j h. ap of (first-term j h)) a)
           (spread-ext z op _ _ _ _ (f * 3) mid new (λ j h. second-place j) (λ j h. ap of (second-term j h)) b))
 
-      pub family-zone : Zone z (λ k. op (get_or old (cells + k) z) (of (T k))) cells (3 * periodOf B s) old new
+      pub family-zone : Zone z (λ k. op (get_or old (cells + k) z) (of (T k))) cells (3 * period_of B s) old new
       family-zone =
           let some = side-some B R.board in
-          zone-ext z _ _ cells (3 * periodOf B s) old new (λ k h. ap (λ x. op (get_or old (cells + k) z) (of x)) (turn-term k h))
-          (spread-zone z op (stand B s) (turn B s) cells (3 * periodOf B s) (λ j. of (familyTerm j)) old new (λ j h. stand-in B j s h) (λ k h. (turn_in B some k s h, stand-turn B some k s h)) both)
+          zone-ext z _ _ cells (3 * period_of B s) old new (λ k h. ap (λ x. op (get_or old (cells + k) z) (of x)) (turn-term k h))
+          (spread-zone z op (stand B s) (turn B s) cells (3 * period_of B s) (λ j. of (family_term j)) old new (λ j h. stand-in B j s h) (λ k h. (turn_in B some k s h, stand-turn B some k s h)) both)

@@ -2,7 +2,7 @@
 ghost use Rattle.std.specs.Prelude.{◌≡◌, [], ◌∷◌, ◌+◌, ◌<◌, ◌^◌, length, get_or, set};
 ghost use Rattle.std.specs.Float.{nan, binary32};
 ghost use Rattle.std.specs.Float.Ieee.{add};
-ghost use Rattle.cells.specs.Credit.{stepped, termIn, CountsFit, CountsAdded, WeightsFit, WeightsAdded};
+ghost use Rattle.cells.specs.Credit.{stepped, term_in, CountsFit, CountsAdded, WeightsFit, WeightsAdded};
 
 use terms::FamilyTerm;
 
@@ -24,8 +24,8 @@ fn add_weight(weights: &mut [f32], k: usize, x: f32)
 
 // Adds a row's counts to the three cells of a class, which stand from k on, one step apart.
 pub fn add_class_counts(counts: &mut [u32], k: usize, step: usize, row: [FamilyTerm; 3])
-    requires { CountsFit (stepped k step) (termIn row) 3 counts.old }
-    ensures { CountsAdded (stepped k step) (termIn row) 3 counts.old counts.new }
+    requires { CountsFit (stepped k step) (term_in row) 3 counts.old }
+    ensures { CountsAdded (stepped k step) (term_in row) 3 counts.old counts.new }
 {
     let a = row[0];
     let b = row[1];
@@ -37,8 +37,8 @@ pub fn add_class_counts(counts: &mut [u32], k: usize, step: usize, row: [FamilyT
 
 // Adds a row's weights to the three cells of a class.
 pub fn add_class_weights(weights: &mut [f32], k: usize, step: usize, row: [FamilyTerm; 3])
-    requires { WeightsFit (stepped k step) (termIn row) 3 weights.old }
-    ensures { WeightsAdded (stepped k step) (termIn row) 3 weights.old weights.new }
+    requires { WeightsFit (stepped k step) (term_in row) 3 weights.old }
+    ensures { WeightsAdded (stepped k step) (term_in row) 3 weights.old weights.new }
 {
     let a = row[0];
     let b = row[1];
@@ -57,8 +57,8 @@ pub fn add_four_counts(
     c: FamilyTerm,
     d: FamilyTerm,
 )
-    requires { CountsFit (stepped k 1) (termIn (a ∷ b ∷ c ∷ d ∷ [])) 4 counts.old }
-    ensures { CountsAdded (stepped k 1) (termIn (a ∷ b ∷ c ∷ d ∷ [])) 4 counts.old counts.new }
+    requires { CountsFit (stepped k 1) (term_in (a ∷ b ∷ c ∷ d ∷ [])) 4 counts.old }
+    ensures { CountsAdded (stepped k 1) (term_in (a ∷ b ∷ c ∷ d ∷ [])) 4 counts.old counts.new }
 {
     add_count(counts, k, a.count);
     add_count(counts, k + 1, b.count);
@@ -75,8 +75,8 @@ pub fn add_four_weights(
     c: FamilyTerm,
     d: FamilyTerm,
 )
-    requires { WeightsFit (stepped k 1) (termIn (a ∷ b ∷ c ∷ d ∷ [])) 4 weights.old }
-    ensures { WeightsAdded (stepped k 1) (termIn (a ∷ b ∷ c ∷ d ∷ [])) 4 weights.old weights.new }
+    requires { WeightsFit (stepped k 1) (term_in (a ∷ b ∷ c ∷ d ∷ [])) 4 weights.old }
+    ensures { WeightsAdded (stepped k 1) (term_in (a ∷ b ∷ c ∷ d ∷ [])) 4 weights.old weights.new }
 {
     add_weight(weights, k, a.weight);
     add_weight(weights, k + 1, b.weight);

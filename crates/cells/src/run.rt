@@ -1,7 +1,7 @@
 // A run of classes: class i reads pattern i of the part, and its three terms are added to its three cells. Horizontal classes go two at a time and vertical
 // ones four at a time, neighbours together, because six stores to six places far apart are what a run costs.
 ghost use Rattle.std.specs.Prelude.{[], ◌∷◌, ◌*◌, ◌/◌};
-ghost use Rattle.cells.specs.Credit.{fourPlace, fourTerm, CountsFit, CountsAdded, WeightsFit, WeightsAdded, RunReady, RunCells, RunCredited};
+ghost use Rattle.cells.specs.Credit.{four_place, four_term, CountsFit, CountsAdded, WeightsFit, WeightsAdded, RunReady, RunCells, RunCredited};
 
 use crate::add::{add_class_counts, add_class_weights, add_four_counts, add_four_weights};
 use terms::{FamilyTerm, FamilyTerms};
@@ -66,9 +66,9 @@ fn credit_four(
     c: [FamilyTerm; 3],
     d: [FamilyTerm; 3],
 )
-    requires counts_fit { CountsFit (fourPlace k across) (fourTerm (a ∷ b ∷ c ∷ d ∷ [])) 12 counts.old }
-    requires weights_fit { WeightsFit (fourPlace k across) (fourTerm (a ∷ b ∷ c ∷ d ∷ [])) 12 weights.old }
-    ensures { CountsAdded (fourPlace k across) (fourTerm (a ∷ b ∷ c ∷ d ∷ [])) 12 counts.old counts.new × WeightsAdded (fourPlace k across) (fourTerm (a ∷ b ∷ c ∷ d ∷ [])) 12 weights.old weights.new }
+    requires counts_fit { CountsFit (four_place k across) (four_term (a ∷ b ∷ c ∷ d ∷ [])) 12 counts.old }
+    requires weights_fit { WeightsFit (four_place k across) (four_term (a ∷ b ∷ c ∷ d ∷ [])) 12 weights.old }
+    ensures { CountsAdded (four_place k across) (four_term (a ∷ b ∷ c ∷ d ∷ [])) 12 counts.old counts.new × WeightsAdded (four_place k across) (four_term (a ∷ b ∷ c ∷ d ∷ [])) 12 weights.old weights.new }
 {
     let a0 = a[0];
     let b0 = b[0];

@@ -1,7 +1,7 @@
 // The checks of a list behind the early refusals. Each takes every input. A check of a column answers where: the first bad index, or the length.
 ghost use Rattle.std.specs.Prelude.{◌≡◌, ◌||◌, not};
 ghost use Rattle.board.specs.Hits.{edges};
-ghost use Rattle.checks.specs.Checks.{far, farAt, badCoordinate, badLikelihood, unlikelyAt, firstBadCoordinate, firstBadLikelihood, lengthsDiffer, sizeBad};
+ghost use Rattle.checks.specs.Checks.{far, far_at, bad_coordinate, bad_likelihood, unlikely_at, first_bad_coordinate, first_bad_likelihood, lengths_differ, size_bad};
 
 // The least and the largest row and column.
 const LEAST: i32 = -1000000;
@@ -20,21 +20,21 @@ fn is_far(x: i32) -> bool
 
 // Whether the coordinate at index i is outside; past the end there is none.
 fn far_at(xs: &[i32], i: usize) -> bool
-    ensures { result ≡ farAt xs.now i }
+    ensures { result ≡ far_at xs.now i }
 {
     if i < xs.len() { is_far(xs[i]) } else { false }
 }
 
 // Whether edge i has a row or column out of range.
 fn bad_coordinate_at(rows: &[i32], cols: &[i32], i: usize) -> bool
-    ensures { result ≡ badCoordinate rows.now cols.now i }
+    ensures { result ≡ bad_coordinate rows.now cols.now i }
 {
     far_at(rows, i) || far_at(cols, i)
 }
 
 // The first edge with a row or column out of range, or the number of rows.
 pub fn first_bad_coordinate(rows: &[i32], cols: &[i32]) -> usize
-    ensures { result ≡ firstBadCoordinate rows.now cols.now }
+    ensures { result ≡ first_bad_coordinate rows.now cols.now }
 {
     let mut i = 0;
     while i < rows.len() {
@@ -48,7 +48,7 @@ pub fn first_bad_coordinate(rows: &[i32], cols: &[i32]) -> usize
 
 // Whether there is no acceptable likelihood at index i.
 fn unlikely_at(xs: &[f32], i: usize) -> bool
-    ensures { result ≡ unlikelyAt xs.now i }
+    ensures { result ≡ unlikely_at xs.now i }
 {
     if i < xs.len() {
         !likelihood::is_likelihood(xs[i])
@@ -59,14 +59,14 @@ fn unlikely_at(xs: &[f32], i: usize) -> bool
 
 // Whether edge i lacks an acceptable match or mismatch likelihood.
 fn bad_likelihood_at(matches: &[f32], mismatches: &[f32], i: usize) -> bool
-    ensures { result ≡ badLikelihood matches.now mismatches.now i }
+    ensures { result ≡ bad_likelihood matches.now mismatches.now i }
 {
     unlikely_at(matches, i) || unlikely_at(mismatches, i)
 }
 
 // The first edge with a likelihood that is not acceptable, or the number of match likelihoods.
 pub fn first_bad_likelihood(matches: &[f32], mismatches: &[f32]) -> usize
-    ensures { result ≡ firstBadLikelihood matches.now mismatches.now }
+    ensures { result ≡ first_bad_likelihood matches.now mismatches.now }
 {
     let mut i = 0;
     while i < matches.len() {
@@ -86,7 +86,7 @@ pub fn lengths_differ(
     bits: &[u8],
     confidences: &[f32],
 ) -> bool
-    ensures { result ≡ lengthsDiffer (edges rows.now cols.now orientations.now bits.now confidences.now) }
+    ensures { result ≡ lengths_differ (edges rows.now cols.now orientations.now bits.now confidences.now) }
 {
     let n = rows.len();
     if n == cols.len() {
@@ -101,7 +101,7 @@ pub fn lengths_differ(
 
 // Whether a list has fewer than `least` edges or more than 8,192.
 pub fn size_bad(least: usize, n: usize) -> bool
-    ensures { result ≡ sizeBad least n }
+    ensures { result ≡ size_bad least n }
 {
     n < least || MAX_EDGES < n
 }

@@ -68,7 +68,7 @@ module _ {Answer Told : Type 0} (refusing : Refusal → Answer) (finding : Told 
         go (inr f) = absurd (met-or-fails late f.0.number p.1 ((right p.0).1 f.0 f.1))
 
     pub demands-met : (AllMet early → emptied) → ((told : Told) → answer ≡ finding told → says told) → Demands refusing finding early late as_it_was emptied says answer
-    demands-met zero says_so = record { refused = refused; untouched = untouched; room-zero = zero; found = λ told e. (all-met told e, says_so told e); finds = finds }
+    demands-met zero says_so = record { refused = refused; untouched = untouched; room_zero = zero; found = λ told e. (all-met told e, says_so told e); finds = finds }
 
 -- AND A CALL IS REFUSED BY THE NUMBER OF THE CONDITION THAT FAILS FIRST: the demands say it of a refusal, so with them it is so exactly when
 pub refuses-by : {Answer Told : Type 0} {refusing : Refusal → Answer} {finding : Told → Answer} (ways : Answers refusing finding) {early late : List Condition} {as_it_was emptied : Type 0} {says : Told → Type 0} {answer : Answer}

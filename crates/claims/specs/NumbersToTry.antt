@@ -2,9 +2,9 @@
 use Rattle.std.specs.Prelude.{◌≡◌, refl, true, false, [], ◌∷◌, ℕ, ℤ, pos, negsuc, neg_ℤ}
 use Rattle.std.specs.Float.{fin}
 use Rattle.laws.specs.Words.{emod, numer, joint}
-use Rattle.board.specs.Transform.{lookupOf, mat, matrices}
+use Rattle.board.specs.Transform.{lookup_of, mat, matrices}
 use Rattle.board.specs.Hits.{EdgeList, edges, look}
-use Rattle.board.specs.Sides.{onSide, longOf, short_of}
+use Rattle.board.specs.Sides.{on_side, long_of, short_of}
 use Rattle.likelihood.specs.Likelihood.{quantised, dequantised}
 use Rattle.figures.specs.Gate.{passed}
 
@@ -15,35 +15,35 @@ alone row col orientation = edges (row ∷ []) (col ∷ []) (orientation ∷ [])
 -- its classes under the transform t, of the row and then of the column, as the tables take them: the long coordinate of its lookup by the 167 patterns of its
 -- side, the short one by 3. "Horizontal cells are (r mod 167, c mod 3); vertical cells are (r mod 3, c mod 167)"
 pub record Horizontal (E : EdgeList) (t row col : ℕ) : Type 0 where
-  pub side : onSide E t true 0 ≡ true
-  pub row-class : emod (longOf E t true 0) 167 ≡ row
-  pub col-class : emod (short_of E t true 0) 3 ≡ col
+  pub side : on_side E t true 0 ≡ true
+  pub row_class : emod (long_of E t true 0) 167 ≡ row
+  pub col_class : emod (short_of E t true 0) 3 ≡ col
 
 pub record Vertical (E : EdgeList) (t row col : ℕ) : Type 0 where
-  pub side : onSide E t false 0 ≡ true
-  pub row-class : emod (short_of E t false 0) 3 ≡ row
-  pub col-class : emod (longOf E t false 0) 167 ≡ col
+  pub side : on_side E t false 0 ≡ true
+  pub row_class : emod (short_of E t false 0) 3 ≡ row
+  pub col_class : emod (long_of E t false 0) 167 ≡ col
 
 pub record NumbersToTry : Type 0 where
   -- "(va,ha)=(1,0) gives row 334; (2,166) gives 500"
-  pub row-334 : joint 167 1 0 ≡ 334
-  pub row-500 : joint 167 2 166 ≡ 500
+  pub row_334 : joint 167 1 0 ≡ 334
+  pub row_500 : joint 167 2 166 ≡ 500
   -- "horizontal (0,0) under 0 looks up (-1,0), classes 166, 0"
-  pub first-lookup : lookupOf 0 (pos 0) (pos 0) 0 ≡ record { orientation = 0; row = negsuc 0; col = pos 0 }
-  pub first-classes : Horizontal (alone (pos 0) (pos 0) 0) 0 166 0
+  pub first_lookup : lookup_of 0 (pos 0) (pos 0) 0 ≡ record { orientation = 0; row = negsuc 0; col = pos 0 }
+  pub first_classes : Horizontal (alone (pos 0) (pos 0) 0) 0 166 0
   -- "vertical (0,0) under 0: (0,-1), classes 0, 166"
-  pub second-lookup : lookupOf 0 (pos 0) (pos 0) 1 ≡ record { orientation = 1; row = pos 0; col = negsuc 0 }
-  pub second-classes : Vertical (alone (pos 0) (pos 0) 1) 0 0 166
+  pub second_lookup : lookup_of 0 (pos 0) (pos 0) 1 ≡ record { orientation = 1; row = pos 0; col = negsuc 0 }
+  pub second_classes : Vertical (alone (pos 0) (pos 0) 1) 0 0 166
   -- "horizontal row 2 column 3 under 1: vertical (3,-3), classes 0, 164"
-  pub third-lookup : lookupOf 1 (pos 2) (pos 3) 0 ≡ record { orientation = 1; row = pos 3; col = negsuc 2 }
-  pub third-classes : Vertical (alone (pos 2) (pos 3) 0) 1 0 164
+  pub third_lookup : lookup_of 1 (pos 2) (pos 3) 0 ≡ record { orientation = 1; row = pos 3; col = negsuc 2 }
+  pub third_classes : Vertical (alone (pos 2) (pos 3) 0) 1 0 164
   -- "under 2: (-3,-4), classes 164, 2"
-  pub fourth-lookup : lookupOf 2 (pos 2) (pos 3) 0 ≡ record { orientation = 0; row = negsuc 2; col = negsuc 3 }
-  pub fourth-classes : Horizontal (alone (pos 2) (pos 3) 0) 2 164 2
+  pub fourth_lookup : lookup_of 2 (pos 2) (pos 3) 0 ≡ record { orientation = 0; row = negsuc 2; col = negsuc 3 }
+  pub fourth_classes : Horizontal (alone (pos 2) (pos 3) 0) 2 164 2
   -- "gate (edges, best, runner-up): 10,9,8 refused; 10,10,9 passes; 10,9,7 passes"
-  pub gate-refused : passed 10 9 8 ≡ false
-  pub gate-clean : passed 10 10 9 ≡ true
-  pub gate-passed : passed 10 9 7 ≡ true
+  pub gate_refused : passed 10 9 8 ≡ false
+  pub gate_clean : passed 10 10 9 ≡ true
+  pub gate_passed : passed 10 9 7 ≡ true
   -- "quantise: -2^-25 gives -1; -2^-26 gives 0; -65,536 gives -1,099,511,627,776" (`fin s m (neg_ℤ (pos k))` is m * 2^-k, negative where s is true)
   pub half : quantised (fin true 1 (neg_ℤ (pos 25))) ≡ neg_ℤ (pos 1)
   pub quarter : quantised (fin true 1 (neg_ℤ (pos 26))) ≡ pos 0
@@ -54,21 +54,21 @@ pub record NumbersToTry : Type 0 where
 
 -- THE TABLE HOLDS
 pub numbers-to-try : NumbersToTry
-unfolding joint numer lookupOf mat matrices look emod quantised dequantised
+unfolding joint numer lookup_of mat matrices look emod quantised dequantised
 numbers-to-try = record {
-  row-334 = refl;
-  row-500 = refl;
-  first-lookup = refl;
-  first-classes = record { side = refl; row-class = refl; col-class = refl };
-  second-lookup = refl;
-  second-classes = record { side = refl; row-class = refl; col-class = refl };
-  third-lookup = refl;
-  third-classes = record { side = refl; row-class = refl; col-class = refl };
-  fourth-lookup = refl;
-  fourth-classes = record { side = refl; row-class = refl; col-class = refl };
-  gate-refused = refl;
-  gate-clean = refl;
-  gate-passed = refl;
+  row_334 = refl;
+  row_500 = refl;
+  first_lookup = refl;
+  first_classes = record { side = refl; row_class = refl; col_class = refl };
+  second_lookup = refl;
+  second_classes = record { side = refl; row_class = refl; col_class = refl };
+  third_lookup = refl;
+  third_classes = record { side = refl; row_class = refl; col_class = refl };
+  fourth_lookup = refl;
+  fourth_classes = record { side = refl; row_class = refl; col_class = refl };
+  gate_refused = refl;
+  gate_clean = refl;
+  gate_passed = refl;
   half = refl;
   quarter = refl;
   least = refl;

@@ -7,7 +7,7 @@
 --   list        edges, a column for each field: row, column, orientation, bit, confidence; logical after the votes, physical as seen (board/specs/Hits.antt)
 --   board       the two pattern tables, horizontal and vertical (Hits.antt); a call holds lists, transforms, board and error limit (admission/specs/Calls.antt)
 --   placing     a place in the transform list with a row and a column of the board (demand/specs/Demand.antt)
---   hits        the edges of a list whose bit the board predicts at a placing, one by one (`hitsAt`, Hits.antt)
+--   hits        the edges of a list whose bit the board predicts at a placing, one by one (`hits_at`, Hits.antt)
 --   leads       within the error limit, and beats the hits of every other placing by more than its own misses (Demand.antt)
 --   wins        has the transform and the origin of a list's winner, and agrees: of the physical list's (Demand.antt); `WinsByHits` below says what that is in hits
 --   clears      its own best placing by likelihood, edge by edge, clears the soft margin (soft_core/specs/SoftDemand.antt)
@@ -16,9 +16,9 @@
 use Rattle.std.specs.Prelude.{◌≡◌, Bool, false, ◌⊎◌, List, [], ◌++◌, ℕ, ◌-◌, ◌≤◌, ◌<◌, get_or, length, pos, Float}
 use Rattle.std.specs.Float.{nan, binary32}
 use Rattle.std.specs.Float.Ieee.{sub, div, of_int}
-use Rattle.laws.specs.Words.{zeroF, oneF}
+use Rattle.laws.specs.Words.{zero_f, one_f}
 use Rattle.board.specs.declared.edge.Placing.{Placing}
-use Rattle.board.specs.Hits.{EdgeList, Board, size, hits, hitsAt}
+use Rattle.board.specs.Hits.{EdgeList, Board, size, hits, hits_at}
 use Rattle.board.specs.Domain.{BoardOk, ListOk}
 use Rattle.refusals.specs.declared.Refusal.{Refusal}
 use Rattle.refusals.specs.declared.Place.TheVariants.{Nowhere}
@@ -27,12 +27,12 @@ use Rattle.refusals.specs.declared.Admission.{Admission}
 use Rattle.refusals.specs.declared.Admission.TheVariants as admission
 use Rattle.findings.specs.Places.{PlaceRight}
 use Rattle.admission.specs.Calls.{HardCall, SoftCall, HardRoom, SoftRoom}
-use Rattle.admission.specs.Refusals.{statsAdmission, hardChecked, softChecked}
+use Rattle.admission.specs.Refusals.{stats_admission, hard_checked, soft_checked}
 use Rattle.admission.specs.Conditions.{Condition, AllMet, FirstFails}
-use Rattle.admission.specs.Domain.{hardEarly, softEarly, statsEarly}
-use Rattle.admission.specs.PlaceTheorems.{hardCount, hardBad, softBad, statsCount, statsBad}
-use Rattle.admission.specs.Document01.{admission01, hardNumbers01, softNumbers01, statsNumbers01}
-use Rattle.figures.specs.Figures.{noConfidence}
+use Rattle.admission.specs.Domain.{hard_early, soft_early, stats_early}
+use Rattle.admission.specs.PlaceTheorems.{hard_count, hard_bad, soft_bad, stats_count, stats_bad}
+use Rattle.admission.specs.Document01.{admission01, hard_numbers01, soft_numbers01, stats_numbers01}
+use Rattle.figures.specs.Figures.{no_confidence}
 use Rattle.scan.specs.declared.scan.Candidate.{Candidate}
 use Rattle.scan.specs.declared.scan.RunnerUp.{RunnerUp}
 use Rattle.hard.specs.Select.{selection}
@@ -48,15 +48,15 @@ use Rattle.answer.specs.declared.StatsAnswer.{StatsAnswer}
 use Rattle.answer.specs.declared.StatsAnswer.TheVariants as stats
 use Rattle.demand.specs.Demand.{OnBoard, Same, WithinLimit, Leads, RunnerUpExists, Names, Wins, AgreesPhysical}
 use Rattle.demand.specs.FoundRange.{AnswerInRange, SoftAnswerInRange}
-use Rattle.decode_hard.specs.HardAnswer.{hardAnswer, HardDone}
+use Rattle.decode_hard.specs.HardAnswer.{hard_answer, HardDone}
 use Rattle.hard_core.specs.HardDemand.{HardAnswered}
 use Rattle.hard_core.specs.HardLate.{HardLate}
-use Rattle.decode_soft.specs.SoftAnswer.{softAnswer, SoftDone}
+use Rattle.decode_soft.specs.SoftAnswer.{soft_answer, SoftDone}
 use Rattle.soft_core.specs.SoftDemand.{Clears, SoftAnswered, SoftKept}
 use Rattle.soft_core.specs.SoftLate.{SoftLate}
-use Rattle.stats.specs.Stats.{statsOf}
+use Rattle.stats.specs.Stats.{stats_of}
 use Rattle.stats.specs.StatsRange.{StatsInRange}
-use Rattle.claims.specs.Late.{hardLate, softLate}
+use Rattle.claims.specs.Late.{hard_late, soft_late}
 
 -- ==== DEMANDS 1 AND 3
 
@@ -70,7 +70,7 @@ pub record Demands {Answer Told : Type 0} (refusing : Refusal → Answer) (findi
   pub refused : (refusal : Refusal) → answer ≡ refusing refusal → FirstFails (early ++ late) refusal.number
   -- "After refusals 1 to 9 the lent room is untouched; after every other call the used room is zero."
   pub untouched : (n : ℕ) → FirstFails early n → as_it_was
-  pub room-zero : AllMet early → emptied
+  pub room_zero : AllMet early → emptied
   -- it finds exactly where all conditions are met, and found means true
   pub found : (told : Told) → answer ≡ finding told → AllMet (early ++ late) × says told
   pub finds : AllMet (early ++ late) → (told : Told) × (answer ≡ finding told)
@@ -84,32 +84,32 @@ pub record Emptied {A : Type 0} (missing zero : A) (n : ℕ) (before after : Lis
 
 -- what it is in hits to win on a list, whatever the weights: no placing within the limit has more hits than the winner, and one within it with more hits than every other wins
 pub record WinsByHits (B : Board) (E : EdgeList) (ts : List ℕ) (limit : Float) : Type 0 where
-  pub wins-most : (P : Placing) → Wins B E ts limit P → (Q : Placing) → WithinLimit B E ts limit Q → hitsAt B E ts Q ≤ hitsAt B E ts P
-  pub most-wins : noConfidence E ≡ false → (P : Placing) → WithinLimit B E ts limit P
-      → ((Q : Placing) → OnBoard B ts Q → (Same Q P → ⊥) → hitsAt B E ts Q < hitsAt B E ts P) → Wins B E ts limit P
+  pub wins-most : (P : Placing) → Wins B E ts limit P → (Q : Placing) → WithinLimit B E ts limit Q → hits_at B E ts Q ≤ hits_at B E ts P
+  pub most-wins : no_confidence E ≡ false → (P : Placing) → WithinLimit B E ts limit P
+      → ((Q : Placing) → OnBoard B ts Q → (Same Q P → ⊥) → hits_at B E ts Q < hits_at B E ts P) → Wins B E ts limit P
 
--- HARD DECODE: `answer` is what the call gave, with the room before and after it. The early conditions are `hardEarly`, and tablesFor L places of each slice are used (`hard-promise`)
+-- HARD DECODE: `answer` is what the call gave, with the room before and after it. The early conditions are `hard_early`, and tables_for L places of each slice are used (`hard-promise`)
 pub record HardPromise (early : List Condition) (used : ℕ) (call : HardCall) (before after : HardRoom) (answer : Answer) : Type 0 where
-  pub demands : Demands Refused Found early (hardLate call) (after ≡ before)
-      (Emptied 0 0 used before.counts after.counts × Emptied nan zeroF used before.weights after.weights) (HardAnswered call) answer
+  pub demands : Demands Refused Found early (hard_late call) (after ≡ before)
+      (Emptied 0 0 used before.counts after.counts × Emptied nan zero_f used before.weights after.weights) (HardAnswered call) answer
   -- "answers exactly when": a placing that leads and agrees is found, and it is the one that the answer names
-  pub finds-square : AllMet early → noConfidence call.logical ≡ false → (P : Placing)
-      → Leads call.board call.logical call.transforms call.error-limit P → AgreesPhysical call.board call.physical call.transforms P
+  pub finds_square : AllMet early → no_confidence call.logical ≡ false → (P : Placing)
+      → Leads call.board call.logical call.transforms call.error_limit P → AgreesPhysical call.board call.physical call.transforms P
       → (found : Decoded) × (answer ≡ Found found) × Names call.transforms P found.square
-  pub logical-winner : AllMet early → WinsByHits call.board call.logical call.transforms call.error-limit
-  pub physical-winner : AllMet early → WinsByHits call.board call.physical call.transforms oneF
+  pub logical-winner : AllMet early → WinsByHits call.board call.logical call.transforms call.error_limit
+  pub physical-winner : AllMet early → WinsByHits call.board call.physical call.transforms one_f
 
--- SOFT DECODE: `softEarly`, and sumsFor L places of the sums (`soft-promise`)
+-- SOFT DECODE: `soft_early`, and sums_for L places of the sums (`soft-promise`)
 pub record SoftPromise (early : List Condition) (used used-sums : ℕ) (call : SoftCall) (before after : SoftRoom) (answer : SoftAnswer) : Type 0 where
-  pub demands : Demands soft.Refused soft.Found early (softLate call) (after ≡ before)
-      (Emptied 0 0 used before.counts after.counts × Emptied nan zeroF used before.weights after.weights × Emptied (pos 0) (pos 0) used-sums before.sums after.sums) (SoftAnswered call) answer
+  pub demands : Demands soft.Refused soft.Found early (soft_late call) (after ≡ before)
+      (Emptied 0 0 used before.counts after.counts × Emptied nan zero_f used before.weights after.weights × Emptied (pos 0) (pos 0) used-sums before.sums after.sums) (SoftAnswered call) answer
   -- "answers exactly when": its own best placing, where it clears the margin and leads, is found, and it is the one that the answer names
-  pub finds-square : AllMet early → noConfidence call.hard.physical ≡ false → noConfidence call.hard.logical ≡ false → (P Q : Placing)
-      → Clears call P Q → Leads call.hard.board call.hard.logical call.hard.transforms call.hard.error-limit P
+  pub finds_square : AllMet early → no_confidence call.hard.physical ≡ false → no_confidence call.hard.logical ≡ false → (P Q : Placing)
+      → Clears call P Q → Leads call.hard.board call.hard.logical call.hard.transforms call.hard.error_limit P
       → (found : SoftDecoded) × (answer ≡ soft.Found found) × Names call.hard.transforms P found.square
-  pub logical-winner : AllMet early → WinsByHits call.hard.board call.hard.logical call.hard.transforms call.hard.error-limit
+  pub logical-winner : AllMet early → WinsByHits call.hard.board call.hard.logical call.hard.transforms call.hard.error_limit
 
--- MATCH STATISTICS, of a list at one square: `statsEarly`, no late conditions, no room, and the hits are counted edge by edge (`stats-promise`)
+-- MATCH STATISTICS, of a list at one square: `stats_early`, no late conditions, no room, and the hits are counted edge by edge (`stats-promise`)
 pub record StatsPromise (early : List Condition) (list : EdgeList) (transform row col : ℕ) (board : Board) (answer : StatsAnswer) : Type 0 where
   pub demands : Demands stats.Refused stats.Counted early [] (Unit {0}) (Unit {0})
       (λ counted. (counted.hits ≡ hits board list transform row col) × (counted.edges ≡ size list)) answer
@@ -127,7 +127,7 @@ pub record Early (checked : Admission) (domain : Type 0) (count : ListName → �
   pub accepts : (checked ≡ admission.Accepted → domain) × (domain → checked ≡ admission.Accepted)
   pub number : EarlyNumber checked
   pub place : (refusal : Refusal) → checked ≡ admission.Refused refusal → PlaceRight count bad refusal
-  pub old-number : admission01 checked ≡ document-01
+  pub old_number : admission01 checked ≡ document-01
   pub refuses : (refusal : Refusal) → checked ≡ admission.Refused refusal → refused refusal
 
 -- ---- RUNNER-UP
@@ -141,7 +141,7 @@ RunnerUpAlways =
 -- ---- HARD DECODE
 -- all early conditions are met
 abbrev pub InHardDomain : HardCall → HardRoom → Type 0
-InHardDomain call room = AllMet (hardEarly call room)
+InHardDomain call room = AllMet (hard_early call room)
 
 -- the contract of `decode_hard`
 abbrev pub HardGave : HardCall → HardRoom → HardRoom → Answer → Type 0
@@ -150,26 +150,26 @@ HardGave call before after answer = HardDone call before.counts after.counts bef
 -- the particulars of hard decode
 pub record HardParticulars (call : HardCall) (before after : HardRoom) (answer : Answer) : Type 0 where
   -- DEMAND 1, early refusals
-  pub early : Early (hardChecked call before) (InHardDomain call before) (hardCount call) (hardBad call) (hardNumbers01 call (length before.counts) (length before.weights))
+  pub early : Early (hard_checked call before) (InHardDomain call before) (hard_count call) (hard_bad call) (hard_numbers01 call (length before.counts) (length before.weights))
       (λ refusal. (answer ≡ Refused refusal) × (after.counts ≡ before.counts) × (after.weights ≡ before.weights))
   -- else it is refused by 10 to 13, if at all, and about no edge
-  pub refused-late : InHardDomain call before → (refusal : Refusal) → answer ≡ Refused refusal → (10 ≤ refusal.number) × (refusal.number ≤ 13) × (refusal.place ≡ Nowhere)
+  pub refused_late : InHardDomain call before → (refusal : Refusal) → answer ≡ Refused refusal → (10 ≤ refusal.number) × (refusal.number ≤ 13) × (refusal.place ≡ Nowhere)
   -- each of them exactly when
-  pub refused-exactly : InHardDomain call before → HardLate call answer
+  pub refused_exactly : InHardDomain call before → HardLate call answer
   -- a found answer is in range: its whole numbers, and no float is a NaN or an infinity
-  pub answer-in-range : (found : Decoded) → answer ≡ Found found → AnswerInRange (length call.board.h) found
+  pub answer_in_range : (found : Decoded) → answer ≡ Found found → AnswerInRange (length call.board.h) found
   -- "What the room held before has no influence": the same call with room as long gives the same answer
-  pub no-influence : (before' after' : HardRoom) (answer' : Answer) → HardGave call before' after' answer' → length before'.counts ≡ length before.counts → length before'.weights ≡ length before.weights
+  pub no_influence : (before' after' : HardRoom) (answer' : Answer) → HardGave call before' after' answer' → length before'.counts ≡ length before.counts → length before'.weights ≡ length before.weights
       → answer' ≡ answer
   -- C-12: the margin is the winner's hits less the runner-up's, of exactly the two counts that the answer holds
   pub margin-of-the-two : (found : Decoded) → answer ≡ Found found → found.margin_hits ≡ found.hits - found.runner_up_hits
   -- DEMAND 2: the answer is document 01's
-  pub by-the-rules : answer ≡ hardAnswer call (length before.counts) (length before.weights)
+  pub by_the_rules : answer ≡ hard_answer call (length before.counts) (length before.weights)
 
 -- ---- SOFT DECODE
 -- all early conditions are met
 abbrev pub InSoftDomain : SoftCall → SoftRoom → Type 0
-InSoftDomain call room = AllMet (softEarly call room)
+InSoftDomain call room = AllMet (soft_early call room)
 
 -- the contract of `decode_soft`
 abbrev pub SoftGave : SoftCall → SoftRoom → SoftRoom → SoftAnswer → Type 0
@@ -182,19 +182,19 @@ MarginOfTheTwo found = found.margin ≡ div binary32 (sub binary32 found.best_sc
 -- the particulars of soft decode
 pub record SoftParticulars (call : SoftCall) (before after : SoftRoom) (answer : SoftAnswer) : Type 0 where
   -- DEMAND 1, early refusals
-  pub early : Early (softChecked call before) (InSoftDomain call before) (hardCount call.hard) (softBad call) (softNumbers01 call (length before.counts) (length before.weights) (length before.sums))
+  pub early : Early (soft_checked call before) (InSoftDomain call before) (hard_count call.hard) (soft_bad call) (soft_numbers01 call (length before.counts) (length before.weights) (length before.sums))
       (λ refusal. (answer ≡ soft.Refused refusal) × (after.counts ≡ before.counts) × (after.weights ≡ before.weights) × (after.sums ≡ before.sums))
   -- else it is refused by 10, 11, 13, 14 or 15, if at all, and about no edge
-  pub refused-late : InSoftDomain call before → (refusal : Refusal) → answer ≡ soft.Refused refusal
+  pub refused_late : InSoftDomain call before → (refusal : Refusal) → answer ≡ soft.Refused refusal
       → ((10 ≤ refusal.number) × (refusal.number ≤ 15) × (refusal.number ≡ 12 → ⊥)) × (refusal.place ≡ Nowhere)
-  pub refused-exactly : InSoftDomain call before → SoftLate call answer
-  pub answer-in-range : (found : SoftDecoded) → answer ≡ soft.Found found → SoftAnswerInRange (length call.hard.board.h) found
-  pub no-influence : (before' after' : SoftRoom) (answer' : SoftAnswer) → SoftGave call before' after' answer'
+  pub refused_exactly : InSoftDomain call before → SoftLate call answer
+  pub answer_in_range : (found : SoftDecoded) → answer ≡ soft.Found found → SoftAnswerInRange (length call.hard.board.h) found
+  pub no_influence : (before' after' : SoftRoom) (answer' : SoftAnswer) → SoftGave call before' after' answer'
       → length before'.counts ≡ length before.counts → length before'.weights ≡ length before.weights → length before'.sums ≡ length before.sums → answer' ≡ answer
   -- C-12: the margin is (best - second) / edges of exactly the two totals that the answer holds
   pub margin-of-the-two : (found : SoftDecoded) → answer ≡ soft.Found found → MarginOfTheTwo found
   -- DEMAND 2: the answer is document 01's
-  pub by-the-rules : answer ≡ softAnswer call (length before.counts) (length before.weights) (length before.sums)
+  pub by_the_rules : answer ≡ soft_answer call (length before.counts) (length before.weights) (length before.sums)
   -- and which of the second-best placings its margin is of, where several tie
   pub kept : (found : SoftDecoded) → answer ≡ soft.Found found → SoftKept call found
 
@@ -202,9 +202,9 @@ pub record SoftParticulars (call : SoftCall) (before after : SoftRoom) (answer :
 -- the particulars of match statistics
 pub record StatsParticulars (list : EdgeList) (transform row col : ℕ) (board : Board) (answer : StatsAnswer) : Type 0 where
   -- DEMAND 1, early refusals
-  pub early : Early (statsAdmission list transform row col board) (AllMet (statsEarly list transform row col board)) (statsCount list) (statsBad list) (statsNumbers01 list transform row col board)
+  pub early : Early (stats_admission list transform row col board) (AllMet (stats_early list transform row col board)) (stats_count list) (stats_bad list) (stats_numbers01 list transform row col board)
       (λ refusal. answer ≡ stats.Refused refusal)
   -- DEMAND 2: every other call gives the statistics of document 01
-  pub by-the-rules : AllMet (statsEarly list transform row col board) → answer ≡ stats.Counted (statsOf list transform row col board)
+  pub by_the_rules : AllMet (stats_early list transform row col board) → answer ≡ stats.Counted (stats_of list transform row col board)
   -- and what is counted is in range: its whole numbers, and no float is a NaN or an infinity
-  pub answer-in-range : (counted : MatchStats) → answer ≡ stats.Counted counted → StatsInRange counted
+  pub answer_in_range : (counted : MatchStats) → answer ≡ stats.Counted counted → StatsInRange counted

@@ -13,11 +13,11 @@ use Rattle.refusals.specs.declared.Admission.TheVariants.{Accepted}
 use Rattle.exact_scan.specs.declared.kept.ExactSelection.{ExactSelection}
 use Rattle.exact.specs.Select.{ExactDone}
 use Rattle.locate_answer.specs.declared.LocateAnswer.{LocateAnswer}
-use Rattle.locate_admission.specs.LocateAdmission.{locateAdmission}
+use Rattle.locate_admission.specs.LocateAdmission.{locate_admission}
 use Rattle.locate.specs.Located.{AfterChecks, LocateDone}
-use Rattle.sliding.specs.Sliding.{Slid, slidPlacing, SlidTo}
+use Rattle.sliding.specs.Sliding.{Slid, slid_placing, SlidTo}
 use Rattle.sliding.specs.ByHits.{ToldThere}
-use Rattle.sliding.specs.OtherEngines.{LocatedSlidTo, located-slides, exactTold, exact-slides}
+use Rattle.sliding.specs.OtherEngines.{LocatedSlidTo, located-slides, exact_told, exact-slides}
 use Rattle.sliding.specs.Example.{SlidExample}
 use Rattle.sliding.specs.Example as example
 use Rattle.sliding.specs.SlideTheorems.{slides}
@@ -34,7 +34,7 @@ slide-the-picture board transforms limit down right before after board-ok before
 -- the same of the engine without tables (C-16), of whatever the contract of `locate` allows for two accepted calls
 pub slide-without-tables : (board : Board) (transforms : List ℕ) (limit : Float) (down right : ℤ) (before after : EdgeList)
     → BoardOk board → ListOk before → ListOk after → length transforms ≤ 8 → Slid down right before after
-    → (one other : LocateAnswer) → locateAdmission before transforms board limit ≡ Accepted → locateAdmission after transforms board limit ≡ Accepted
+    → (one other : LocateAnswer) → locate_admission before transforms board limit ≡ Accepted → locate_admission after transforms board limit ≡ Accepted
     → LocateDone board before transforms limit one → LocateDone board after transforms limit other → LocatedSlidTo board down right one other
 slide-without-tables board transforms limit down right before after board-ok before-ok after-ok few slid one other a b first second =
     located-slides board transforms down right board-ok before after limit before-ok after-ok few slid one other
@@ -44,7 +44,7 @@ slide-without-tables board transforms limit down right before after board-ok bef
 pub slide-exactly : (board : Board) (transforms : List ℕ) (limit : Float) (down right : ℤ) (before after : EdgeList)
     → BoardOk board → ListOk before → ListOk after → 0 < length transforms → length transforms ≤ 8 → Slid down right before after
     → (a a' b b' : List ℕ) (one other : ExactSelection) → ExactDone board before transforms limit a a' one → ExactDone board after transforms limit b b' other
-    → ToldThere (slidPlacing board transforms down right) (exactTold (size before) one) (exactTold (size after) other)
+    → ToldThere (slid_placing board transforms down right) (exact_told (size before) one) (exact_told (size after) other)
 slide-exactly board transforms limit down right before after board-ok before-ok after-ok some few slid a a' b b' one other first second =
     rw (first.answer, second.answer) (exact-slides board transforms down right board-ok before after limit before-ok after-ok some few slid)
 

@@ -1,12 +1,12 @@
 // The hits of a class of origins, counted edge by edge without any table. A class is a long residue with a short one; the three of one long residue are counted together.
 ghost use Rattle.std.specs.Prelude.{◌≡◌, [], not, cond, ◌+◌, ◌%◌, ◌≤◌, ◌<◌, pos, nat_abs, ◌+ℤ◌, eqb, length};
 ghost use Rattle.laws.specs.Words.{put};
-ghost use Rattle.laws.specs.Modulus.{modulusOf};
-ghost use Rattle.board.specs.Transform.{matrixOf};
-ghost use Rattle.board.specs.Hits.{edges, tables, patternBit};
+ghost use Rattle.laws.specs.Modulus.{modulus_of};
+ghost use Rattle.board.specs.Transform.{matrix_of};
+ghost use Rattle.board.specs.Hits.{edges, tables, pattern_bit};
 ghost use Rattle.board.specs.Domain.{EdgeOk, BoardOk, Patterns};
-ghost use Rattle.classes.specs.Classes.{addedThree, straight, edgeAdded, threeOf, CountReady};
-ghost use Rattle.board.specs.Sides.{periodOf};
+ghost use Rattle.classes.specs.Classes.{added_three, straight, edge_added, three_of, CountReady};
+ghost use Rattle.board.specs.Sides.{period_of};
 
 use board::edge::Edge;
 use board::pattern::pattern_bit;
@@ -52,10 +52,10 @@ fn add_three(
     long: u32,
     bit: u8,
 ) -> Three
-    requires patterns { Patterns patterns.now × (period ≡ modulusOf (length patterns.now)) × (long < length patterns.now) }
+    requires patterns { Patterns patterns.now × (period ≡ modulus_of (length patterns.now)) × (long < length patterns.now) }
     requires x_bound { (nat_abs x ≤ 2000002) × (nat_abs y ≤ 2000002) }
     requires a_bound { (sum.a < 8192) × (sum.b < 8192) × (sum.c < 8192) }
-    ensures { result ≡ addedThree (λ k. eqb (patternBit patterns.now (x +ℤ pos long) (y +ℤ pos k)) bit) sum }
+    ensures { result ≡ added_three (λ k. eqb (pattern_bit patterns.now (x +ℤ pos long) (y +ℤ pos k)) bit) sum }
 {
     let at = wrapped(laws::residue(x, period) + long, period.n) as usize;
     let p = patterns[at];
@@ -73,7 +73,7 @@ fn add_three(
 
 // Whether the transform t, whose matrix is given, puts horizontal edges on the side that is asked for. Vertical edges then lie on the other side.
 fn is_straight(t: u8, matrix: [[i32; 2]; 2], horizontal: bool) -> bool
-    requires { matrix ≡ matrixOf t }
+    requires { matrix ≡ matrix_of t }
     ensures { result ≡ straight t horizontal }
 {
     let turn = matrix[1][0];
@@ -106,10 +106,10 @@ fn count_edge(
     straight: bool,
     long: u32,
 ) -> Three
-    requires board_ok { BoardOk (tables h.now v.now) × (period ≡ modulusOf (periodOf (tables h.now v.now) horizontal)) }
-    requires edge_ok { EdgeOk edge t × (matrix ≡ matrixOf t) × (straight ≡ Rattle.classes.specs.Classes.straight t horizontal) × (long < periodOf (tables h.now v.now) horizontal) }
+    requires board_ok { BoardOk (tables h.now v.now) × (period ≡ modulus_of (period_of (tables h.now v.now) horizontal)) }
+    requires edge_ok { EdgeOk edge t × (matrix ≡ matrix_of t) × (straight ≡ Rattle.classes.specs.Classes.straight t horizontal) × (long < period_of (tables h.now v.now) horizontal) }
     requires a_bound { (sum.a < 8192) × (sum.b < 8192) × (sum.c < 8192) }
-    ensures { result ≡ edgeAdded (tables h.now v.now) t horizontal long edge sum }
+    ensures { result ≡ edge_added (tables h.now v.now) t horizontal long edge sum }
 {
     let bit = edge.bit;
     if is_on(edge.orientation, straight) {
@@ -126,7 +126,7 @@ fn count_edge(
 
 // How many long residues a side has: the length of its pattern table.
 pub fn period_of(h: &[u8], v: &[u8], horizontal: bool) -> usize
-    ensures { result ≡ periodOf (tables h.now v.now) horizontal }
+    ensures { result ≡ period_of (tables h.now v.now) horizontal }
 {
     if horizontal {
         return h.len();
@@ -146,8 +146,8 @@ pub fn long_hits(
     h: &[u8],
     v: &[u8],
 ) -> Three
-    requires { CountReady (tables h.now v.now) (edges rows.now cols.now orientations.now bits.now []) t × (long < periodOf (tables h.now v.now) horizontal) }
-    ensures { result ≡ threeOf (tables h.now v.now) (edges rows.now cols.now orientations.now bits.now []) t horizontal long }
+    requires { CountReady (tables h.now v.now) (edges rows.now cols.now orientations.now bits.now []) t × (long < period_of (tables h.now v.now) horizontal) }
+    ensures { result ≡ three_of (tables h.now v.now) (edges rows.now cols.now orientations.now bits.now []) t horizontal long }
 {
     let matrix = lookup::matrix_of(t);
     let straight = is_straight(t, matrix, horizontal);

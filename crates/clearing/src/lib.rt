@@ -1,6 +1,6 @@
 // Lent room set to zero, one function for each type.
 ghost use Rattle.std.specs.Prelude.{◌≡◌, ◌≤◌, length, pos};
-ghost use Rattle.laws.specs.Words.{zeroF, cleared};
+ghost use Rattle.laws.specs.Words.{zero_f, cleared};
 
 // Sets the first n places of a lent u32 slice to 0; the surplus stays as it was.
 pub fn clear_u32(room: &mut [u32], n: usize)
@@ -15,7 +15,7 @@ pub fn clear_u32(room: &mut [u32], n: usize)
 // Sets the first n places of a lent f32 slice to +0; the surplus stays as it was.
 pub fn clear_f32(room: &mut [f32], n: usize)
     requires { n ≤ length room.old }
-    ensures { room.new ≡ cleared zeroF n room.old }
+    ensures { room.new ≡ cleared zero_f n room.old }
 {
     for j in 0..n {
         room[j] = 0.0;

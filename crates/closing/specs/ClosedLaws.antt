@@ -10,25 +10,25 @@ use Rattle.closing.specs.Closed.{closed}
 
 module _ {A : Type 0} (d z : A) (p n : ℕ) (l : List A) where
   -- what place k of the front holds afterwards
-  abbrev pub closedAt : ℕ → A
-  closedAt k = cond (ltb k p) (get_or l k d) (cond (ltb (suc k) n) (get_or l (suc k) d) z)
+  abbrev pub closed_at : ℕ → A
+  closed_at k = cond (ltb k p) (get_or l k d) (cond (ltb (suc k) n) (get_or l (suc k) d) z)
 
-  pub before_at : (k : ℕ) → k < p → closedAt k ≡ get_or l k d
+  pub before_at : (k : ℕ) → k < p → closed_at k ≡ get_or l k d
   before_at k h = rw (lt-ltb k p h)
 
-  pub after-at : (k : ℕ) → p ≤ k → suc k < n → closedAt k ≡ get_or l (suc k) d
+  pub after-at : (k : ℕ) → p ≤ k → suc k < n → closed_at k ≡ get_or l (suc k) d
   after-at k h m = rw (le-ltb k p h, lt-ltb (suc k) n m)
 
-  pub freed-at : (k : ℕ) → p ≤ k → n ≤ suc k → closedAt k ≡ z
+  pub freed-at : (k : ℕ) → p ≤ k → n ≤ suc k → closed_at k ≡ z
   freed-at k h m = rw (le-ltb k p h, le-ltb (suc k) n m)
 
   -- a loop that closes up, before place i
   pub record Closing (new : List A) (i : ℕ) : Type 0 where
     pub from : p ≤ i
     pub upto : i ≤ n - 1
-    pub so_far : Written d closedAt l new i
+    pub so_far : Written d closed_at l new i
 
-  reach : (new : List A) (i j : ℕ) → i ≡ j → Written d closedAt l new i → Written d closedAt l new j
+  reach : (new : List A) (i j : ℕ) → i ≡ j → Written d closed_at l new i → Written d closed_at l new j
   reach new i j e w = rw (sym e) w
 
   module _ (inside : p < n) (room : n ≤ length l) where
@@ -79,8 +79,8 @@ module _ {A : Type 0} (d z : A) (p n : ℕ) (l : List A) where
         let f : n + j ≡ k = omega arith in
         ap (λ (i : ℕ). get_or (take p l ++ rest) i d) e ∙ from_last (suc j) ∙ get_or-drop n l j d ∙ ap (λ (i : ℕ). get_or l i d) f
 
-    -- THE COLUMN BY INDEX: its first n places are as `closedAt` says, the others as they were
-    pub closed-written : Written d closedAt l (closed z p n l) n
+    -- THE COLUMN BY INDEX: its first n places are as `closed_at` says, the others as they were
+    pub closed-written : Written d closed_at l (closed z p n l) n
     unfolding closed
     closed-written = record {
       len = simp (length-append, length-take, length-drop) (omega arith);
@@ -98,13 +98,13 @@ module _ {A : Type 0} (d z : A) (p n : ℕ) (l : List A) where
         record {
           from = omega (arith, c.from);
           upto = omega arith;
-          so_far = written-more d closedAt l new i x c.so_far (omega arith) (e ∙ c.so_far.back (i + 1) (omega arith) ∙ ap (λ (k : ℕ). get_or l k d) s ∙ sym (after-at i c.from (omega arith)));
+          so_far = written-more d closed_at l new i x c.so_far (omega arith) (e ∙ c.so_far.back (i + 1) (omega arith) ∙ ap (λ (k : ℕ). get_or l k d) s ∙ sym (after-at i c.from (omega arith)));
         }
 
     pub closing-done : (new : List A) (i : ℕ) → Closing new i → n - 1 ≤ i → set new (n - 1) z ≡ closed z p n l
     closing-done new i c h =
         let e : i ≡ n - 1 = omega (arith, c.upto) in
         let m : n - 1 + 1 ≡ n = omega arith in
-        written-unique d closedAt l (set new (n - 1) z) (closed z p n l) n
-        (reach (set new (n - 1) z) (n - 1 + 1) n m (written-more d closedAt l new (n - 1) z (reach new i (n - 1) e c.so_far) (omega arith) (sym (freed-at (n - 1) (omega arith) (omega arith)))))
+        written-unique d closed_at l (set new (n - 1) z) (closed z p n l) n
+        (reach (set new (n - 1) z) (n - 1 + 1) n m (written-more d closed_at l new (n - 1) z (reach new i (n - 1) e c.so_far) (omega arith) (sym (freed-at (n - 1) (omega arith) (omega arith)))))
         closed-written

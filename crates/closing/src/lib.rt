@@ -1,6 +1,6 @@
 // One element taken out of the front of a column: the rest closes up, the freed place is zero, and what stands behind the front stays. One function for each type.
 ghost use Rattle.std.specs.Prelude.{◌≡◌, ◌<◌, ◌≤◌, length, pos};
-ghost use Rattle.laws.specs.Words.{zeroF};
+ghost use Rattle.laws.specs.Words.{zero_f};
 ghost use Rattle.closing.specs.Closed.{closed};
 
 // Takes element `at` out of the first n of an i32 column.
@@ -34,7 +34,7 @@ pub fn close_u8(xs: &mut [u8], at: usize, n: usize)
 // Takes element `at` out of the first n of an f32 column.
 pub fn close_f32(xs: &mut [f32], at: usize, n: usize)
     requires { (at < n) × (n ≤ length xs.old) }
-    ensures { xs.new ≡ closed zeroF at n xs.old }
+    ensures { xs.new ≡ closed zero_f at n xs.old }
 {
     let before = n - 1;
     let mut k = at;

@@ -9,21 +9,21 @@ use Rattle.scan.specs.declared.scan.Candidate.{Candidate}
 use Rattle.scan.specs.declared.scan.RunnerUp.{RunnerUp}
 use Rattle.hard.specs.declared.select.Selection.{Selection}
 use Rattle.hard.specs.declared.select.Selection.TheVariants as sel
-use Rattle.hard.specs.Select.{selection, Rooms, builtTo}
+use Rattle.hard.specs.Select.{selection, Rooms, built_to}
 use Rattle.decide.specs.declared.Outcome.{Outcome}
 use Rattle.decide.specs.declared.Outcome.TheVariants.{Refused, Decided}
 
 -- the winner where the gate is passed
-abbrev pub whenPassed : Bool → Candidate → RunnerUp → Outcome
-whenPassed true w runner-up = Decided w runner-up
-whenPassed false w runner-up = Refused (numbered why.notFarAhead)
+abbrev pub when_passed : Bool → Candidate → RunnerUp → Outcome
+when_passed true w runner-up = Decided w runner-up
+when_passed false w runner-up = Refused (numbered why.not_far_ahead)
 
 -- a selection of a list of so many edges, asked by the gate
 abbrev pub gated : ℕ → Selection → Outcome
 gated edges (sel.Refused r) = Refused r
-gated edges (sel.Selected w runner-up) = whenPassed (passed edges w.hits runner-up.hits) w runner-up
+gated edges (sel.Selected w runner-up) = when_passed (passed edges w.hits runner-up.hits) w runner-up
 
 -- what deciding a list did: its outcome, and the room as the selection leaves it
 pub record DecideDone (B : Board) (E : EdgeList) (ts : List ℕ) (limit : Float) (c c' : List ℕ) (w w' : List Float) (r : Outcome) : Type 0 where
   pub answer : r ≡ gated (size E) (selection B E ts limit)
-  pub rooms : Rooms B E ts (builtTo E ts) c c' w w'
+  pub rooms : Rooms B E ts (built_to E ts) c c' w w'

@@ -1,7 +1,7 @@
 // Exact decode (request C-15): which square the camera faces, judged by hits, with weights that add exactly, or a refusal.
 ghost use Rattle.std.specs.Prelude.{◌≡◌, length};
 ghost use Rattle.board.specs.Hits.{edges, tables};
-ghost use Rattle.admission.specs.Calls.{hardCall};
+ghost use Rattle.admission.specs.Calls.{hard_call};
 ghost use Rattle.decode_exact.specs.ExactAnswer.{ExactCallDone};
 
 use exact_answer::ExactAnswer;
@@ -31,7 +31,7 @@ pub fn decode_exact<'a>(
     units: &mut [u64],
 ) -> ExactAnswer
     ensures { ExactCallDone
-        (hardCall
+        (hard_call
         (edges lrows.now lcols.now lorientations.now lbits.now lconfidences.now)
         (edges prows.now pcols.now porientations.now pbits.now pconfidences.now)
         transforms.now (tables h.now v.now) error_limit)

@@ -3,44 +3,44 @@ use Rattle.std.specs.Prelude.{◌≡◌, List, ℕ, length, Float}
 use Rattle.std.proofs.Math.Path.{sym, ap}
 use Rattle.std.proofs.Common.{◌∙◌}
 use Rattle.std.specs.Float.Ieee.{nan}
-use Rattle.laws.specs.Words.{zeroF, cleared}
+use Rattle.laws.specs.Words.{zero_f, cleared}
 use Rattle.laws.specs.Cleared.{cleared-forgets}
-use Rattle.room.specs.Room.{tablesRoom}
+use Rattle.room.specs.Room.{tables_room}
 use Rattle.refusals.specs.declared.Refusal.{Refusal}
 use Rattle.refusals.specs.declared.Admission.{Admission}
 use Rattle.refusals.specs.declared.Admission.TheVariants as admission
 use Rattle.admission.specs.Calls.{HardCall}
-use Rattle.admission.specs.Refusals.{hardAdmission}
+use Rattle.admission.specs.Refusals.{hard_admission}
 use Rattle.admission.specs.Accepted.{HardAccepted}
 use Rattle.answer.specs.declared.Answer.{Answer}
 use Rattle.answer.specs.declared.Answer.TheVariants.{Refused}
-use Rattle.verdict.specs.Verdict.{whenAccepted}
+use Rattle.verdict.specs.Verdict.{when_accepted}
 use Rattle.demand.specs.Left.{left}
-use Rattle.hard_core.specs.Hard.{hardCore, CoreDone}
-use Rattle.decode_hard.specs.HardAnswer.{hardAnswer, HardDone}
+use Rattle.hard_core.specs.Hard.{hard_core, CoreDone}
+use Rattle.decode_hard.specs.HardAnswer.{hard_answer, HardDone}
 
 -- ---- the two ways in which hard decode ends
 module _ (call : HardCall) (c : List ℕ) (w : List Float) where
-  module _ (a : Admission) (e : a ≡ hardAdmission call (length c) (length w)) where
+  module _ (a : Admission) (e : a ≡ hard_admission call (length c) (length w)) where
     pub hard-refused : (x : Refusal) → a ≡ admission.Refused x → HardDone call c c w w (Refused x)
-    unfolding hardAnswer left
+    unfolding hard_answer left
     hard-refused x n =
         let f = sym n ∙ e in
         record {
-          answer = ap (λ (y : Admission). whenAccepted Refused y (hardCore call)) f;
-          counts = ap (λ (y : Admission). left 0 (tablesRoom call.board) y c) f;
-          weights = ap (λ (y : Admission). left zeroF (tablesRoom call.board) y w) f;
+          answer = ap (λ (y : Admission). when_accepted Refused y (hard_core call)) f;
+          counts = ap (λ (y : Admission). left 0 (tables_room call.board) y c) f;
+          weights = ap (λ (y : Admission). left zero_f (tables_room call.board) y w) f;
         }
 
     pub hard-done : (c' c'' : List ℕ) (w' w'' : List Float) (r : Answer) → a ≡ admission.Accepted → HardAccepted call (length c) (length w) → CoreDone call c c' w w' r
-        → c'' ≡ cleared 0 (tablesRoom call.board) c' → w'' ≡ cleared zeroF (tablesRoom call.board) w' → HardDone call c c'' w w'' r
-    unfolding hardAnswer left
+        → c'' ≡ cleared 0 (tables_room call.board) c' → w'' ≡ cleared zero_f (tables_room call.board) w' → HardDone call c c'' w w'' r
+    unfolding hard_answer left
     hard-done c' c'' w' w'' r z A D u v =
         let f = sym z ∙ e in
         record {
-          answer = D.answer ∙ ap (λ (y : Admission). whenAccepted Refused y (hardCore call)) f;
-          counts = u ∙ cleared-forgets 0 (tablesRoom call.board) 0 c c' A.room.0 D.counts ∙ ap (λ (y : Admission). left 0 (tablesRoom call.board) y c) f;
-          weights = v ∙ cleared-forgets nan (tablesRoom call.board) zeroF w w' A.room.1 D.weights ∙ ap (λ (y : Admission). left zeroF (tablesRoom call.board) y w) f;
+          answer = D.answer ∙ ap (λ (y : Admission). when_accepted Refused y (hard_core call)) f;
+          counts = u ∙ cleared-forgets 0 (tables_room call.board) 0 c c' A.room.0 D.counts ∙ ap (λ (y : Admission). left 0 (tables_room call.board) y c) f;
+          weights = v ∙ cleared-forgets nan (tables_room call.board) zero_f w w' A.room.1 D.weights ∙ ap (λ (y : Admission). left zero_f (tables_room call.board) y w) f;
         }
 
   -- any two results that the promise allows are equal

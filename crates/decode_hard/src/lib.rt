@@ -1,7 +1,7 @@
 // Hard decode: which square the camera faces, judged by hits, or a refusal.
 ghost use Rattle.std.specs.Prelude.{◌≡◌, ◌≤◌, ◌<◌, length};
 ghost use Rattle.board.specs.Hits.{edges, tables};
-ghost use Rattle.admission.specs.Calls.{hardCall};
+ghost use Rattle.admission.specs.Calls.{hard_call};
 ghost use Rattle.decode_hard.specs.HardAnswer.{HardDone};
 
 use answer::Answer;
@@ -30,7 +30,7 @@ pub fn decode_hard<'a>(
     weights: &mut [f32],
 ) -> Answer
     ensures { HardDone
-        (hardCall
+        (hard_call
         (edges lrows.now lcols.now lorientations.now lbits.now lconfidences.now)
         (edges prows.now pcols.now porientations.now pbits.now pconfidences.now)
         transforms.now (tables h.now v.now) error_limit)

@@ -1,7 +1,7 @@
 // Decode over a part of a flat board (request C-20): which square of the part the camera faces, judged by hits, with weights that add exactly, or a refusal.
 ghost use Rattle.std.specs.Prelude.{◌≡◌, length};
 ghost use Rattle.board.specs.Hits.{edges, tables};
-ghost use Rattle.admission.specs.Calls.{hardCall};
+ghost use Rattle.admission.specs.Calls.{hard_call};
 ghost use Rattle.decode_part.specs.PartAnswer.{PartCallDone};
 
 use laws::Periods;
@@ -32,7 +32,7 @@ pub fn decode_part<'a>(
     units: &mut [u64],
 ) -> PartAnswer
     ensures { PartCallDone
-        (hardCall
+        (hard_call
         (edges lrows.now lcols.now lorientations.now lbits.now lconfidences.now)
         (edges prows.now pcols.now porientations.now pbits.now pconfidences.now)
         transforms.now (tables h.now v.now) error_limit) part

@@ -2,7 +2,7 @@
 ghost use Rattle.std.specs.Prelude.{◌≡◌, ◌≤◌, ◌<◌, length};
 ghost use Rattle.board.specs.Hits.{edges, tables};
 ghost use Rattle.likelihood.specs.Likelihood.{likelihoods};
-ghost use Rattle.admission.specs.Calls.{softCall};
+ghost use Rattle.admission.specs.Calls.{soft_call};
 ghost use Rattle.decode_soft.specs.SoftAnswer.{SoftDone};
 
 use answer::SoftAnswer;
@@ -35,7 +35,7 @@ pub fn decode_soft<'a>(
     sums: &mut [i64],
 ) -> SoftAnswer
     ensures { SoftDone
-        (softCall
+        (soft_call
         (edges lrows.now lcols.now lorientations.now lbits.now lconfidences.now)
         (edges prows.now pcols.now porientations.now pbits.now pconfidences.now)
         (likelihoods matches.now mismatches.now)

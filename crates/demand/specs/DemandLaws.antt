@@ -4,13 +4,13 @@ use Rattle.std.proofs.Common.{sym, ap, ap₂, subst, ◌∙◌, inl, inr, ⊎_el
 use Rattle.std.proofs.Math.Arith.{digits_div, digits_mod, digits_lt}
 use Rattle.std.proofs.lemmas.Bool.{eqb-false}
 use Rattle.board.specs.declared.edge.Placing.{Placing}
-use Rattle.board.specs.Hits.{EdgeList, Board, size, hits, hitsAt}
-use Rattle.board.specs.Sides.{periodOf}
+use Rattle.board.specs.Hits.{EdgeList, Board, size, hits, hits_at}
+use Rattle.board.specs.Sides.{period_of}
 use Rattle.board.specs.Domain.{BoardOk, ListOk}
-use Rattle.scan.specs.Scan.{overLimit}
+use Rattle.scan.specs.Scan.{over_limit}
 use Rattle.hard.specs.Placings.{Sole, MostOther}
-use Rattle.hard.specs.OneList.{originNumber, key_at}
-use Rattle.hard.specs.SelectTheorems.{hitsAtKey}
+use Rattle.hard.specs.OneList.{origin_number, key_at}
+use Rattle.hard.specs.SelectTheorems.{hits_at_key}
 use Rattle.answer.specs.declared.Square.{Square}
 use Rattle.demand.specs.Demand.{OnBoard, Same, Leads, RunsUp, RunnerUpExists, Names}
 
@@ -38,56 +38,56 @@ leader-named B E ts limit P Q s l m n =
 -- ---- placings and keys
 module _ (B : Board) (board : BoardOk B) where
   abbrev pub rows : ℕ
-  rows = 3 * periodOf B true
+  rows = 3 * period_of B true
 
   abbrev pub columns : ℕ
-  columns = 3 * periodOf B false
+  columns = 3 * period_of B false
 
-  wide : 0 < 3 * periodOf B false
+  wide : 0 < 3 * period_of B false
   wide = omega (arith, board.v.some)
 
   -- the key of a placing's origin, and the placing with a key
   abbrev pub key_of : Placing → ℕ
-  key_of P = key_at (periodOf B false) P.row P.col
+  key_of P = key_at (period_of B false) P.row P.col
 
   abbrev pub placing : ℕ → ℕ → Placing
-  placing p k = record { listed = p; row = k / (3 * periodOf B false); col = k % (3 * periodOf B false) }
+  placing p k = record { listed = p; row = k / (3 * period_of B false); col = k % (3 * period_of B false) }
 
   module _ (ts : List ℕ) where
-    pub key_below : (P : Placing) → OnBoard B ts P → key_of P < originNumber (periodOf B true) (periodOf B false)
+    pub key_below : (P : Placing) → OnBoard B ts P → key_of P < origin_number (period_of B true) (period_of B false)
     key_below P o = digits_lt o.row o.col
 
-    pub placing-on : (p k : ℕ) → p < length ts → k < originNumber (periodOf B true) (periodOf B false) → OnBoard B ts (placing p k)
+    pub placing-on : (p k : ℕ) → p < length ts → k < origin_number (period_of B true) (period_of B false) → OnBoard B ts (placing p k)
     placing-on p k h l = record { in_list = h; row = (div-lt_iff_lt-mul wide).1 l; col = mod-lt k wide }
 
     -- a placing comes back from its key
-    pub row_back : (P : Placing) → OnBoard B ts P → key_of P / (3 * periodOf B false) ≡ P.row
+    pub row_back : (P : Placing) → OnBoard B ts P → key_of P / (3 * period_of B false) ≡ P.row
     row_back P o = digits_div P.row o.col
 
-    pub col-back : (P : Placing) → OnBoard B ts P → key_of P % (3 * periodOf B false) ≡ P.col
+    pub col-back : (P : Placing) → OnBoard B ts P → key_of P % (3 * period_of B false) ≡ P.col
     col-back P o = digits_mod P.row o.col
 
     pub key_back : (p k : ℕ) → key_of (placing p k) ≡ k
-    key_back p k = div-add-mod' k (3 * periodOf B false)
+    key_back p k = div-add-mod' k (3 * period_of B false)
 
     -- the same placing, by key
     pub same_key : (P Q : Placing) → Same P Q → (P.listed ≡ Q.listed) × (key_of P ≡ key_of Q)
-    same_key P Q s = (s.0, ap₂ (key_at (periodOf B false)) s.1 s.2)
+    same_key P Q s = (s.0, ap₂ (key_at (period_of B false)) s.1 s.2)
 
     pub key-same : (P Q : Placing) → OnBoard B ts P → OnBoard B ts Q → (P.listed ≡ Q.listed) × (key_of P ≡ key_of Q) → Same P Q
     key-same P Q o u s = (
       s.0,
-      sym (row_back P o) ∙ ap (λ (k : ℕ). k / (3 * periodOf B false)) s.1 ∙ row_back Q u,
-      sym (col-back P o) ∙ ap (λ (k : ℕ). k % (3 * periodOf B false)) s.1 ∙ col-back Q u,
+      sym (row_back P o) ∙ ap (λ (k : ℕ). k / (3 * period_of B false)) s.1 ∙ row_back Q u,
+      sym (col-back P o) ∙ ap (λ (k : ℕ). k % (3 * period_of B false)) s.1 ∙ col-back Q u,
     )
 
     module _ (E : EdgeList) (limit : Float) where
       -- its hits, by key
-      pub hits-key : (P : Placing) → OnBoard B ts P → hitsAtKey B E ts P.listed (key_of P) ≡ hitsAt B E ts P
+      pub hits-key : (P : Placing) → OnBoard B ts P → hits_at_key B E ts P.listed (key_of P) ≡ hits_at B E ts P
       hits-key P o = ap₂ (hits B E (get_or ts P.listed 0)) (row_back P o) (col-back P o)
 
       abbrev SoleAt : ℕ → ℕ → Type 0
-      SoleAt = Sole (length ts) (originNumber (periodOf B true) (periodOf B false)) (size E) limit (hitsAtKey B E ts)
+      SoleAt = Sole (length ts) (origin_number (period_of B true) (period_of B false)) (size E) limit (hits_at_key B E ts)
 
       -- a lead is a sole placing, both ways
       pub leads-sole : (P : Placing) → Leads B E ts limit P → SoleAt P.listed (key_of P)
@@ -97,7 +97,7 @@ module _ (B : Board) (board : BoardOk B) where
           record {
             listed = o.in_list;
             key = key_below P o;
-            allowed = ap (overLimit (size E) limit) e ∙ l.within;
+            allowed = ap (over_limit (size E) limit) e ∙ l.within;
             ahead = λ q j hq hj ne.
                 let u = placing-on q j hq hj in
                 let a = l.ahead (placing q j) u (λ s. let t = same_key (placing q j) P s in ne (t.0, sym (key_back q j) ∙ t.1)) in
@@ -109,13 +109,13 @@ module _ (B : Board) (board : BoardOk B) where
           let e = hits-key P o in
           record {
             on-board = o;
-            within = ap (overLimit (size E) limit) (sym e) ∙ s.allowed;
+            within = ap (over_limit (size E) limit) (sym e) ∙ s.allowed;
             ahead = λ Q u ne. omega (arith, e, hits-key Q u, s.ahead Q.listed (key_of Q) u.in_list (key_below Q u) (λ t. ne (key-same Q P u o t)));
           }
 
       -- the most hits of any other placing are a runner-up's
-      pub most-runs-up : (P Q : Placing) (r : ℕ) → OnBoard B ts P → OnBoard B ts Q → (Same Q P → ⊥) → hitsAt B E ts Q ≡ r
-          → MostOther (length ts) (originNumber (periodOf B true) (periodOf B false)) (size E) limit (hitsAtKey B E ts) P.listed (key_of P) r → RunsUp B E ts P Q
+      pub most-runs-up : (P Q : Placing) (r : ℕ) → OnBoard B ts P → OnBoard B ts Q → (Same Q P → ⊥) → hits_at B E ts Q ≡ r
+          → MostOther (length ts) (origin_number (period_of B true) (period_of B false)) (size E) limit (hits_at_key B E ts) P.listed (key_of P) r → RunsUp B E ts P Q
       most-runs-up P Q r o u ne e m = record {
         on-board = u;
         other = ne;
@@ -123,9 +123,9 @@ module _ (B : Board) (board : BoardOk B) where
       }
 
       -- and there is one
-      pub most-exists : (P : Placing) (r : ℕ) → OnBoard B ts P → MostOther (length ts) (originNumber (periodOf B true) (periodOf B false)) (size E) limit (hitsAtKey B E ts) P.listed (key_of P) r → RunnerUpExists B E ts P r
+      pub most-exists : (P : Placing) (r : ℕ) → OnBoard B ts P → MostOther (length ts) (origin_number (period_of B true) (period_of B false)) (size E) limit (hits_at_key B E ts) P.listed (key_of P) r → RunnerUpExists B E ts P r
       most-exists P r o m =
           let w = m.reached in
           let Q = placing w.0 w.1 in
           let other : Same Q P → ⊥ = λ s. let k = same_key Q P s in w.4 (k.0, sym (key_back w.0 w.1) ∙ k.1) in
-          record { one = Q; runs_up = most-runs-up P Q r o (placing-on w.0 w.1 w.2 w.3) other w.5 m; with-hits = w.5 }
+          record { one = Q; runs_up = most-runs-up P Q r o (placing-on w.0 w.1 w.2 w.3) other w.5 m; with_hits = w.5 }

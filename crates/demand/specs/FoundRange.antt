@@ -18,19 +18,19 @@ pub record SquareInRange (L : ℕ) (s : Square) : Type 0 where
   pub col : s.col < 501
 
 -- what hard and soft answers share: the square, hits of edges, and the runner-up with its hits
-pub record WholesInRange (L : ℕ) (square : Square) (hits edges : ℕ) (runner-up : Square) (runner-up-hits : ℕ) : Type 0 where
+pub record WholesInRange (L : ℕ) (square : Square) (hits edges : ℕ) (runner-up : Square) (runner_up_hits : ℕ) : Type 0 where
   pub on-board : SquareInRange L square
-  pub some-hits : hits ≤ edges
+  pub some_hits : hits ≤ edges
   pub few : edges ≤ 8192
-  pub runner-up-on : SquareInRange L runner-up
-  pub runner-up-few : runner-up-hits ≤ 8192
+  pub runner_up_on : SquareInRange L runner-up
+  pub runner_up_few : runner_up_hits ≤ 8192
 
 -- and four floats
-pub record FloatsFinite (weighted-score error-rate mean-confidence best-score : Float) : Type 0 where
+pub record FloatsFinite (weighted-score error_rate mean_confidence best_score : Float) : Type 0 where
   pub weighted : Finite weighted-score
-  pub rate : Finite error-rate
-  pub mean : Finite mean-confidence
-  pub best : Finite best-score
+  pub rate : Finite error_rate
+  pub mean : Finite mean_confidence
+  pub best : Finite best_score
 
 -- a found hard answer: whole numbers and floats
 pub record AnswerInRange (L : ℕ) (d : Decoded) : Type 0 where
@@ -43,7 +43,7 @@ pub record SoftAnswerInRange (L : ℕ) (d : SoftDecoded) : Type 0 where
   pub wholes : WholesInRange L d.square d.hits d.edges d.runner_up d.runner_up_hits
   pub floats : FloatsFinite d.weighted_score d.error_rate d.mean_confidence d.best_score
   pub second : SquareInRange L d.second
-  pub second-score : Finite d.second_score
+  pub second_score : Finite d.second_score
   pub margin : Finite d.margin
 
 -- a placing on the board is named by such a square

@@ -15,7 +15,7 @@ Exactly this that = (this → that) × (that → this)
 pub record LogicalKept (call : HardCall) : Type 0 where
   pub winner : Candidate
   pub runner-up : RunnerUp
-  pub chosen : selection call.board call.logical call.transforms call.error-limit ≡ Selected winner runner-up
+  pub chosen : selection call.board call.logical call.transforms call.error_limit ≡ Selected winner runner-up
 
 -- two placings have the same transform and origin
 abbrev pub SameSquare : List ℕ → Placing → Placing → Type 0

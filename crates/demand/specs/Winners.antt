@@ -3,15 +3,15 @@
 use Rattle.std.specs.Prelude.{◌≡◌, true, false, List, ℕ, ◌≤◌, ◌<◌, get_or, length, Float}
 use Rattle.std.proofs.Common.{sym, ◌∙◌}
 use Rattle.board.specs.declared.edge.Placing.{Placing}
-use Rattle.board.specs.Hits.{EdgeList, Board, size, hitsAt}
-use Rattle.board.specs.Sides.{periodOf}
+use Rattle.board.specs.Hits.{EdgeList, Board, size, hits_at}
+use Rattle.board.specs.Sides.{period_of}
 use Rattle.board.specs.Domain.{ListOk, BoardOk}
 use Rattle.figures.specs.Gate.{passed}
 use Rattle.hard.specs.Placings.{Sole, MostOther}
-use Rattle.hard.specs.OneList.{key_at, originNumber, InRange}
-use Rattle.figures.specs.Figures.{totalConfidence}
+use Rattle.hard.specs.OneList.{key_at, origin_number, InRange}
+use Rattle.figures.specs.Figures.{total_confidence}
 use Rattle.hard.specs.Select.{tables_of, selection}
-use Rattle.hard.specs.SelectTheorems.{hitsAtKey, selected-in-range, selected-most-other, selected-right, selected-runner-up}
+use Rattle.hard.specs.SelectTheorems.{hits_at_key, selected-in-range, selected-most-other, selected-right, selected-runner-up}
 use Rattle.scan.specs.declared.scan.Candidate.{Candidate}
 use Rattle.scan.specs.declared.scan.RunnerUp.{RunnerUp}
 use Rattle.hard.specs.declared.select.Selection.TheVariants.{Selected}
@@ -19,11 +19,11 @@ use Rattle.demand.specs.Demand.{OnBoard, Leads, RunsUp, RunnerUpExists}
 use Rattle.demand.specs.DemandLaws.{same_key, hits-key, sole-leads, most-runs-up, most-exists}
 
 -- the placing of a runner-up at list position p
-abbrev pub runnerAt : ℕ → RunnerUp → Placing
-runnerAt p r = record { listed = p; row = r.row; col = r.col }
+abbrev pub runner_at : ℕ → RunnerUp → Placing
+runner_at p r = record { listed = p; row = r.row; col = r.col }
 
 module _ (B : Board) (E : EdgeList) (ts : List ℕ) (limit : Float) (board : BoardOk B) (list : ListOk E) (few : length ts ≤ 8) (x : Candidate) (r : RunnerUp) (e : selection B E ts limit ≡ Selected x r) where
-  in-range : InRange (periodOf B true) (periodOf B false) (size E) (totalConfidence E) limit (λ p. get_or ts p 0) (λ p. tables_of B E (get_or ts p 0)) (length ts) x r
+  in-range : InRange (period_of B true) (period_of B false) (size E) (total_confidence E) limit (λ p. get_or ts p 0) (λ p. tables_of B E (get_or ts p 0)) (length ts) x r
   in-range = selected-in-range B E ts limit board list few x r e
 
   pub winner-on : OnBoard B ts x.placing
@@ -35,28 +35,28 @@ module _ (B : Board) (E : EdgeList) (ts : List ℕ) (limit : Float) (board : Boa
 
   -- ---- where it passes the gate
   module _ (g : passed (size E) x.hits r.hits ≡ true) where
-    right : Sole (length ts) (originNumber (periodOf B true) (periodOf B false)) (size E) limit (hitsAtKey B E ts) x.placing.listed (key_at (periodOf B false) x.placing.row x.placing.col)
-        × (x.hits ≡ hitsAtKey B E ts x.placing.listed (key_at (periodOf B false) x.placing.row x.placing.col))
-        × MostOther (length ts) (originNumber (periodOf B true) (periodOf B false)) (size E) limit (hitsAtKey B E ts) x.placing.listed (key_at (periodOf B false) x.placing.row x.placing.col) r.hits
+    right : Sole (length ts) (origin_number (period_of B true) (period_of B false)) (size E) limit (hits_at_key B E ts) x.placing.listed (key_at (period_of B false) x.placing.row x.placing.col)
+        × (x.hits ≡ hits_at_key B E ts x.placing.listed (key_at (period_of B false) x.placing.row x.placing.col))
+        × MostOther (length ts) (origin_number (period_of B true) (period_of B false)) (size E) limit (hits_at_key B E ts) x.placing.listed (key_at (period_of B false) x.placing.row x.placing.col) r.hits
     right = selected-right B E ts limit board list few x r e g
 
     pub winner-leads : Leads B E ts limit x.placing
     winner-leads = sole-leads B board ts E limit x.placing winner-on right.0
 
-    pub winner-hits : x.hits ≡ hitsAt B E ts x.placing
+    pub winner-hits : x.hits ≡ hits_at B E ts x.placing
     winner-hits = right.1 ∙ hits-key B board ts E limit x.placing winner-on
 
     -- the list position of the runner-up, and what is known of it
-    pub named : (p : ℕ) × (p < length ts) × (get_or ts p 0 ≡ r.transform) × ((p ≡ x.placing.listed) × (key_at (periodOf B false) r.row r.col ≡ key_at (periodOf B false) x.placing.row x.placing.col) → ⊥) × (hitsAtKey B E ts p (key_at (periodOf B false) r.row r.col) ≡ r.hits)
+    pub named : (p : ℕ) × (p < length ts) × (get_or ts p 0 ≡ r.transform) × ((p ≡ x.placing.listed) × (key_at (period_of B false) r.row r.col ≡ key_at (period_of B false) x.placing.row x.placing.col) → ⊥) × (hits_at_key B E ts p (key_at (period_of B false) r.row r.col) ≡ r.hits)
     named = selected-runner-up B E ts limit board list few x r e g
 
-    runner-on : OnBoard B ts (runnerAt named.0 r)
-    runner-on = record { in_list = named.1; row = in-range.runner-up-row; col = in-range.runner-up-col }
+    runner-on : OnBoard B ts (runner_at named.0 r)
+    runner-on = record { in_list = named.1; row = in-range.runner_up_row; col = in-range.runner_up_col }
 
-    pub runner-hits : hitsAt B E ts (runnerAt named.0 r) ≡ r.hits
-    runner-hits = sym (hits-key B board ts E limit (runnerAt named.0 r) runner-on) ∙ named.4
+    pub runner-hits : hits_at B E ts (runner_at named.0 r) ≡ r.hits
+    runner-hits = sym (hits-key B board ts E limit (runner_at named.0 r) runner-on) ∙ named.4
 
-    pub runs_up : RunsUp B E ts x.placing (runnerAt named.0 r)
+    pub runs_up : RunsUp B E ts x.placing (runner_at named.0 r)
     runs_up =
-        most-runs-up B board ts E limit x.placing (runnerAt named.0 r) r.hits winner-on runner-on
-        (λ s. named.3 (same_key B board ts (runnerAt named.0 r) x.placing s)) runner-hits right.2
+        most-runs-up B board ts E limit x.placing (runner_at named.0 r) r.hits winner-on runner-on
+        (λ s. named.3 (same_key B board ts (runner_at named.0 r) x.placing s)) runner-hits right.2

@@ -1,7 +1,7 @@
 // The direct scan: every origin of one transform in row-major order, each tested against the limit.
 ghost use Rattle.std.specs.Prelude.{◌≡◌, ◌+◌, ◌*◌, ◌%◌, ◌≤◌, ◌<◌};
 ghost use Rattle.best.specs.CellTables.{Period, TablesOk, cells};
-ghost use Rattle.scan.specs.Scan.{offeredWithin};
+ghost use Rattle.scan.specs.Scan.{offered_within};
 ghost use Rattle.direct.specs.Direct.{tried};
 
 use board::edge::Placing;
@@ -30,7 +30,7 @@ fn offer_origin(
     asked: Asked,
 ) -> Kept
     requires { (hits ≤ asked.edges) × (asked.edges ≤ 8192) × (row ≤ 1500) × (col ≤ 1500) }
-    ensures { result ≡ offeredWithin asked.edges asked.error_limit kept (record { hits = hits; score = score; weight = weight; placing = record { listed = listed; row = row; col = col } }) }
+    ensures { result ≡ offered_within asked.edges asked.error_limit kept (record { hits = hits; score = score; weight = weight; placing = record { listed = listed; row = row; col = col } }) }
 {
     let r = row as u32;
     let c = col as u32;

@@ -1,9 +1,9 @@
 // The exact selection on one list: the values of each transform in turn, folded into the scan, and what it comes to.
 ghost use Rattle.std.specs.Prelude.{◌≡◌, ◌<◌, length};
 ghost use Rattle.board.specs.Hits.{edges, tables};
-ghost use Rattle.exact_scan.specs.Exact.{foldExact};
-ghost use Rattle.exact.specs.Select.{UnitsToReady, unitsTo, ExactSelectReady, ExactDone};
-ghost use Rattle.exact.specs.SelectLaws.{roomValues, ValueRoomReady, ExactScanDone};
+ghost use Rattle.exact_scan.specs.Exact.{fold_exact};
+ghost use Rattle.exact.specs.Select.{UnitsToReady, units_to, ExactSelectReady, ExactDone};
+ghost use Rattle.exact.specs.SelectLaws.{room_values, ValueRoomReady, ExactScanDone};
 
 use exact_scan::finish::finish_exact;
 use exact_scan::fold::{empty_exact, fold_values};
@@ -16,7 +16,7 @@ use values::table::weight_of;
 // The total confidence of a list in units of 2^-24: the weights of its edges' values, added up.
 pub fn unit_sum(confidences: &[f32]) -> u64
     requires { UnitsToReady confidences.now }
-    ensures { result ≡ unitsTo confidences.now (length confidences.now) }
+    ensures { result ≡ units_to confidences.now (length confidences.now) }
 {
     let mut sum: u64 = 0;
     for i in 0..confidences.len() {
@@ -35,7 +35,7 @@ fn fold_value_room<'a>(
 ) -> ExactScan
     requires value_room_ready { ValueRoomReady periods.h periods.v units.now }
     requires count_bound { scan.positions.count < 8 }
-    ensures { result ≡ foldExact periods.h periods.v transform (roomValues periods.h periods.v units.now) scan }
+    ensures { result ≡ fold_exact periods.h periods.v transform (room_values periods.h periods.v units.now) scan }
 {
     let a = 3 * periods.h;
     let e = a + 3 * periods.v;

@@ -1,9 +1,9 @@
 // What an accepted exact call answers (request C-15): the winners of both lists by hits and then weight, judged by hits.
 ghost use Rattle.std.specs.Prelude.{◌≡◌, length};
 ghost use Rattle.board.specs.Hits.{edges, tables};
-ghost use Rattle.admission.specs.Calls.{hardCall};
+ghost use Rattle.admission.specs.Calls.{hard_call};
 ghost use Rattle.admission.specs.Accepted.{HardAccepted};
-ghost use Rattle.exact_core.specs.ExactCore.{judgedWinners, ExactCoreDone};
+ghost use Rattle.exact_core.specs.ExactCore.{judged_winners, ExactCoreDone};
 ghost use Rattle.exact_core.specs.ExactReady.{JudgeReady};
 
 use answer::Square;
@@ -29,7 +29,7 @@ fn judge_winners<'a>(
     p: ExactWinner,
 ) -> ExactAnswer
     requires { JudgeReady (tables h.now v.now) (edges rows.now cols.now orientations.now bits.now confidences.now) transforms.now w runner p }
-    ensures { result ≡ judgedWinners (tables h.now v.now)
+    ensures { result ≡ judged_winners (tables h.now v.now)
         (edges rows.now cols.now orientations.now bits.now confidences.now)
         transforms.now w runner p }
 {
@@ -83,12 +83,12 @@ pub fn exact_core<'a>(
     units: &mut [u64],
 ) -> ExactAnswer
     requires { HardAccepted
-        (hardCall
+        (hard_call
         (edges lrows.now lcols.now lorientations.now lbits.now lconfidences.now)
         (edges prows.now pcols.now porientations.now pbits.now pconfidences.now)
         transforms.now (tables h.now v.now) error_limit) (length units.old) (length units.old) }
     ensures { ExactCoreDone
-        (hardCall
+        (hard_call
         (edges lrows.now lcols.now lorientations.now lbits.now lconfidences.now)
         (edges prows.now pcols.now porientations.now pbits.now pconfidences.now)
         transforms.now (tables h.now v.now) error_limit)

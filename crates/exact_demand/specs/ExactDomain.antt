@@ -3,15 +3,15 @@
 use Rattle.std.specs.Prelude.{◌≡◌, List, ℕ, length, replicate}
 use Rattle.std.proofs.Math.Path.{subst}
 use Rattle.std.proofs.lemmas.List.{length-replicate}
-use Rattle.laws.specs.Words.{zeroF}
+use Rattle.laws.specs.Words.{zero_f}
 use Rattle.refusals.specs.declared.Refusal.{Refusal}
 use Rattle.refusals.specs.declared.Admission.{Admission}
 use Rattle.refusals.specs.declared.Admission.TheVariants.{Accepted, Refused}
-use Rattle.room.specs.Room.{tablesFor}
+use Rattle.room.specs.Room.{tables_for}
 use Rattle.admission.specs.Calls.{HardCall, HardRoom}
-use Rattle.admission.specs.Refusals.{hardAdmission}
+use Rattle.admission.specs.Refusals.{hard_admission}
 use Rattle.admission.specs.Conditions.{Condition, AllMet, FirstFails}
-use Rattle.admission.specs.Domain.{Between, PoleLength, Lent, early, hardEarly}
+use Rattle.admission.specs.Domain.{Between, PoleLength, Lent, early, hard_early}
 use Rattle.admission.specs.DomainLaws.{hard-domain, hard-first}
 
 -- the room that an exact call is lent
@@ -20,38 +20,38 @@ pub record ExactRoom : Type 0 where
   pub units : List ℕ
 
 -- what the checks say of the call: hard decode's, by the lengths of the room
-abbrev pub exactChecked : HardCall → ExactRoom → Admission
-exactChecked call room = hardAdmission call (length room.counts) (length room.units)
+abbrev pub exact_checked : HardCall → ExactRoom → Admission
+exact_checked call room = hard_admission call (length room.counts) (length room.units)
 
 -- the conditions with m places of u32 room and n of u64 room: "9L+1,503 u32" and as many u64, "Error limit: f32 from 0 to 1"
-unfoldable pub exactEarlyBy : HardCall → ℕ → ℕ → List Condition
-exactEarlyBy call m n =
-    early (λ P. P call.logical × P call.physical) 1 call.transforms PoleLength call.board (Lent tablesFor (length call.board.h) m × Lent tablesFor (length call.board.h) n) (Unit {0}) (Unit {0})
-    (Between 0 1 call.error-limit)
+unfoldable pub exact_early_by : HardCall → ℕ → ℕ → List Condition
+exact_early_by call m n =
+    early (λ P. P call.logical × P call.physical) 1 call.transforms PoleLength call.board (Lent tables_for (length call.board.h) m × Lent tables_for (length call.board.h) n) (Unit {0}) (Unit {0})
+    (Between 0 1 call.error_limit)
 
 -- an exact call with its room
-abbrev pub exactEarly : HardCall → ExactRoom → List Condition
-exactEarly call room = exactEarlyBy call (length room.counts) (length room.units)
+abbrev pub exact_early : HardCall → ExactRoom → List Condition
+exact_early call room = exact_early_by call (length room.counts) (length room.units)
 
 module _ (call : HardCall) (room : ExactRoom) where
   -- f32 room as long as the u64 room, for hard decode's laws
   abbrev as_long : HardRoom
-  as_long = record { counts = room.counts; weights = replicate (length room.units) zeroF }
+  as_long = record { counts = room.counts; weights = replicate (length room.units) zero_f }
 
   -- with n places of u64 room: accepted exactly when all conditions are met
   abbrev Judged : ℕ → Type 0
   Judged n =
-      (hardAdmission call (length room.counts) n ≡ Accepted → AllMet (exactEarlyBy call (length room.counts) n))
-      × (AllMet (exactEarlyBy call (length room.counts) n) → hardAdmission call (length room.counts) n ≡ Accepted)
+      (hard_admission call (length room.counts) n ≡ Accepted → AllMet (exact_early_by call (length room.counts) n))
+      × (AllMet (exact_early_by call (length room.counts) n) → hard_admission call (length room.counts) n ≡ Accepted)
 
   -- EXACT: accepted exactly when all conditions are met
-  pub exact-domain : (exactChecked call room ≡ Accepted → AllMet (exactEarly call room)) × (AllMet (exactEarly call room) → exactChecked call room ≡ Accepted)
-  unfolding hardEarly exactEarlyBy
-  exact-domain = subst Judged (length-replicate (length room.units) zeroF) (hard-domain call as_long)
+  pub exact-domain : (exact_checked call room ≡ Accepted → AllMet (exact_early call room)) × (AllMet (exact_early call room) → exact_checked call room ≡ Accepted)
+  unfolding hard_early exact_early_by
+  exact-domain = subst Judged (length-replicate (length room.units) zero_f) (hard-domain call as_long)
 
   -- and else refused by the number of the first that is not
-  pub exact-first : (r : Refusal) → exactChecked call room ≡ Refused r → FirstFails (exactEarly call room) r.number
-  unfolding hardEarly exactEarlyBy
+  pub exact-first : (r : Refusal) → exact_checked call room ≡ Refused r → FirstFails (exact_early call room) r.number
+  unfolding hard_early exact_early_by
   exact-first =
-      subst (λ (n : ℕ). (r : Refusal) → hardAdmission call (length room.counts) n ≡ Refused r → FirstFails (exactEarlyBy call (length room.counts) n) r.number) (length-replicate (length room.units) zeroF)
+      subst (λ (n : ℕ). (r : Refusal) → hard_admission call (length room.counts) n ≡ Refused r → FirstFails (exact_early_by call (length room.counts) n) r.number) (length-replicate (length room.units) zero_f)
       (hard-first call as_long)

@@ -4,13 +4,13 @@ use Rattle.refusals.specs.Numbers.{numbered}
 use Rattle.refusals.specs.Numbers as why
 use Rattle.best.specs.CellTables.{Period}
 use Rattle.best.specs.declared.lex.LexMax.{LexMax}
-use Rattle.scan.specs.Scan.{overLimit, emptyScan, pushed, runnerUp}
+use Rattle.scan.specs.Scan.{over_limit, empty_scan, pushed, runner_up_of}
 use Rattle.scan.specs.declared.scan.TransformSummary.{TransformSummary}
 use Rattle.scan.specs.declared.scan.HardScan.{HardScan}
 use Rattle.scan.specs.declared.scan.Kept.TheVariants as old
-use Rattle.folding.specs.Transform.{bestHits, runnerUpWithin, summaryOf}
-use Rattle.unit_terms.specs.Values.{oneHit}
-use Rattle.values.specs.Values.{hitsOf, weightOf, v_at, nAt, value_of, firstOrigin, bestValue, byHits}
+use Rattle.folding.specs.Transform.{best_hits, runner_up_within, summary_of}
+use Rattle.unit_terms.specs.Values.{one_hit}
+use Rattle.values.specs.Values.{hits_of, weight_of, v_at, n_at, value_of, first_origin, best_value, by_hits}
 use Rattle.exact_scan.specs.declared.kept.ExactCandidate.{ExactCandidate}
 use Rattle.exact_scan.specs.declared.kept.ExactKept.{ExactKept}
 use Rattle.exact_scan.specs.declared.kept.ExactKept.TheVariants.{Nobody, One}
@@ -24,84 +24,84 @@ pub record ValueTables : Type 0 where
   pub vs : List ℕ
 
 -- the two together
-abbrev pub valueTables : List ℕ → List ℕ → ValueTables
-valueTables hs vs = record { hs = hs; vs = vs }
+abbrev pub value_tables : List ℕ → List ℕ → ValueTables
+value_tables hs vs = record { hs = hs; vs = vs }
 
 -- tables of a list: as long as the periods say, and the weights of two cells are together less than a hit, so that the hits of a sum are the sum of the hits; no pair of cells has more
 -- hits than a list may have edges
 pub record ValuesOk (L M : ℕ) (X : ValueTables) : Type 0 where
   pub hcells : length X.hs ≡ 3 * L
   pub vcells : length X.vs ≡ 3 * M
-  pub adds : (i j : ℕ) → i < 3 * L → j < 3 * M → weightOf (v_at X.hs i) + weightOf (v_at X.vs j) < oneHit
-  pub bounded : (i j : ℕ) → i < 3 * L → j < 3 * M → nAt X.hs i + nAt X.vs j ≤ 8192
+  pub adds : (i j : ℕ) → i < 3 * L → j < 3 * M → weight_of (v_at X.hs i) + weight_of (v_at X.vs j) < one_hit
+  pub bounded : (i j : ℕ) → i < 3 * L → j < 3 * M → n_at X.hs i + n_at X.vs j ≤ 8192
 
 -- the summary of the transform t by hits alone, from what its two tables say
-unfoldable pub summaryBy : ℕ → ℕ → ℕ → LexMax → LexMax → ℕ → TransformSummary
-unfolding runnerUpWithin summaryOf
-summaryBy L M t a b first = summaryOf M (record { hits = bestHits a b; key = first }) (runnerUpWithin L M a b first) t
+unfoldable pub summary_by : ℕ → ℕ → ℕ → LexMax → LexMax → ℕ → TransformSummary
+unfolding runner_up_within summary_of
+summary_by L M t a b first = summary_of M (record { hits = best_hits a b; key = first }) (runner_up_within L M a b first) t
 
 -- the first origin of greatest value
-unfoldable pub exactOrigin : ℕ → ℕ → ValueTables → ℕ
+unfoldable pub exact_origin : ℕ → ℕ → ValueTables → ℕ
 unfolding value_of
-exactOrigin L M X = firstOrigin L M X.hs X.vs (value_of X.hs) (value_of X.vs)
+exact_origin L M X = first_origin L M X.hs X.vs (value_of X.hs) (value_of X.vs)
 
 -- the summary of the transform t with the tables X
-unfoldable pub exactSummary : ℕ → ℕ → ℕ → ValueTables → TransformSummary
-unfolding summaryBy exactOrigin value_of
-exactSummary L M t X = summaryBy L M t (byHits (value_of X.hs)) (byHits (value_of X.vs)) (exactOrigin L M X)
+unfoldable pub exact_summary : ℕ → ℕ → ℕ → ValueTables → TransformSummary
+unfolding summary_by exact_origin value_of
+exact_summary L M t X = summary_by L M t (by_hits (value_of X.hs)) (by_hits (value_of X.vs)) (exact_origin L M X)
 
 -- the origin with the key k at a list position, with its value
-unfoldable pub candidateAt : ℕ → ℕ → ℕ → ℕ → ExactCandidate
-candidateAt M listed value k = record { value = value; placing = record { listed = listed; row = k / (3 * M); col = k % (3 * M) } }
+unfoldable pub candidate_at : ℕ → ℕ → ℕ → ℕ → ExactCandidate
+candidate_at M listed value k = record { value = value; placing = record { listed = listed; row = k / (3 * M); col = k % (3 * M) } }
 
 -- the best origin of the tables X, at a list position
-unfoldable pub exactCandidate : ℕ → ℕ → ℕ → ValueTables → ExactCandidate
-unfolding candidateAt exactOrigin value_of
-exactCandidate L M listed X = candidateAt M listed (bestValue (value_of X.hs) (value_of X.vs)) (exactOrigin L M X)
+unfoldable pub exact_candidate : ℕ → ℕ → ℕ → ValueTables → ExactCandidate
+unfolding candidate_at exact_origin value_of
+exact_candidate L M listed X = candidate_at M listed (best_value (value_of X.hs) (value_of X.vs)) (exact_origin L M X)
 
 -- the earlier list position wins a tie: k stays, unless the later c has a greater value
-unfoldable pub betterOf : ExactCandidate → ExactCandidate → ExactCandidate
-betterOf k c = cond (leb c.value k.value) k c
+unfoldable pub better_of : ExactCandidate → ExactCandidate → ExactCandidate
+better_of k c = cond (leb c.value k.value) k c
 
 -- what is kept after c: the first one, then the better one
 abbrev pub taken : ExactKept → ExactCandidate → ExactKept
 taken Nobody c = One c
-taken (One k) c = One (betterOf k c)
+taken (One k) c = One (better_of k c)
 
 -- ---- the scan
 -- of no transforms
-unfoldable pub emptyExact : ExactScan
-unfolding emptyScan
-emptyExact = record { positions = emptyScan; best = Nobody }
+unfoldable pub empty_exact : ExactScan
+unfolding empty_scan
+empty_exact = record { positions = empty_scan; best = Nobody }
 
 -- the transform t, with the tables X, at the scan's next list position
-unfoldable pub foldExact : ℕ → ℕ → ℕ → ValueTables → ExactScan → ExactScan
-unfolding exactSummary exactCandidate pushed
-foldExact L M t X scan = record { positions = pushed scan.positions (exactSummary L M t X) old.Nobody; best = taken scan.best (exactCandidate L M scan.positions.count X) }
+unfoldable pub fold_exact : ℕ → ℕ → ℕ → ValueTables → ExactScan → ExactScan
+unfolding exact_summary exact_candidate pushed
+fold_exact L M t X scan = record { positions = pushed scan.positions (exact_summary L M t X) old.Nobody; best = taken scan.best (exact_candidate L M scan.positions.count X) }
 
 -- the first n list positions, of which position p has the transform ts p and the tables tab p
-unfoldable pub exactScanned : ℕ → ℕ → (ℕ → ℕ) → (ℕ → ValueTables) → ℕ → ExactScan
-unfolding emptyExact foldExact
-exactScanned L M ts tab zero = emptyExact
-exactScanned L M ts tab (suc p) = foldExact L M (ts p) (tab p) (exactScanned L M ts tab p)
+unfoldable pub exact_scanned : ℕ → ℕ → (ℕ → ℕ) → (ℕ → ValueTables) → ℕ → ExactScan
+unfolding empty_exact fold_exact
+exact_scanned L M ts tab zero = empty_exact
+exact_scanned L M ts tab (suc p) = fold_exact L M (ts p) (tab p) (exact_scanned L M ts tab p)
 
 -- what a list of so many edges comes to where c is kept: refused where c is over the limit, else c with its runner-up
-unfoldable pub finishedOne : ℕ → Float → HardScan → ExactCandidate → ExactSelection
-unfolding overLimit runnerUp
-finishedOne edges limit h c =
-    cond (overLimit edges limit (hitsOf c.value))
-    (Refused (numbered why.noneWithinLimit))
-    (Selected (record { hits = hitsOf c.value; weight = weightOf c.value; placing = c.placing }) (runnerUp h.summaries c.placing.listed h.count))
+unfoldable pub finished_one : ℕ → Float → HardScan → ExactCandidate → ExactSelection
+unfolding over_limit runner_up_of
+finished_one edges limit h c =
+    cond (over_limit edges limit (hits_of c.value))
+    (Refused (numbered why.none_within_limit))
+    (Selected (record { hits = hits_of c.value; weight = weight_of c.value; placing = c.placing }) (runner_up_of h.summaries c.placing.listed h.count))
 
 -- and by what is kept: nobody is within any limit
-abbrev pub finishedBy : ℕ → Float → HardScan → ExactKept → ExactSelection
-finishedBy edges limit h Nobody = Refused (numbered why.noneWithinLimit)
-finishedBy edges limit h (One c) = finishedOne edges limit h c
+abbrev pub finished_by : ℕ → Float → HardScan → ExactKept → ExactSelection
+finished_by edges limit h Nobody = Refused (numbered why.none_within_limit)
+finished_by edges limit h (One c) = finished_one edges limit h c
 
 -- what the scan comes to
 unfoldable pub finished : ℕ → Float → ExactScan → ExactSelection
-unfolding finishedOne
-finished edges limit scan = finishedBy edges limit scan.positions scan.best
+unfolding finished_one
+finished edges limit scan = finished_by edges limit scan.positions scan.best
 
 -- ---- what folding a transform asks: tables of a list over two periods, and a place left in the scan
 abbrev pub ExactReady : ℕ → ℕ → ValueTables → ExactScan → Type 0
@@ -111,7 +111,7 @@ ExactReady L M X scan = (Period L × Period M × ValuesOk L M X) × (scan.positi
 pub record SoundOne (edges : ℕ) (h : HardScan) (c : ExactCandidate) : Type 0 where
   pub few : h.count ≤ 8
   pub listed : c.placing.listed < h.count
-  pub hits : hitsOf c.value ≤ edges
+  pub hits : hits_of c.value ≤ edges
   pub small : edges ≤ 8192
 
 -- where there is one

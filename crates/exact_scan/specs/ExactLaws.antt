@@ -10,19 +10,19 @@ use Rattle.best.specs.CellTables.{Period}
 use Rattle.best.specs.declared.lex.LexMax.{LexMax}
 use Rattle.grid.specs.BoardGrid.{none-small}
 use Rattle.grid.specs.RowMajorLaws.{major-none}
-use Rattle.scan.specs.Scan.{overLimit, pushed, runnerUp}
+use Rattle.scan.specs.Scan.{over_limit, pushed, runner_up_of}
 use Rattle.scan.specs.declared.scan.TransformSummary.{TransformSummary}
 use Rattle.scan.specs.declared.scan.HardScan.{HardScan}
 use Rattle.scan.specs.declared.scan.RunnerUp.{RunnerUp}
 use Rattle.scan.specs.declared.scan.Kept.TheVariants.{Nobody}
-use Rattle.folding.specs.Transform.{BestOk, bestHits, runnerUpWithin, competitorOf, summaryOf}
+use Rattle.folding.specs.Transform.{BestOk, best_hits, runner_up_within, competitor_of, summary_of}
 use Rattle.folding.specs.TransformLaws.{within-small}
 use Rattle.folding.specs.declared.transform.Ranked.{Ranked}
-use Rattle.unit_terms.specs.Values.{oneHit}
-use Rattle.values.specs.Values.{hitsOf, weightOf, v_at, nAt, valueBest, valueSecond, tiedValue, heldHits, value_of, firstOrigin, bestValue, byHits}
+use Rattle.unit_terms.specs.Values.{one_hit}
+use Rattle.values.specs.Values.{hits_of, weight_of, v_at, n_at, value_best, value_second, tied_value, held_hits, value_of, first_origin, best_value, by_hits}
 use Rattle.values.specs.ValuesLaws.{PairTop, cell_in, cell-top, second-inside}
 use Rattle.values.specs.declared.table.ValueMax.{ValueMax}
-use Rattle.exact_scan.specs.Exact.{ValueTables, ValuesOk, summaryBy, exactOrigin, exactSummary, candidateAt, exactCandidate, betterOf, taken, foldExact, finishedOne}
+use Rattle.exact_scan.specs.Exact.{ValueTables, ValuesOk, summary_by, exact_origin, exact_summary, candidate_at, exact_candidate, better_of, taken, fold_exact, finished_one}
 use Rattle.exact_scan.specs.declared.kept.ExactCandidate.{ExactCandidate}
 use Rattle.exact_scan.specs.declared.kept.ExactKept.{ExactKept}
 use Rattle.exact_scan.specs.declared.kept.ExactScan.{ExactScan}
@@ -31,7 +31,7 @@ use Rattle.exact_scan.specs.declared.kept.ExactSelection.TheVariants.{Refused, S
 -- ---- the tables
 -- what is known of what two tables say, and of their best origin
 pub record ExactSaid (L M : ℕ) (a b : ValueMax) (first : ℕ) : Type 0 where
-  pub best : BestOk L M (byHits a) (byHits b)
+  pub best : BestOk L M (by_hits a) (by_hits b)
   pub value : a.top + b.top ≤ 2 * 4503599627370496
   pub small : first ≤ 2250000
 
@@ -52,10 +52,10 @@ module _ (L M : ℕ) (p : Period L) (q : Period M) (X : ValueTables) (ok : Value
   said-top a b e d = rw (e, d) (cell-top (3 * L) hs (omega (arith, p.more)) ok.hcells, cell-top (3 * M) vs (omega (arith, q.more)) ok.vcells)
 
   abbrev h : ℕ
-  h = valueBest hs
+  h = value_best hs
 
   abbrev v : ℕ
-  v = valueBest vs
+  v = value_best vs
 
   h-in : h < 3 * L
   h-in = omega (arith, ok.hcells, cell_in hs h-two)
@@ -63,50 +63,50 @@ module _ (L M : ℕ) (p : Period L) (q : Period M) (X : ValueTables) (ok : Value
   v-in : v < 3 * M
   v-in = omega (arith, ok.vcells, cell_in vs v-two)
 
-  best-ok : BestOk L M (byHits (value_of hs)) (byHits (value_of vs))
+  best-ok : BestOk L M (by_hits (value_of hs)) (by_hits (value_of vs))
   unfolding value_of
   best-ok =
-      let i : valueSecond hs h < 3 * L = omega (arith, ok.hcells, second-inside hs h-two h) in
-      let j : valueSecond vs v < 3 * M = omega (arith, ok.vcells, second-inside vs v-two v) in
+      let i : value_second hs h < 3 * L = omega (arith, ok.hcells, second-inside hs h-two h) in
+      let j : value_second vs v < 3 * M = omega (arith, ok.vcells, second-inside vs v-two v) in
       record {
         h-cell = h-in;
-        h-second = i;
+        h_second = i;
         v-cell = v-in;
-        v-second = j;
-        h-tied = omega (arith, ok.hcells, p.few, count-le (heldHits hs (nAt hs h)) (length hs));
-        v-tied = omega (arith, ok.vcells, q.few, count-le (heldHits vs (nAt vs v)) (length vs));
-        h-optimal = omega (arith, ok.hcells, p.few, count-le (tiedValue hs (v_at hs h)) (length hs));
-        v-optimal = omega (arith, ok.vcells, q.few, count-le (tiedValue vs (v_at vs v)) (length vs));
+        v_second = j;
+        h_tied = omega (arith, ok.hcells, p.few, count-le (held_hits hs (n_at hs h)) (length hs));
+        v_tied = omega (arith, ok.vcells, q.few, count-le (held_hits vs (n_at vs v)) (length vs));
+        h_optimal = omega (arith, ok.hcells, p.few, count-le (tied_value hs (v_at hs h)) (length hs));
+        v_optimal = omega (arith, ok.vcells, q.few, count-le (tied_value vs (v_at vs v)) (length vs));
         top = ok.bounded h v h-in v-in;
-        across = ok.bounded (valueSecond hs h) v i v-in;
-        down = ok.bounded h (valueSecond vs v) h-in j;
+        across = ok.bounded (value_second hs h) v i v-in;
+        down = ok.bounded h (value_second vs v) h-in j;
       }
 
   -- hits and weights of a pair add up
-  together : (x y : ℕ) → hitsOf x + hitsOf y ≤ 8192 → weightOf x + weightOf y < oneHit → x + y ≤ 2 * 4503599627370496
+  together : (x y : ℕ) → hits_of x + hits_of y ≤ 8192 → weight_of x + weight_of y < one_hit → x + y ≤ 2 * 4503599627370496
   together x y n m = omega arith
 
   value-ok : (value_of hs).top + (value_of vs).top ≤ 2 * 4503599627370496
   unfolding value_of
   value-ok = together (v_at hs h) (v_at vs v) (ok.bounded h v h-in v-in) (ok.adds h v h-in v-in)
 
-  pub said_ok : (a b : ValueMax) (first : ℕ) → a ≡ value_of hs → b ≡ value_of vs → first ≡ firstOrigin L M hs vs a b → ExactSaid L M a b first
+  pub said_ok : (a b : ValueMax) (first : ℕ) → a ≡ value_of hs → b ≡ value_of vs → first ≡ first_origin L M hs vs a b → ExactSaid L M a b first
   said_ok a b first e d f = record {
     best = rw (e, d) best-ok;
     value = rw (e, d) value-ok;
-    small = omega (arith, f, none-small L M p q, major-none (origins L M) (length vs) (tiedValue hs a.top) (tiedValue vs b.top) (length hs));
+    small = omega (arith, f, none-small L M p q, major-none (origins L M) (length vs) (tied_value hs a.top) (tied_value vs b.top) (length hs));
   }
 
   -- ---- the fold from its parts
   pub folded : (t : ℕ) (scan : ExactScan) (a b : ValueMax) (first : ℕ) (s : TransformSummary) (best : ExactKept) (positions : HardScan)
       → a ≡ value_of hs
       → b ≡ value_of vs
-      → first ≡ firstOrigin L M hs vs a b
-      → s ≡ summaryBy L M t (byHits a) (byHits b) first
-      → best ≡ taken scan.best (record { value = bestValue a b; placing = record { listed = scan.positions.count; row = s.best.row; col = s.best.col } })
+      → first ≡ first_origin L M hs vs a b
+      → s ≡ summary_by L M t (by_hits a) (by_hits b) first
+      → best ≡ taken scan.best (record { value = best_value a b; placing = record { listed = scan.positions.count; row = s.best.row; col = s.best.col } })
       → positions ≡ pushed scan.positions s Nobody
-      → record { positions = positions; best = best } ≡ foldExact L M t X scan
-  unfolding foldExact exactSummary exactCandidate exactOrigin candidateAt summaryBy summaryOf competitorOf
+      → record { positions = positions; best = best } ≡ fold_exact L M t X scan
+  unfolding fold_exact exact_summary exact_candidate exact_origin candidate_at summary_by summary_of competitor_of
   folded t scan a b first s best positions ea eb ef es ek ep = rw (ep, ek, es, ef, ea, eb)
 
 -- ---- the summary by hits, from its parts
@@ -115,30 +115,30 @@ module _ (L M : ℕ) (p : Period L) (q : Period M) (a b x y : LexMax) (first : �
   parts-ok = rw (ex, ey) ok
 
   -- the runner-up inside is named by a key as small
-  pub parts-small : within ≡ runnerUpWithin L M x y first → within.key ≤ 2250000
+  pub parts-small : within ≡ runner_up_within L M x y first → within.key ≤ 2250000
   parts-small e = within-small L M p q 8192 x y first within (record { best = parts-ok; most = parts-ok.top; first_small = small }) e
 
-  pub summarized : (t : ℕ) (s : TransformSummary) → within ≡ runnerUpWithin L M x y first → s ≡ summaryOf M (record { hits = bestHits x y; key = first }) within t → s ≡ summaryBy L M t a b first
-  unfolding summaryBy
+  pub summarized : (t : ℕ) (s : TransformSummary) → within ≡ runner_up_within L M x y first → s ≡ summary_of M (record { hits = best_hits x y; key = first }) within t → s ≡ summary_by L M t a b first
+  unfolding summary_by
   summarized t s en es = rw (es, en, ex, ey)
 
 -- ---- the better of two
 module _ (k c : ExactCandidate) where
-  pub stays : c.value ≤ k.value → k ≡ betterOf k c
-  unfolding betterOf
+  pub stays : c.value ≤ k.value → k ≡ better_of k c
+  unfolding better_of
   stays m = rw (le-leb c.value k.value m)
 
-  pub greater : k.value < c.value → c ≡ betterOf k c
-  unfolding betterOf
+  pub greater : k.value < c.value → c ≡ better_of k c
+  unfolding better_of
   greater m = rw (lt-leb c.value k.value m)
 
 -- ---- what the scan comes to
-module _ (edges : ℕ) (limit : Float) (h : HardScan) (c : ExactCandidate) (hits : ℕ) (e : hits ≡ hitsOf c.value) where
-  pub finish-over : overLimit edges limit hits ≡ true → Refused (numbered why.noneWithinLimit) ≡ finishedOne edges limit h c
-  unfolding finishedOne
+module _ (edges : ℕ) (limit : Float) (h : HardScan) (c : ExactCandidate) (hits : ℕ) (e : hits ≡ hits_of c.value) where
+  pub finish-over : over_limit edges limit hits ≡ true → Refused (numbered why.none_within_limit) ≡ finished_one edges limit h c
+  unfolding finished_one
   finish-over t = rw (← e, t)
 
-  pub finish-within : (weight : ℕ) (r : RunnerUp) → overLimit edges limit hits ≡ false → weight ≡ weightOf c.value → r ≡ runnerUp h.summaries c.placing.listed h.count
-      → Selected (record { hits = hits; weight = weight; placing = c.placing }) r ≡ finishedOne edges limit h c
-  unfolding finishedOne
+  pub finish-within : (weight : ℕ) (r : RunnerUp) → over_limit edges limit hits ≡ false → weight ≡ weight_of c.value → r ≡ runner_up_of h.summaries c.placing.listed h.count
+      → Selected (record { hits = hits; weight = weight; placing = c.placing }) r ≡ finished_one edges limit h c
+  unfolding finished_one
   finish-within weight r t ew er = rw (← e, t, ← ew, ← er)

@@ -1,8 +1,8 @@
 // What the exact scan of a list comes to.
 ghost use Rattle.std.specs.Prelude.{◌≡◌};
-ghost use Rattle.refusals.specs.Numbers.{numbered, noneWithinLimit};
+ghost use Rattle.refusals.specs.Numbers.{numbered, none_within_limit};
 ghost use Rattle.exact_scan.specs.declared.kept.ExactSelection.TheVariants.{Refused};
-ghost use Rattle.exact_scan.specs.Exact.{finishedOne, finished, SoundOne, SoundExact};
+ghost use Rattle.exact_scan.specs.Exact.{finished_one, finished, SoundOne, SoundExact};
 
 use crate::kept::{ExactCandidate, ExactKept, ExactScan, ExactSelection, ExactWinner};
 use refusals::{Place, Refusal};
@@ -12,7 +12,7 @@ use values::table::{hits_of, weight_of};
 
 // The refusal where no placing is within the limit.
 fn none_within() -> ExactSelection
-    ensures { result ≡ Refused (numbered noneWithinLimit) }
+    ensures { result ≡ Refused (numbered none_within_limit) }
 {
     ExactSelection::Refused(Refusal {
         number: refusals::NONE_WITHIN_LIMIT,
@@ -28,7 +28,7 @@ fn finish_one(
     error_limit: f32,
 ) -> ExactSelection
     requires { SoundOne edges positions best }
-    ensures { result ≡ finishedOne edges error_limit positions best }
+    ensures { result ≡ finished_one edges error_limit positions best }
 {
     let hits = hits_of(best.value) as u32;
     if over_limit(edges, hits, error_limit) {

@@ -1,9 +1,9 @@
 // One transform's two tables of values, folded into the exact scan.
 ghost use Rattle.std.specs.Prelude.{◌≡◌, ◌≤◌, ◌<◌};
 ghost use Rattle.best.specs.CellTables.{Period};
-ghost use Rattle.values.specs.Values.{byHits};
+ghost use Rattle.values.specs.Values.{by_hits};
 ghost use Rattle.folding.specs.Transform.{BestOk};
-ghost use Rattle.exact_scan.specs.Exact.{valueTables, summaryBy, betterOf, taken, emptyExact, foldExact, ExactReady};
+ghost use Rattle.exact_scan.specs.Exact.{value_tables, summary_by, better_of, taken, empty_exact, fold_exact, ExactReady};
 
 use crate::kept::{ExactCandidate, ExactKept, ExactScan};
 use board::edge::Placing;
@@ -16,7 +16,7 @@ use values::table::{ValueMax, by_hits, value_max};
 
 // A scan of no transforms.
 pub fn empty_exact() -> ExactScan
-    ensures { result ≡ emptyExact }
+    ensures { result ≡ empty_exact }
 {
     let positions = empty();
     let best = ExactKept::Nobody;
@@ -31,8 +31,8 @@ fn summarize(
     periods: Periods,
     transform: u8,
 ) -> TransformSummary
-    requires { Period periods.h × Period periods.v × BestOk periods.h periods.v (byHits a) (byHits b) × (key ≤ 2250000) }
-    ensures { result ≡ summaryBy periods.h periods.v transform (byHits a) (byHits b) key }
+    requires { Period periods.h × Period periods.v × BestOk periods.h periods.v (by_hits a) (by_hits b) × (key ≤ 2250000) }
+    ensures { result ≡ summary_by periods.h periods.v transform (by_hits a) (by_hits b) key }
 {
     let x = by_hits(a);
     let y = by_hits(b);
@@ -44,7 +44,7 @@ fn summarize(
 
 // The better of two placings: the earlier one, unless the later one has a greater value.
 fn better(k: ExactCandidate, c: ExactCandidate) -> ExactCandidate
-    ensures { result ≡ betterOf k c }
+    ensures { result ≡ better_of k c }
 {
     if c.value <= k.value {
         return k;
@@ -73,8 +73,8 @@ pub fn fold_values<'a>(
     periods: Periods,
     transform: u8,
 ) -> ExactScan
-    requires { ExactReady periods.h periods.v (valueTables hs.now vs.now) scan }
-    ensures { result ≡ foldExact periods.h periods.v transform (valueTables hs.now vs.now) scan }
+    requires { ExactReady periods.h periods.v (value_tables hs.now vs.now) scan }
+    ensures { result ≡ fold_exact periods.h periods.v transform (value_tables hs.now vs.now) scan }
 {
     let a = value_max(hs);
     let b = value_max(vs);

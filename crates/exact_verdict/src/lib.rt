@@ -1,6 +1,6 @@
 // The verdict on the exact winners (request C-15), by value: whether they agree, the gate, and the found answer put together.
 ghost use Rattle.std.specs.Prelude.{◌≡◌, ◌≤◌};
-ghost use Rattle.exact_verdict.specs.ExactVerdict.{exactDecodedOf, exactJudged};
+ghost use Rattle.exact_verdict.specs.ExactVerdict.{exact_decoded_of, exact_judged};
 
 use answer::Square;
 use exact_answer::{ExactAnswer, ExactDecoded};
@@ -18,7 +18,7 @@ fn decoded_exact(
     runner_weight: u64,
 ) -> ExactDecoded
     requires { (w.hits ≤ edges) × (edges ≤ 8192) }
-    ensures { result ≡ exactDecodedOf t w runner edges total runner_weight }
+    ensures { result ≡ exact_decoded_of t w runner edges total runner_weight }
 {
     let square = Square {
         transform: t,
@@ -56,7 +56,7 @@ pub fn judge_exact(
     runner_weight: u64,
 ) -> ExactAnswer
     requires { (w.hits ≤ edges) × (edges ≤ 8192) }
-    ensures { result ≡ exactJudged t w runner s p edges total runner_weight }
+    ensures { result ≡ exact_judged t w runner s p edges total runner_weight }
 {
     if t == s {
         if w.placing.row == p.placing.row {

@@ -4,7 +4,7 @@ ghost use Rattle.laws.specs.Words.{put, Weight};
 ghost use Rattle.board.specs.Hits.{edges, tables};
 ghost use Rattle.admission.specs.Accepted.{StatsAccepted};
 ghost use Rattle.unit_terms.specs.Values.{unit_of};
-ghost use Rattle.exact.specs.Winner.{weightOfSquare};
+ghost use Rattle.exact.specs.Winner.{weight_of_square};
 
 use answer::Square;
 use unit_terms::value_of;
@@ -36,7 +36,7 @@ pub fn weight_at<'a>(
     requires { StatsAccepted
         (edges rows.now cols.now orientations.now bits.now confidences.now)
         square.transform square.row square.col (tables h.now v.now) }
-    ensures { result ≡ weightOfSquare (tables h.now v.now)
+    ensures { result ≡ weight_of_square (tables h.now v.now)
         (edges rows.now cols.now orientations.now bits.now confidences.now)
         square.transform square.row square.col }
 {

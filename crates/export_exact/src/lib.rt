@@ -1,6 +1,6 @@
 // Exact decode for C and Rust programs: each slice is a pointer and then its length.
 ghost use Rattle.board.specs.Hits.{edges, tables};
-ghost use Rattle.admission.specs.Calls.{hardCall};
+ghost use Rattle.admission.specs.Calls.{hard_call};
 ghost use Rattle.export_exact.specs.Exports.{ExactFlat};
 
 use flat_exact::FlatExact;
@@ -26,7 +26,7 @@ pub extern "C" fn samburext_decode_exact_3<'a>(
     units: &mut [u64],
 ) -> FlatExact
     ensures { ExactFlat
-        (hardCall
+        (hard_call
         (edges lrows.now lcols.now lorientations.now lbits.now lconfidences.now)
         (edges prows.now pcols.now porientations.now pbits.now pconfidences.now)
         transforms.now (tables h.now v.now) error_limit)

@@ -1,6 +1,6 @@
 // Hard decode for C and Rust programs: each slice is a pointer and then its length.
 ghost use Rattle.board.specs.Hits.{edges, tables};
-ghost use Rattle.admission.specs.Calls.{hardCall};
+ghost use Rattle.admission.specs.Calls.{hard_call};
 ghost use Rattle.export_hard.specs.Exports.{HardFlat};
 
 use flat::flat::FlatAnswer;
@@ -26,7 +26,7 @@ pub extern "C" fn samburext_decode_hard_3<'a>(
     weights: &mut [f32],
 ) -> FlatAnswer
     ensures { HardFlat
-        (hardCall
+        (hard_call
         (edges lrows.now lcols.now lorientations.now lbits.now lconfidences.now)
         (edges prows.now pcols.now porientations.now pbits.now pconfidences.now)
         transforms.now (tables h.now v.now) error_limit)

@@ -5,7 +5,7 @@ use Rattle.part.specs.declared.Part.{Part}
 use Rattle.part_answer.specs.declared.PartAnswer.{PartAnswer}
 use Rattle.decode_part.specs.PartAnswer.{PartCallDone}
 use Rattle.flat_part.specs.declared.FlatPart.{FlatPart}
-use Rattle.flat_part.specs.FlatPart.{flatPart}
+use Rattle.flat_part.specs.FlatPart.{flat_part}
 
 -- a part from the four numbers of a call: the row and the column of its start, and how many rows and columns of origins it has
 abbrev pub part_of : ℕ → ℕ → ℕ → ℕ → Part
@@ -15,4 +15,4 @@ part_of row col rows cols = record { row = row; col = col; rows = rows; cols = c
 pub record PartFlat (call : HardCall) (part : Part) (c c' : List ℕ) (u u' : List ℕ) (r : FlatPart) : Type 0 where
   pub told : PartAnswer
   pub done : PartCallDone call part c c' u u' told
-  pub shown : r ≡ flatPart told
+  pub shown : r ≡ flat_part told

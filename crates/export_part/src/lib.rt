@@ -1,6 +1,6 @@
 // Decode over a part for C and Rust programs: each slice is a pointer and then its length, and the part four numbers.
 ghost use Rattle.board.specs.Hits.{edges, tables};
-ghost use Rattle.admission.specs.Calls.{hardCall};
+ghost use Rattle.admission.specs.Calls.{hard_call};
 ghost use Rattle.export_part.specs.Exports.{part_of, PartFlat};
 
 use flat_part::FlatPart;
@@ -31,7 +31,7 @@ pub extern "C" fn samburext_decode_part_3<'a>(
     units: &mut [u64],
 ) -> FlatPart
     ensures { PartFlat
-        (hardCall
+        (hard_call
         (edges lrows.now lcols.now lorientations.now lbits.now lconfidences.now)
         (edges prows.now pcols.now porientations.now pbits.now pconfidences.now)
         transforms.now (tables h.now v.now) error_limit) (part_of part_row part_col part_rows part_cols)

@@ -4,10 +4,10 @@ use Rattle.admission.specs.Calls.{SoftCall}
 use Rattle.answer.specs.declared.SoftAnswer.{SoftAnswer}
 use Rattle.decode_soft.specs.SoftAnswer.{SoftDone}
 use Rattle.flat.specs.declared.flat_soft.FlatSoft.{FlatSoft}
-use Rattle.flat.specs.FlatSoft.{flatSoft}
+use Rattle.flat.specs.FlatSoft.{flat_soft}
 
 -- r is the struct of what `decode_soft` promises to tell, and all three room slices are what it promises to leave
 pub record SoftFlat (call : SoftCall) (c c' : List ℕ) (w w' : List Float) (a a' : List ℤ) (r : FlatSoft) : Type 0 where
   pub told : SoftAnswer
   pub done : SoftDone call c c' w w' a a' told
-  pub shown : r ≡ flatSoft told
+  pub shown : r ≡ flat_soft told

@@ -1,7 +1,7 @@
 // Soft decode for C and Rust programs: each slice is a pointer and then its length.
 ghost use Rattle.board.specs.Hits.{edges, tables};
 ghost use Rattle.likelihood.specs.Likelihood.{likelihoods};
-ghost use Rattle.admission.specs.Calls.{softCall};
+ghost use Rattle.admission.specs.Calls.{soft_call};
 ghost use Rattle.export_soft.specs.Exports.{SoftFlat};
 
 use flat::flat_soft::FlatSoft;
@@ -31,7 +31,7 @@ pub extern "C" fn samburext_decode_soft_3<'a>(
     sums: &mut [i64],
 ) -> FlatSoft
     ensures { SoftFlat
-        (softCall
+        (soft_call
         (edges lrows.now lcols.now lorientations.now lbits.now lconfidences.now)
         (edges prows.now pcols.now porientations.now pbits.now pconfidences.now)
         (likelihoods matches.now mismatches.now)

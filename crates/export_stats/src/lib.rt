@@ -1,8 +1,8 @@
 // Match statistics for C and Rust programs: each slice is a pointer and then its length.
 ghost use Rattle.std.specs.Prelude.{◌≡◌};
 ghost use Rattle.board.specs.Hits.{edges, tables};
-ghost use Rattle.stats.specs.Stats.{statsAnswer};
-ghost use Rattle.flat.specs.Flat.{flatStats, narrow};
+ghost use Rattle.stats.specs.Stats.{stats_answer};
+ghost use Rattle.flat.specs.Flat.{flat_stats, narrow};
 
 use flat::flat_stats::FlatStats;
 
@@ -30,7 +30,7 @@ pub extern "C" fn samburext_match_stats_2<'a>(
     h: &'a [u8],
     v: &'a [u8],
 ) -> FlatStats
-    ensures { result ≡ flatStats (statsAnswer
+    ensures { result ≡ flat_stats (stats_answer
         (edges rows.now cols.now orientations.now bits.now confidences.now)
         transform row col (tables h.now v.now)) }
 {

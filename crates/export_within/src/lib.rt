@@ -2,8 +2,8 @@
 ghost use Rattle.std.specs.Prelude.{◌≡◌};
 ghost use Rattle.board.specs.Hits.{edges, tables};
 ghost use Rattle.flat.specs.Flat.{narrow};
-ghost use Rattle.within.specs.Within.{withinAnswer};
-ghost use Rattle.flat_within.specs.FlatWithin.{flatWithin};
+ghost use Rattle.within.specs.Within.{within_answer};
+ghost use Rattle.flat_within.specs.FlatWithin.{flat_within};
 
 use flat_within::FlatWithin;
 
@@ -32,7 +32,7 @@ pub extern "C" fn samburext_within_limit_1<'a>(
     v: &'a [u8],
     error_limit: f32,
 ) -> FlatWithin
-    ensures { result ≡ flatWithin (withinAnswer
+    ensures { result ≡ flat_within (within_answer
         (edges rows.now cols.now orientations.now bits.now confidences.now)
         transform row col (tables h.now v.now) error_limit) }
 {

@@ -9,18 +9,18 @@ use Rattle.std.specs.Float.Ieee.Order.{round_mono}
 use Rattle.std.specs.Float.Ieee.Positive.{num, den, through}
 use Rattle.std.specs.Float.Ieee.Scale.{round_val, round_under, finite}
 use Rattle.laws.specs.Tests.{not_so, compared, or-true}
-use Rattle.laws.specs.Words.{zeroF, oneF, Weight}
+use Rattle.laws.specs.Words.{zero_f, one_f, Weight}
 use Rattle.laws.specs.Weights.{weightlike}
 use Rattle.laws.specs.WeightLaws.{confidence, lt-cross, eq-level}
-use Rattle.figures.specs.Figures.{rateOf}
+use Rattle.figures.specs.Figures.{rate_of}
 use Rattle.figures.specs.RangeLaws.{rate-is}
 
 -- ---- a rounded fraction from 0 to 1 is a weight
-zero-round : round binary32 false 0 1 ≡ zeroF
+zero-round : round binary32 false 0 1 ≡ zero_f
 unfolding round
 zero-round = refl
 
-one-round : round binary32 false 1 1 ≡ oneF
+one-round : round binary32 false 1 1 ≡ one_f
 unfolding round
 one-round = refl
 
@@ -86,10 +86,10 @@ below_up (fin true m c) (fin false n d) (fin false k g) p q h e =
 
 -- ---- the rate
 -- what is below the rate of so many hits is below that of fewer
-pub fewer-above : (edges : ℕ) (limit : Float) (few more : ℕ) → edges ≤ 8192 → few ≤ more → more ≤ edges → lt limit (rateOf edges more) ≡ true → lt limit (rateOf edges few) ≡ true
+pub fewer-above : (edges : ℕ) (limit : Float) (few more : ℕ) → edges ≤ 8192 → few ≤ more → more ≤ edges → lt limit (rate_of edges more) ≡ true → lt limit (rate_of edges few) ≡ true
 fewer-above edges limit few more small l m e = go (eq-zero-or-pos edges)
   where
-    go : (edges ≡ 0) ⊎ (0 < edges) → lt limit (rateOf edges few) ≡ true
+    go : (edges ≡ 0) ⊎ (0 < edges) → lt limit (rate_of edges few) ≡ true
     go (inl z) = let s : few ≡ more = omega arith in rw s e
     go (inr p) =
         let wx = share-weight (edges - more) edges p (omega arith) in
@@ -101,9 +101,9 @@ fewer-above edges limit few more small l m e = go (eq-zero-or-pos edges)
         (rw (rate-is edges more p small) at e))
 
 -- no share of misses is above 1
-pub rate-not-above : (edges hits : ℕ) → 0 < edges → edges ≤ 8192 → lt oneF (rateOf edges hits) ≡ false
+pub rate-not-above : (edges hits : ℕ) → 0 < edges → edges ≤ 8192 → lt one_f (rate_of edges hits) ≡ false
 rate-not-above edges hits p small =
     let one : 0 < 1 = lit< tt in
     let x = round binary32 false (edges - hits) edges in
     let w = share-weight (edges - hits) edges p (omega arith) in
-    rw (rate-is edges hits p small) (lt-cross oneF x tt w ∙ le-ltb _ _ (no-smaller x oneF w tt (rw one-round at (round_mono binary32 (edges - hits) edges 1 1 p one (omega arith)))))
+    rw (rate-is edges hits p small) (lt-cross one_f x tt w ∙ le-ltb _ _ (no-smaller x one_f w tt (rw one-round at (round_mono binary32 (edges - hits) edges 1 1 p one (omega arith)))))

@@ -1,6 +1,6 @@
 // The figures of one placing of a list: the share of misses, the mean of the hits, the lead over the runner-up and the gate; and a list's total confidence.
 ghost use Rattle.std.specs.Prelude.{◌≡◌, ◌-◌, ◌≤◌, length};
-ghost use Rattle.figures.specs.Figures.{rateOf, meanOf, confidenceTo};
+ghost use Rattle.figures.specs.Figures.{rate_of, mean_of, confidence_to};
 ghost use Rattle.figures.specs.Gate.{passed};
 
 // How a placing fits a list: its hits, and the confidences of the hits added.
@@ -13,7 +13,7 @@ pub struct Fit {
 // The share of misses, by one division.
 pub fn rate(edges: u32, hits: u32) -> f32
     requires { (hits ≤ edges) × (edges ≤ 8192) }
-    ensures { result ≡ rateOf edges hits }
+    ensures { result ≡ rate_of edges hits }
 {
     let misses = edges - hits;
     misses as f32 / edges as f32
@@ -22,7 +22,7 @@ pub fn rate(edges: u32, hits: u32) -> f32
 // The sum of the hits' confidences over the hits; 0 for no hits.
 pub fn mean(hits: u32, weight: f32) -> f32
     requires { hits ≤ 8192 }
-    ensures { result ≡ meanOf hits weight }
+    ensures { result ≡ mean_of hits weight }
 {
     if hits == 0 {
         return 0.0;
@@ -46,7 +46,7 @@ pub fn passes(edges: u32, best: u32, next: u32) -> bool
 
 // The confidences of a list added, in list order from 0.
 pub fn total_confidence(confidences: &[f32]) -> f32
-    ensures { result ≡ confidenceTo confidences.now (length confidences.now) }
+    ensures { result ≡ confidence_to confidences.now (length confidences.now) }
 {
     let mut total: f32 = 0.0;
     for i in 0..confidences.len() {

@@ -6,28 +6,28 @@ use Rattle.refusals.specs.declared.Admission.{Admission}
 use Rattle.refusals.specs.declared.Admission.TheVariants.{Accepted, Refused}
 use Rattle.refusals.specs.declared.ListName.{ListName}
 use Rattle.refusals.specs.declared.ListName.TheVariants as list
-use Rattle.refusals.specs.Numbers.{numbered, edgeRefusal}
+use Rattle.refusals.specs.Numbers.{numbered, edge_refusal}
 use Rattle.refusals.specs.Numbers as why
-use Rattle.checks.specs.Checks.{lengthsDiffer, sizeBad, likelihoodsDiffer, firstBadCoordinate, firstBadLikelihood}
-use Rattle.ranges.specs.Ranges.{firstBadByte, firstBadConfidence}
+use Rattle.checks.specs.Checks.{lengths_differ, size_bad, likelihoods_differ, first_bad_coordinate, first_bad_likelihood}
+use Rattle.ranges.specs.Ranges.{first_bad_byte, first_bad_confidence}
 
 -- refused by a number where it applies
-abbrev pub refusedIf : Bool → ℕ → Admission
-refusedIf bad number = cond bad (Refused (numbered number)) Accepted
+abbrev pub refused_if : Bool → ℕ → Admission
+refused_if bad number = cond bad (Refused (numbered number)) Accepted
 
 -- refused at position i of a list of n edges; where no edge is bad, the position is n
-abbrev pub refusedAt : ℕ → ListName → ℕ → ℕ → Admission
-refusedAt number l i n = cond (ltb i n) (Refused (edgeRefusal number l i)) Accepted
+abbrev pub refused_at : ℕ → ListName → ℕ → ℕ → Admission
+refused_at number l i n = cond (ltb i n) (Refused (edge_refusal number l i)) Accepted
 
 -- the first of two that is a refusal
-unfoldable pub orElse : Admission → Admission → Admission
-orElse Accepted b = b
-orElse (Refused r) b = Refused r
+unfoldable pub or_else : Admission → Admission → Admission
+or_else Accepted b = b
+or_else (Refused r) b = Refused r
 
 -- the first of several that is a refusal
 unfoldable pub first_of : List Admission → Admission
 first_of [] = Accepted
-first_of (a ∷ xs) = orElse a (first_of xs)
+first_of (a ∷ xs) = or_else a (first_of xs)
 
 -- what is found, of each kind
 pub record Findings : Type 0 where
@@ -44,34 +44,34 @@ pub record Findings : Type 0 where
   pub setting : Admission
 
 -- THE ORDER of early refusals, for all entry points: 1, 2, 3, 4, 16, 17, 5, 6, 7, 8, 9
-abbrev pub inOrder : Findings → List Admission
-inOrder f =
+abbrev pub in_order : Findings → List Admission
+in_order f =
     f.room ∷ f.lengths ∷ f.size ∷ f.coordinate ∷ f.orientation ∷ f.bit ∷ f.confidence ∷ f.likelihood ∷ f.transform ∷ f.table ∷ f.setting ∷ []
 
 -- the refusal that comes of what was found: the earliest kind in this order
-unfoldable pub firstFound : Findings → Admission
-firstFound f = first_of (inOrder f)
+unfoldable pub first_found : Findings → Admission
+first_found f = first_of (in_order f)
 
 -- what is found in two parts of a call: of each kind, the first part goes first
 abbrev pub joined : Findings → Findings → Findings
 joined f g = record {
-  room = orElse f.room g.room;
-  lengths = orElse f.lengths g.lengths;
-  size = orElse f.size g.size;
-  coordinate = orElse f.coordinate g.coordinate;
-  orientation = orElse f.orientation g.orientation;
-  bit = orElse f.bit g.bit;
-  confidence = orElse f.confidence g.confidence;
-  likelihood = orElse f.likelihood g.likelihood;
-  transform = orElse f.transform g.transform;
-  table = orElse f.table g.table;
-  setting = orElse f.setting g.setting;
+  room = or_else f.room g.room;
+  lengths = or_else f.lengths g.lengths;
+  size = or_else f.size g.size;
+  coordinate = or_else f.coordinate g.coordinate;
+  orientation = or_else f.orientation g.orientation;
+  bit = or_else f.bit g.bit;
+  confidence = or_else f.confidence g.confidence;
+  likelihood = or_else f.likelihood g.likelihood;
+  transform = or_else f.transform g.transform;
+  table = or_else f.table g.table;
+  setting = or_else f.setting g.setting;
 }
 
 -- in the lent room
-unfoldable pub roomFindings : Bool → Findings
-roomFindings short = record {
-  room = refusedIf short why.roomTooShort;
+unfoldable pub room_findings : Bool → Findings
+room_findings short = record {
+  room = refused_if short why.room_too_short;
   lengths = Accepted;
   size = Accepted;
   coordinate = Accepted;
@@ -85,15 +85,15 @@ roomFindings short = record {
 }
 
 -- in one list, which must have at least `least` edges: C-11: "let each refusal about an edge field carry the list and the position of the first bad edge of that kind"
-unfoldable pub listFindings : ℕ → ListName → EdgeList → Findings
-listFindings least l E = record {
+unfoldable pub list_findings : ℕ → ListName → EdgeList → Findings
+list_findings least l E = record {
   room = Accepted;
-  lengths = refusedIf (lengthsDiffer E) why.lengthsDiffer;
-  size = refusedIf (sizeBad least (size E)) why.listSize;
-  coordinate = refusedAt why.badCoordinate l (firstBadCoordinate E.rows E.cols) (size E);
-  orientation = refusedAt why.badOrientation l (firstBadByte 1 E.orientations) (length E.orientations);
-  bit = refusedAt why.badBit l (firstBadByte 1 E.bits) (length E.bits);
-  confidence = refusedAt why.badConfidence l (firstBadConfidence E.confidences) (length E.confidences);
+  lengths = refused_if (lengths_differ E) why.lengths_differ;
+  size = refused_if (size_bad least (size E)) why.list_size;
+  coordinate = refused_at why.bad_coordinate l (first_bad_coordinate E.rows E.cols) (size E);
+  orientation = refused_at why.bad_orientation l (first_bad_byte 1 E.orientations) (length E.orientations);
+  bit = refused_at why.bad_bit l (first_bad_byte 1 E.bits) (length E.bits);
+  confidence = refused_at why.bad_confidence l (first_bad_confidence E.confidences) (length E.confidences);
   likelihood = Accepted;
   transform = Accepted;
   table = Accepted;
@@ -101,31 +101,31 @@ listFindings least l E = record {
 }
 
 -- the kinds of a list that are about an edge, in the order
-unfoldable pub fieldsFound : ListName → EdgeList → Admission
-unfolding listFindings
-fieldsFound l E =
-    let f = listFindings 0 l E in
-    orElse f.coordinate (orElse f.orientation (orElse f.bit f.confidence))
+unfoldable pub fields_found : ListName → EdgeList → Admission
+unfolding list_findings
+fields_found l E =
+    let f = list_findings 0 l E in
+    or_else f.coordinate (or_else f.orientation (or_else f.bit f.confidence))
 
 -- in the likelihoods of the physical list, of n edges: they are as many as its edges, and so not over 8,192; a match or a mismatch likelihood is one kind
-unfoldable pub likelihoodFindings : ℕ → List Float → List Float → Findings
-likelihoodFindings n ms us = record {
+unfoldable pub likelihood_findings : ℕ → List Float → List Float → Findings
+likelihood_findings n ms us = record {
   room = Accepted;
-  lengths = refusedIf (likelihoodsDiffer n ms us) why.lengthsDiffer;
-  size = refusedIf (sizeBad 0 (length ms)) why.listSize;
+  lengths = refused_if (likelihoods_differ n ms us) why.lengths_differ;
+  size = refused_if (size_bad 0 (length ms)) why.list_size;
   coordinate = Accepted;
   orientation = Accepted;
   bit = Accepted;
   confidence = Accepted;
-  likelihood = refusedAt why.badLikelihood list.Physical (firstBadLikelihood ms us) (length ms);
+  likelihood = refused_at why.bad_likelihood list.Physical (first_bad_likelihood ms us) (length ms);
   transform = Accepted;
   table = Accepted;
   setting = Accepted;
 }
 
 -- in the transforms, the tables and the other settings
-unfoldable pub settingsFindings : Bool → Bool → Bool → Findings
-settingsFindings transforms tables rest = record {
+unfoldable pub settings_findings : Bool → Bool → Bool → Findings
+settings_findings transforms tables rest = record {
   room = Accepted;
   lengths = Accepted;
   size = Accepted;
@@ -134,7 +134,7 @@ settingsFindings transforms tables rest = record {
   bit = Accepted;
   confidence = Accepted;
   likelihood = Accepted;
-  transform = refusedIf transforms why.badTransform;
-  table = refusedIf tables why.badTable;
-  setting = refusedIf rest why.badSetting;
+  transform = refused_if transforms why.bad_transform;
+  table = refused_if tables why.bad_table;
+  setting = refused_if rest why.bad_setting;
 }

@@ -10,51 +10,51 @@ use Rattle.refusals.specs.declared.Admission.{Admission}
 use Rattle.refusals.specs.declared.Admission.TheVariants.{Accepted, Refused}
 use Rattle.refusals.specs.declared.ListName.{ListName}
 use Rattle.refusals.specs.declared.ListName.TheVariants as list
-use Rattle.refusals.specs.Numbers.{numbered, edgeRefusal}
+use Rattle.refusals.specs.Numbers.{numbered, edge_refusal}
 use Rattle.refusals.specs.Numbers as why
-use Rattle.checks.specs.Checks.{firstBadCoordinate, firstBadLikelihood, lengthsDiffer, sizeBad, likelihoodsDiffer}
-use Rattle.ranges.specs.Ranges.{firstBadByte, firstBadConfidence}
-use Rattle.findings.specs.Findings.{refusedIf, refusedAt, orElse, first_of, Findings, firstFound, joined, roomFindings, listFindings, fieldsFound, likelihoodFindings, settingsFindings}
+use Rattle.checks.specs.Checks.{first_bad_coordinate, first_bad_likelihood, lengths_differ, size_bad, likelihoods_differ}
+use Rattle.ranges.specs.Ranges.{first_bad_byte, first_bad_confidence}
+use Rattle.findings.specs.Findings.{refused_if, refused_at, or_else, first_of, Findings, first_found, joined, room_findings, list_findings, fields_found, likelihood_findings, settings_findings}
 
 -- accepted is no refusal
 pub no-refusal : {A : Type 0} (r : Refusal) → Accepted ≡ Refused r → A
 no-refusal r e = let z : ◌≡◌ {A = ℕ} 0 1 = cc in absurd (omega arith)
 
 -- ---- the first of two
-pub else-accepted : (a b : Admission) → a ≡ Accepted → b ≡ orElse a b
-unfolding orElse
-else-accepted a b e = ap (λ (x : Admission). orElse x b) (sym e)
+pub else-accepted : (a b : Admission) → a ≡ Accepted → b ≡ or_else a b
+unfolding or_else
+else-accepted a b e = ap (λ (x : Admission). or_else x b) (sym e)
 
-pub else-refused : (a b : Admission) (r : Refusal) → a ≡ Refused r → Refused r ≡ orElse a b
-unfolding orElse
-else-refused a b r e = ap (λ (x : Admission). orElse x b) (sym e)
+pub else-refused : (a b : Admission) (r : Refusal) → a ≡ Refused r → Refused r ≡ or_else a b
+unfolding or_else
+else-refused a b r e = ap (λ (x : Admission). or_else x b) (sym e)
 
-pub else-none : (a : Admission) → orElse a Accepted ≡ a
-unfolding orElse
+pub else-none : (a : Admission) → or_else a Accepted ≡ a
+unfolding or_else
 else-none Accepted = refl
 else-none (Refused r) = refl
 
-pub both-accepted : (a b : Admission) → orElse a b ≡ Accepted → (a ≡ Accepted) × (b ≡ Accepted)
-unfolding orElse
+pub both-accepted : (a b : Admission) → or_else a b ≡ Accepted → (a ≡ Accepted) × (b ≡ Accepted)
+unfolding or_else
 both-accepted Accepted b e = (refl, e)
 both-accepted (Refused r) b e = no-refusal r (sym e)
 
 -- ---- a position that is none of a bad edge, and one that is
-pub at_none : (number : ℕ) (l : ListName) (i n : ℕ) → n ≤ i → Accepted ≡ refusedAt number l i n
+pub at_none : (number : ℕ) (l : ListName) (i n : ℕ) → n ≤ i → Accepted ≡ refused_at number l i n
 at_none number l i n h = rw (le-ltb i n h)
 
-pub at_some : (number : ℕ) (l : ListName) (i n : ℕ) → i < n → Refused (edgeRefusal number l i) ≡ refusedAt number l i n
+pub at_some : (number : ℕ) (l : ListName) (i n : ℕ) → i < n → Refused (edge_refusal number l i) ≡ refused_at number l i n
 at_some number l i n h = rw (lt-ltb i n h)
 
 -- ---- nothing found
-pub if-accepted : (b : Bool) (n : ℕ) → refusedIf b n ≡ Accepted → b ≡ false
+pub if-accepted : (b : Bool) (n : ℕ) → refused_if b n ≡ Accepted → b ≡ false
 if-accepted true n e = no-refusal _ (sym e)
 if-accepted false n e = refl
 
-pub at-accepted : (number : ℕ) (l : ListName) (i n : ℕ) → refusedAt number l i n ≡ Accepted → ltb i n ≡ false
+pub at-accepted : (number : ℕ) (l : ListName) (i n : ℕ) → refused_at number l i n ≡ Accepted → ltb i n ≡ false
 at-accepted number l i n e = go (ltb i n) e
   where
-    go : (b : Bool) → cond b (Refused (edgeRefusal number l i)) Accepted ≡ Accepted → b ≡ false
+    go : (b : Bool) → cond b (Refused (edge_refusal number l i)) Accepted ≡ Accepted → b ≡ false
     go true e = no-refusal _ (sym e)
     go false e = refl
 
@@ -73,8 +73,8 @@ pub record Clean (f : Findings) : Type 0 where
   pub setting : f.setting ≡ Accepted
 
 -- accepted exactly when nothing is found
-pub clean_of : (f : Findings) → firstFound f ≡ Accepted → Clean f
-unfolding firstFound first_of
+pub clean_of : (f : Findings) → first_found f ≡ Accepted → Clean f
+unfolding first_found first_of
 clean_of f e =
     let a1 = both-accepted f.room _ e in
     let a2 = both-accepted f.lengths _ a1.1 in
@@ -101,8 +101,8 @@ clean_of f e =
       setting = a11.0;
     }
 
-pub of-clean : (f : Findings) → Clean f → firstFound f ≡ Accepted
-unfolding firstFound first_of orElse
+pub of-clean : (f : Findings) → Clean f → first_found f ≡ Accepted
+unfolding first_found first_of or_else
 of-clean f k = rw (k.room, k.lengths, k.size, k.coordinate, k.orientation, k.bit, k.confidence, k.likelihood, k.transform, k.table, k.setting)
 
 -- nothing in two parts together exactly when nothing in either
@@ -148,8 +148,8 @@ clean-parts f g k =
     )
 
 -- the two of them together
-pub neither : (a b : Admission) → a ≡ Accepted → b ≡ Accepted → orElse a b ≡ Accepted
-unfolding orElse
+pub neither : (a b : Admission) → a ≡ Accepted → b ≡ Accepted → or_else a b ≡ Accepted
+unfolding or_else
 neither a b p q = rw (p, q)
 
 pub clean-joined : (f g : Findings) → Clean f → Clean g → Clean (joined f g)
@@ -169,8 +169,8 @@ clean-joined f g k l = record {
 
 -- ---- the ways in which a part is judged
 -- the columns of a list are as long as the list
-pub same_length : (E : EdgeList) → lengthsDiffer E ≡ false → (length E.orientations ≡ size E) × (length E.bits ≡ size E) × (length E.confidences ≡ size E)
-unfolding lengthsDiffer
+pub same_length : (E : EdgeList) → lengths_differ E ≡ false → (length E.orientations ≡ size E) × (length E.bits ≡ size E) × (length E.confidences ≡ size E)
+unfolding lengths_differ
 same_length E d =
     let n = size E in
     let e1 = and-true (eqb n (length E.cols)) _ (not-false _ d) in
@@ -179,47 +179,47 @@ same_length E d =
     (sym (eqb-true _ _ e2.0), sym (eqb-true _ _ e3.0), sym (eqb-true _ _ e3.1))
 
 -- and not longer than it may be
-pub few-edges : (least n : ℕ) → sizeBad least n ≡ false → n ≤ 8192
-unfolding sizeBad
+pub few-edges : (least n : ℕ) → size_bad least n ≡ false → n ≤ 8192
+unfolding size_bad
 few-edges least n h = ltb-false 8192 n (or-false (ltb n least) (ltb 8192 n) h).1
 
 module _ (least : ℕ) (l : ListName) (E : EdgeList) where
-  pub list-lengths : lengthsDiffer E ≡ true → Refused (numbered why.lengthsDiffer) ≡ firstFound (listFindings least l E)
-  unfolding firstFound first_of orElse listFindings
+  pub list-lengths : lengths_differ E ≡ true → Refused (numbered why.lengths_differ) ≡ first_found (list_findings least l E)
+  unfolding first_found first_of or_else list_findings
   list-lengths h = sym (rw h)
 
-  pub list-size : lengthsDiffer E ≡ false → sizeBad least (size E) ≡ true → Refused (numbered why.listSize) ≡ firstFound (listFindings least l E)
-  unfolding firstFound first_of orElse listFindings
+  pub list-size : lengths_differ E ≡ false → size_bad least (size E) ≡ true → Refused (numbered why.list_size) ≡ first_found (list_findings least l E)
+  unfolding first_found first_of or_else list_findings
   list-size d h = sym (rw (d, h))
 
-  pub list-fields : lengthsDiffer E ≡ false → sizeBad least (size E) ≡ false → fieldsFound l E ≡ firstFound (listFindings least l E)
-  unfolding firstFound first_of orElse fieldsFound listFindings
-  list-fields d h = let f = listFindings least l E in ap (λ (x : Admission). orElse f.coordinate (orElse f.orientation (orElse f.bit x))) (sym (else-none f.confidence)) ∙ sym (rw (d, h))
+  pub list-fields : lengths_differ E ≡ false → size_bad least (size E) ≡ false → fields_found l E ≡ first_found (list_findings least l E)
+  unfolding first_found first_of or_else fields_found list_findings
+  list-fields d h = let f = list_findings least l E in ap (λ (x : Admission). or_else f.coordinate (or_else f.orientation (or_else f.bit x))) (sym (else-none f.confidence)) ∙ sym (rw (d, h))
 
 -- the fields, by the places that their checks answer
-pub fields-found : (l : ListName) (E : EdgeList) (i j k m : ℕ) → i ≡ firstBadCoordinate E.rows E.cols → j ≡ firstBadByte 1 E.orientations → k ≡ firstBadByte 1 E.bits → m ≡ firstBadConfidence E.confidences
-    → orElse (refusedAt why.badCoordinate l i (size E)) (orElse (refusedAt why.badOrientation l j (length E.orientations)) (orElse (refusedAt why.badBit l k (length E.bits)) (refusedAt why.badConfidence l m (length E.confidences))))
-    ≡ fieldsFound l E
-unfolding fieldsFound listFindings
+pub fields-found : (l : ListName) (E : EdgeList) (i j k m : ℕ) → i ≡ first_bad_coordinate E.rows E.cols → j ≡ first_bad_byte 1 E.orientations → k ≡ first_bad_byte 1 E.bits → m ≡ first_bad_confidence E.confidences
+    → or_else (refused_at why.bad_coordinate l i (size E)) (or_else (refused_at why.bad_orientation l j (length E.orientations)) (or_else (refused_at why.bad_bit l k (length E.bits)) (refused_at why.bad_confidence l m (length E.confidences))))
+    ≡ fields_found l E
+unfolding fields_found list_findings
 fields-found l E i j k m p q r s = rw (p, q, r, s) refl
 
 module _ (n : ℕ) (ms us : List Float) where
-  pub likelihood-lengths : likelihoodsDiffer n ms us ≡ true → Refused (numbered why.lengthsDiffer) ≡ firstFound (likelihoodFindings n ms us)
-  unfolding firstFound first_of orElse likelihoodFindings
+  pub likelihood-lengths : likelihoods_differ n ms us ≡ true → Refused (numbered why.lengths_differ) ≡ first_found (likelihood_findings n ms us)
+  unfolding first_found first_of or_else likelihood_findings
   likelihood-lengths h = sym (rw h)
 
-  pub likelihood-size : likelihoodsDiffer n ms us ≡ false → sizeBad 0 (length ms) ≡ true → Refused (numbered why.listSize) ≡ firstFound (likelihoodFindings n ms us)
-  unfolding firstFound first_of orElse likelihoodFindings
+  pub likelihood-size : likelihoods_differ n ms us ≡ false → size_bad 0 (length ms) ≡ true → Refused (numbered why.list_size) ≡ first_found (likelihood_findings n ms us)
+  unfolding first_found first_of or_else likelihood_findings
   likelihood-size d h = sym (rw (d, h))
 
-  pub likelihood-found : (i : ℕ) → i ≡ firstBadLikelihood ms us → likelihoodsDiffer n ms us ≡ false → sizeBad 0 (length ms) ≡ false → refusedAt why.badLikelihood list.Physical i (length ms) ≡ firstFound (likelihoodFindings n ms us)
-  unfolding firstFound first_of orElse likelihoodFindings
-  likelihood-found i e d h = ap (λ (k : ℕ). refusedAt why.badLikelihood list.Physical k (length ms)) e ∙ sym (else-none _) ∙ sym (rw (d, h))
+  pub likelihood-found : (i : ℕ) → i ≡ first_bad_likelihood ms us → likelihoods_differ n ms us ≡ false → size_bad 0 (length ms) ≡ false → refused_at why.bad_likelihood list.Physical i (length ms) ≡ first_found (likelihood_findings n ms us)
+  unfolding first_found first_of or_else likelihood_findings
+  likelihood-found i e d h = ap (λ (k : ℕ). refused_at why.bad_likelihood list.Physical k (length ms)) e ∙ sym (else-none _) ∙ sym (rw (d, h))
 
-pub settings-found : (a b c : Bool) → orElse (refusedIf a why.badTransform) (orElse (refusedIf b why.badTable) (refusedIf c why.badSetting)) ≡ firstFound (settingsFindings a b c)
-unfolding firstFound first_of orElse settingsFindings
-settings-found a b c = ap (λ (x : Admission). orElse (refusedIf a why.badTransform) (orElse (refusedIf b why.badTable) x)) (sym (else-none (refusedIf c why.badSetting)))
+pub settings-found : (a b c : Bool) → or_else (refused_if a why.bad_transform) (or_else (refused_if b why.bad_table) (refused_if c why.bad_setting)) ≡ first_found (settings_findings a b c)
+unfolding first_found first_of or_else settings_findings
+settings-found a b c = ap (λ (x : Admission). or_else (refused_if a why.bad_transform) (or_else (refused_if b why.bad_table) x)) (sym (else-none (refused_if c why.bad_setting)))
 
-pub room-found : (short : Bool) → refusedIf short why.roomTooShort ≡ firstFound (roomFindings short)
-unfolding firstFound first_of orElse roomFindings
-room-found short = sym (else-none (refusedIf short why.roomTooShort))
+pub room-found : (short : Bool) → refused_if short why.room_too_short ≡ first_found (room_findings short)
+unfolding first_found first_of or_else room_findings
+room-found short = sym (else-none (refused_if short why.room_too_short))

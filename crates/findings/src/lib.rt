@@ -1,14 +1,14 @@
 // What is found wrong with one part of a call: of its lists, of its likelihoods and of its settings, as the refusal that comes of it. A refusal about an edge says which.
 ghost use Rattle.std.specs.Prelude.{◌≡◌, false, ◌≤◌};
 ghost use Rattle.board.specs.Hits.{edges, size};
-ghost use Rattle.checks.specs.Checks.{lengthsDiffer, sizeBad, likelihoodsDiffer};
-ghost use Rattle.findings.specs.Findings.{refusedIf, refusedAt, orElse, fieldsFound, firstFound, listFindings, likelihoodFindings, settingsFindings};
+ghost use Rattle.checks.specs.Checks.{lengths_differ, size_bad, likelihoods_differ};
+ghost use Rattle.findings.specs.Findings.{refused_if, refused_at, or_else, fields_found, first_found, list_findings, likelihood_findings, settings_findings};
 
 use refusals::{Admission, ListName};
 
 // Refused by the given number where it applies, else accepted.
 pub fn refused_if(bad: bool, number: u32) -> Admission
-    ensures { result ≡ refusedIf bad number }
+    ensures { result ≡ refused_if bad number }
 {
     if bad {
         return Admission::Refused(refusals::numbered(number));
@@ -19,7 +19,7 @@ pub fn refused_if(bad: bool, number: u32) -> Admission
 // Refused at the position of a bad edge, or accepted where the position is past the edges.
 fn refused_at(number: u32, list: ListName, position: usize, edges: usize) -> Admission
     requires { edges ≤ 8192 }
-    ensures { result ≡ refusedAt number list position edges }
+    ensures { result ≡ refused_at number list position edges }
 {
     if position < edges {
         return Admission::Refused(refusals::edge_refusal(number, list, position as u32));
@@ -29,7 +29,7 @@ fn refused_at(number: u32, list: ListName, position: usize, edges: usize) -> Adm
 
 // The first of two that is a refusal.
 fn or_else(a: Admission, b: Admission) -> Admission
-    ensures { result ≡ orElse a b }
+    ensures { result ≡ or_else a b }
 {
     match a {
         Admission::Accepted => b,
@@ -46,9 +46,9 @@ fn fields_admission(
     bits: &[u8],
     confidences: &[f32],
 ) -> Admission
-    requires confidences_value { lengthsDiffer (edges rows.now cols.now orientations.now bits.now confidences.now) ≡ false }
+    requires confidences_value { lengths_differ (edges rows.now cols.now orientations.now bits.now confidences.now) ≡ false }
     requires confidences_bound { size (edges rows.now cols.now orientations.now bits.now confidences.now) ≤ 8192 }
-    ensures { result ≡ fieldsFound list (edges rows.now cols.now orientations.now bits.now confidences.now) }
+    ensures { result ≡ fields_found list (edges rows.now cols.now orientations.now bits.now confidences.now) }
 {
     let coordinate = refused_at(
         refusals::BAD_COORDINATE,
@@ -87,7 +87,7 @@ pub fn list_admission(
     bits: &[u8],
     confidences: &[f32],
 ) -> Admission
-    ensures { result ≡ firstFound (listFindings least list (edges rows.now cols.now orientations.now bits.now confidences.now)) }
+    ensures { result ≡ first_found (list_findings least list (edges rows.now cols.now orientations.now bits.now confidences.now)) }
 {
     if checks::check::lengths_differ(rows, cols, orientations, bits, confidences) {
         return Admission::Refused(refusals::numbered(refusals::LENGTHS_DIFFER));
@@ -100,7 +100,7 @@ pub fn list_admission(
 
 // Whether the likelihood slices of a list of n edges differ from it in length.
 fn likelihoods_differ(n: usize, matches: &[f32], mismatches: &[f32]) -> bool
-    ensures { result ≡ likelihoodsDiffer n matches.now mismatches.now }
+    ensures { result ≡ likelihoods_differ n matches.now mismatches.now }
 {
     if n == matches.len() {
         return n != mismatches.len();
@@ -110,7 +110,7 @@ fn likelihoods_differ(n: usize, matches: &[f32], mismatches: &[f32]) -> bool
 
 // Numbers 2, 3 and 6 of the likelihoods of a physical list of n edges.
 pub fn likelihood_admission(n: usize, matches: &[f32], mismatches: &[f32]) -> Admission
-    ensures { result ≡ firstFound (likelihoodFindings n matches.now mismatches.now) }
+    ensures { result ≡ first_found (likelihood_findings n matches.now mismatches.now) }
 {
     if likelihoods_differ(n, matches, mismatches) {
         return Admission::Refused(refusals::numbered(refusals::LENGTHS_DIFFER));
@@ -128,7 +128,7 @@ pub fn likelihood_admission(n: usize, matches: &[f32], mismatches: &[f32]) -> Ad
 
 // Numbers 7 to 9: transforms, tables, and what else the call was given.
 pub fn settings_admission(transforms: bool, tables: bool, rest: bool) -> Admission
-    ensures { result ≡ firstFound (settingsFindings transforms tables rest) }
+    ensures { result ≡ first_found (settings_findings transforms tables rest) }
 {
     let transform = refused_if(transforms, refusals::BAD_TRANSFORM);
     let table = refused_if(tables, refusals::BAD_TABLE);

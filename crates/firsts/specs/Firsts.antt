@@ -2,7 +2,7 @@
 use Rattle.std.specs.Prelude.{Bool, true, false, cond, ℕ, ◌*◌, ◌/◌, ◌%◌, eqb}
 use Rattle.laws.specs.Words.{first}
 use Rattle.board.specs.Hits.{EdgeList, Board, hits}
-use Rattle.board.specs.Sides.{periodOf}
+use Rattle.board.specs.Sides.{period_of}
 use Rattle.classes.specs.declared.Three.{Three}
 use Rattle.tops.specs.Tops.{larger}
 
@@ -11,16 +11,16 @@ abbrev pub has : Board → EdgeList → ℕ → ℕ → ℕ → ℕ → Bool
 has B E t wanted row col = eqb (hits B E t row col) wanted
 
 -- the first column of a row that has them, else the number of columns
-unfoldable pub firstCol : Board → EdgeList → ℕ → ℕ → ℕ → ℕ
-firstCol B E t wanted row = first (has B E t wanted row) (3 * periodOf B false)
+unfoldable pub first_col : Board → EdgeList → ℕ → ℕ → ℕ → ℕ
+first_col B E t wanted row = first (has B E t wanted row) (3 * period_of B false)
 
 -- the origin with the key k has them: k is row · columns + column
-abbrev pub keyHas : Board → EdgeList → ℕ → ℕ → ℕ → Bool
-keyHas B E t wanted k = has B E t wanted (k / (3 * periodOf B false)) (k % (3 * periodOf B false))
+abbrev pub key_has : Board → EdgeList → ℕ → ℕ → ℕ → Bool
+key_has B E t wanted k = has B E t wanted (k / (3 * period_of B false)) (k % (3 * period_of B false))
 
 -- the first key that has them, else the number of origins
-unfoldable pub firstKey : Board → EdgeList → ℕ → ℕ → ℕ
-firstKey B E t wanted = first (keyHas B E t wanted) (3 * periodOf B true * (3 * periodOf B false))
+unfoldable pub first_key : Board → EdgeList → ℕ → ℕ → ℕ
+first_key B E t wanted = first (key_has B E t wanted) (3 * period_of B true * (3 * period_of B false))
 
 -- ---- three numbers
 abbrev pub pick_of : Three → ℕ → ℕ

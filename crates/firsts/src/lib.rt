@@ -1,9 +1,9 @@
 // The row-major first origin of a transform that has a given number of hits: first its row, by the most hits that a row can have, and then its column.
 ghost use Rattle.std.specs.Prelude.{◌≡◌, true, false, [], ◌*◌, ◌%◌, ◌≤◌, ◌<◌, length};
 ghost use Rattle.board.specs.Hits.{edges, tables};
-ghost use Rattle.classes.specs.Classes.{threeOf, CountReady};
-ghost use Rattle.tops.specs.Tops.{shortTops};
-ghost use Rattle.firsts.specs.Firsts.{pick_of, most_of, firstCol, firstKey};
+ghost use Rattle.classes.specs.Classes.{three_of, CountReady};
+ghost use Rattle.tops.specs.Tops.{short_tops};
+ghost use Rattle.firsts.specs.Firsts.{pick_of, most_of, first_col, first_key};
 
 use classes::Three;
 use tops::larger;
@@ -42,8 +42,8 @@ fn first_col(
     wanted: u32,
 ) -> usize
     requires count_ready { CountReady (tables h.now v.now) (edges rows.now cols.now orientations.now bits.now []) t }
-    requires across_value { across ≡ threeOf (tables h.now v.now) (edges rows.now cols.now orientations.now bits.now []) t true (row % length h.now) }
-    ensures { result ≡ firstCol (tables h.now v.now) (edges rows.now cols.now orientations.now bits.now []) t wanted row }
+    requires across_value { across ≡ three_of (tables h.now v.now) (edges rows.now cols.now orientations.now bits.now []) t true (row % length h.now) }
+    ensures { result ≡ first_col (tables h.now v.now) (edges rows.now cols.now orientations.now bits.now []) t wanted row }
 {
     let period = v.len();
     let mut col: usize = 0;
@@ -72,8 +72,8 @@ fn row_first(
     wanted: u32,
 ) -> usize
     requires count_ready { CountReady (tables h.now v.now) (edges rows.now cols.now orientations.now bits.now []) t }
-    requires tops_value { tops ≡ shortTops (tables h.now v.now) (edges rows.now cols.now orientations.now bits.now []) t (length v.now) }
-    ensures { result ≡ firstCol (tables h.now v.now) (edges rows.now cols.now orientations.now bits.now []) t wanted row }
+    requires tops_value { tops ≡ short_tops (tables h.now v.now) (edges rows.now cols.now orientations.now bits.now []) t (length v.now) }
+    ensures { result ≡ first_col (tables h.now v.now) (edges rows.now cols.now orientations.now bits.now []) t wanted row }
 {
     let long = (row % h.len()) as u32;
     let across = classes::long_hits(rows, cols, orientations, bits, t, true, long, h, v);
@@ -95,7 +95,7 @@ pub fn first_key(
     wanted: u32,
 ) -> usize
     requires { CountReady (tables h.now v.now) (edges rows.now cols.now orientations.now bits.now []) t }
-    ensures { result ≡ firstKey (tables h.now v.now) (edges rows.now cols.now orientations.now bits.now []) t wanted }
+    ensures { result ≡ first_key (tables h.now v.now) (edges rows.now cols.now orientations.now bits.now []) t wanted }
 {
     let tops = tops::short_tops(rows, cols, orientations, bits, t, h, v);
     let wide = 3 * v.len();

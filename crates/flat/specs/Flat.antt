@@ -20,28 +20,28 @@ abbrev pub nothing : ℕ
 nothing = 4294967295
 
 -- the refusal of an answer that is none: SAMBUREXT_FOUND in the C header
-abbrev pub notRefused : ℕ
-notRefused = 0
+abbrev pub not_refused : ℕ
+not_refused = 0
 
 -- C-11, "carry the list and the position": the lists by number; none is 0
-abbrev pub listNumber : ListName → ℕ
-listNumber Logical = 1
-listNumber Physical = 2
-listNumber Only = 3
+abbrev pub list_number : ListName → ℕ
+list_number Logical = 1
+list_number Physical = 2
+list_number Only = 3
 
 -- "At the C boundary the two new fields are SAMBUREXT_NOTHING where there is no place"
-abbrev pub flatList : Place → ℕ
-flatList Nowhere = nothing
-flatList (At p) = listNumber p.list
+abbrev pub flat_list : Place → ℕ
+flat_list Nowhere = nothing
+flat_list (At p) = list_number p.list
 
-abbrev pub flatPosition : Place → ℕ
-flatPosition Nowhere = nothing
-flatPosition (At p) = p.position
+abbrev pub flat_position : Place → ℕ
+flat_position Nowhere = nothing
+flat_position (At p) = p.position
 
 -- a found answer: not refused, about no edge, and each field of the answer at its place
-abbrev pub flatFound : Decoded → FlatAnswer
-flatFound d = record {
-  refusal = notRefused;
+abbrev pub flat_found : Decoded → FlatAnswer
+flat_found d = record {
+  refusal = not_refused;
   list = nothing;
   position = nothing;
   transform = d.square.transform;
@@ -61,8 +61,8 @@ flatFound d = record {
 }
 
 -- a refusal: its number, the list and the position of its edge, 0xFFFFFFFF for every other whole number, and x for every float
-abbrev pub refusedWith : ℕ → ℕ → ℕ → Float → FlatAnswer
-refusedWith n l i x = record {
+abbrev pub refused_with : ℕ → ℕ → ℕ → Float → FlatAnswer
+refused_with n l i x = record {
   refusal = n;
   list = l;
   position = i;
@@ -83,28 +83,28 @@ refusedWith n l i x = record {
 }
 
 -- and x is NaN
-abbrev pub flatRefused : Refusal → FlatAnswer
-flatRefused r = refusedWith r.number (flatList r.place) (flatPosition r.place) nan
+abbrev pub flat_refused : Refusal → FlatAnswer
+flat_refused r = refused_with r.number (flat_list r.place) (flat_position r.place) nan
 
 -- the answer of hard decode
 abbrev pub flat : Answer → FlatAnswer
-flat (Found d) = flatFound d
-flat (Refused r) = flatRefused r
+flat (Found d) = flat_found d
+flat (Refused r) = flat_refused r
 
 -- counted statistics, and refused ones
-abbrev pub flatCounted : MatchStats → FlatStats
-flatCounted s = record { refusal = notRefused; list = nothing; position = nothing; edges = s.edges; hits = s.hits; error_rate = s.error_rate; mean_confidence = s.mean_confidence }
+abbrev pub flat_counted : MatchStats → FlatStats
+flat_counted s = record { refusal = not_refused; list = nothing; position = nothing; edges = s.edges; hits = s.hits; error_rate = s.error_rate; mean_confidence = s.mean_confidence }
 
-abbrev pub uncountedWith : ℕ → ℕ → ℕ → Float → FlatStats
-uncountedWith n l i x = record { refusal = n; list = l; position = i; edges = nothing; hits = nothing; error_rate = x; mean_confidence = x }
+abbrev pub uncounted_with : ℕ → ℕ → ℕ → Float → FlatStats
+uncounted_with n l i x = record { refusal = n; list = l; position = i; edges = nothing; hits = nothing; error_rate = x; mean_confidence = x }
 
-abbrev pub flatUncounted : Refusal → FlatStats
-flatUncounted r = uncountedWith r.number (flatList r.place) (flatPosition r.place) nan
+abbrev pub flat_uncounted : Refusal → FlatStats
+flat_uncounted r = uncounted_with r.number (flat_list r.place) (flat_position r.place) nan
 
 -- the answer of match statistics
-abbrev pub flatStats : StatsAnswer → FlatStats
-flatStats (stats.Counted s) = flatCounted s
-flatStats (stats.Refused r) = flatUncounted r
+abbrev pub flat_stats : StatsAnswer → FlatStats
+flat_stats (stats.Counted s) = flat_counted s
+flat_stats (stats.Refused r) = flat_uncounted r
 
 -- a transform number as a byte: above 7 it is 255
 unfoldable pub narrow : ℕ → ℕ

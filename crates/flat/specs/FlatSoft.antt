@@ -6,12 +6,12 @@ use Rattle.answer.specs.declared.SoftDecoded.{SoftDecoded}
 use Rattle.answer.specs.declared.SoftAnswer.{SoftAnswer}
 use Rattle.answer.specs.declared.SoftAnswer.TheVariants.{Found, Refused}
 use Rattle.flat.specs.declared.flat_soft.FlatSoft.{FlatSoft}
-use Rattle.flat.specs.Flat.{nothing, notRefused, flatList, flatPosition}
+use Rattle.flat.specs.Flat.{nothing, not_refused, flat_list, flat_position}
 
 -- a found answer: not refused, about no edge, and each field of the answer at its place
-abbrev pub flatSoftFound : SoftDecoded → FlatSoft
-flatSoftFound d = record {
-  refusal = notRefused;
+abbrev pub flat_soft_found : SoftDecoded → FlatSoft
+flat_soft_found d = record {
+  refusal = not_refused;
   list = nothing;
   position = nothing;
   transform = d.square.transform;
@@ -35,8 +35,8 @@ flatSoftFound d = record {
 }
 
 -- a refusal: its number, the list and the position of its edge, 0xFFFFFFFF for every other whole number, and x for every float
-abbrev pub softRefusedWith : ℕ → ℕ → ℕ → Float → FlatSoft
-softRefusedWith n l i x = record {
+abbrev pub soft_refused_with : ℕ → ℕ → ℕ → Float → FlatSoft
+soft_refused_with n l i x = record {
   refusal = n;
   list = l;
   position = i;
@@ -61,10 +61,10 @@ softRefusedWith n l i x = record {
 }
 
 -- and x is NaN
-abbrev pub flatSoftRefused : Refusal → FlatSoft
-flatSoftRefused r = softRefusedWith r.number (flatList r.place) (flatPosition r.place) nan
+abbrev pub flat_soft_refused : Refusal → FlatSoft
+flat_soft_refused r = soft_refused_with r.number (flat_list r.place) (flat_position r.place) nan
 
 -- the answer of soft decode
-abbrev pub flatSoft : SoftAnswer → FlatSoft
-flatSoft (Found d) = flatSoftFound d
-flatSoft (Refused r) = flatSoftRefused r
+abbrev pub flat_soft : SoftAnswer → FlatSoft
+flat_soft (Found d) = flat_soft_found d
+flat_soft (Refused r) = flat_soft_refused r

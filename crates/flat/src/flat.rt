@@ -1,7 +1,7 @@
 // The answer of hard decode as a struct of plain numbers, for callers whose language has no enum with fields. A refusal has its number and its place, and fills every other field with what no found answer has.
 ghost use Rattle.std.specs.Prelude.{◌≡◌};
 ghost use Rattle.std.specs.Float.{nan};
-ghost use Rattle.flat.specs.Flat.{flat, flatFound, flatRefused, listNumber, flatList, flatPosition};
+ghost use Rattle.flat.specs.Flat.{flat, flat_found, flat_refused, list_number, flat_list, flat_position};
 
 use answer::{Answer, Decoded};
 use refusals::{ListName, Place, Refusal};
@@ -51,7 +51,7 @@ pub fn no_number() -> f32
 
 // A list by its number.
 fn list_number(list: ListName) -> u32
-    ensures { result ≡ listNumber list }
+    ensures { result ≡ list_number list }
 {
     match list {
         ListName::Logical => LOGICAL_LIST,
@@ -62,7 +62,7 @@ fn list_number(list: ListName) -> u32
 
 // The list that a refusal points to, by its number, or nothing.
 pub fn list_of(place: Place) -> u32
-    ensures { result ≡ flatList place }
+    ensures { result ≡ flat_list place }
 {
     match place {
         Place::Nowhere => NOTHING,
@@ -75,7 +75,7 @@ pub fn list_of(place: Place) -> u32
 
 // The position that a refusal points to, from 0, or nothing.
 pub fn position_of(place: Place) -> u32
-    ensures { result ≡ flatPosition place }
+    ensures { result ≡ flat_position place }
 {
     match place {
         Place::Nowhere => NOTHING,
@@ -85,7 +85,7 @@ pub fn position_of(place: Place) -> u32
 
 // A found answer, field by field.
 fn found(d: Decoded) -> FlatAnswer
-    ensures { result ≡ flatFound d }
+    ensures { result ≡ flat_found d }
 {
     let square = d.square;
     let runner = d.runner_up;
@@ -114,7 +114,7 @@ fn found(d: Decoded) -> FlatAnswer
 
 // A refusal: its number and its place, and nothing that could be taken for a square.
 fn refused(refusal: Refusal) -> FlatAnswer
-    ensures { result ≡ flatRefused refusal }
+    ensures { result ≡ flat_refused refusal }
 {
     let place = refusal.place;
     let list = list_of(place);

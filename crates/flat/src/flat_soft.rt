@@ -1,6 +1,6 @@
 // The answer of soft decode as a struct of plain numbers. It has two places more than that of hard decode has: the second by likelihood with its score, and the margin of the two.
 ghost use Rattle.std.specs.Prelude.{◌≡◌};
-ghost use Rattle.flat.specs.FlatSoft.{flatSoft, flatSoftFound, flatSoftRefused};
+ghost use Rattle.flat.specs.FlatSoft.{flat_soft, flat_soft_found, flat_soft_refused};
 
 use crate::flat::{NOT_REFUSED, NOTHING};
 use answer::{SoftAnswer, SoftDecoded};
@@ -35,7 +35,7 @@ pub struct FlatSoft {
 
 // A found answer, field by field.
 fn found(d: SoftDecoded) -> FlatSoft
-    ensures { result ≡ flatSoftFound d }
+    ensures { result ≡ flat_soft_found d }
 {
     let square = d.square;
     let second = d.second;
@@ -70,7 +70,7 @@ fn found(d: SoftDecoded) -> FlatSoft
 
 // A refusal: its number and its place, and nothing that could be taken for a square or a score.
 fn refused(refusal: Refusal) -> FlatSoft
-    ensures { result ≡ flatSoftRefused refusal }
+    ensures { result ≡ flat_soft_refused refusal }
 {
     let place = refusal.place;
     let list = crate::flat::list_of(place);
@@ -103,7 +103,7 @@ fn refused(refusal: Refusal) -> FlatSoft
 
 // The answer of soft decode as a struct.
 pub fn flattened_soft(answer: SoftAnswer) -> FlatSoft
-    ensures { result ≡ flatSoft answer }
+    ensures { result ≡ flat_soft answer }
 {
     match answer {
         SoftAnswer::Found(d) => found(d),

@@ -1,6 +1,6 @@
 // The answer of match statistics as a struct of plain numbers. A refusal fills every other field with what counted statistics never have.
 ghost use Rattle.std.specs.Prelude.{◌≡◌};
-ghost use Rattle.flat.specs.Flat.{flatStats, flatCounted, flatUncounted};
+ghost use Rattle.flat.specs.Flat.{flat_stats, flat_counted, flat_uncounted};
 
 use crate::flat::{NOT_REFUSED, NOTHING};
 use answer::{MatchStats, StatsAnswer};
@@ -21,7 +21,7 @@ pub struct FlatStats {
 
 // Statistics that were counted, field by field.
 fn counted(s: MatchStats) -> FlatStats
-    ensures { result ≡ flatCounted s }
+    ensures { result ≡ flat_counted s }
 {
     FlatStats {
         refusal: NOT_REFUSED,
@@ -36,7 +36,7 @@ fn counted(s: MatchStats) -> FlatStats
 
 // Statistics that were refused: the number and the place alone.
 fn uncounted(refusal: Refusal) -> FlatStats
-    ensures { result ≡ flatUncounted refusal }
+    ensures { result ≡ flat_uncounted refusal }
 {
     let place = refusal.place;
     let list = crate::flat::list_of(place);
@@ -55,7 +55,7 @@ fn uncounted(refusal: Refusal) -> FlatStats
 
 // The answer of match statistics as a struct.
 pub fn flattened_stats(answer: StatsAnswer) -> FlatStats
-    ensures { result ≡ flatStats answer }
+    ensures { result ≡ flat_stats answer }
 {
     match answer {
         StatsAnswer::Counted(s) => counted(s),

@@ -5,17 +5,17 @@ use Rattle.refusals.specs.declared.Refusal.{Refusal}
 use Rattle.exact_answer.specs.declared.ExactDecoded.{ExactDecoded}
 use Rattle.exact_answer.specs.declared.ExactAnswer.{ExactAnswer}
 use Rattle.exact_answer.specs.declared.ExactAnswer.TheVariants.{Found, Refused}
-use Rattle.flat.specs.Flat.{nothing, notRefused, flatList, flatPosition}
+use Rattle.flat.specs.Flat.{nothing, not_refused, flat_list, flat_position}
 use Rattle.flat_exact.specs.declared.FlatExact.{FlatExact}
 
 -- 0xFFFFFFFFFFFFFFFF: more than any list weighs
-abbrev pub noWeight : ℕ
-noWeight = 18446744073709551615
+abbrev pub no_weight : ℕ
+no_weight = 18446744073709551615
 
 -- a found answer: not refused, about no edge, each field of the answer at its place, and m hits ahead of the runner-up
-abbrev pub exactFoundWith : ExactDecoded → ℕ → FlatExact
-exactFoundWith d m = record {
-  refusal = notRefused;
+abbrev pub exact_found_with : ExactDecoded → ℕ → FlatExact
+exact_found_with d m = record {
+  refusal = not_refused;
   list = nothing;
   position = nothing;
   transform = d.square.transform;
@@ -35,12 +35,12 @@ exactFoundWith d m = record {
 }
 
 -- and m is how many hits the square has more
-abbrev pub flatExactFound : ExactDecoded → FlatExact
-flatExactFound d = exactFoundWith d (d.hits - d.runner_up_hits)
+abbrev pub flat_exact_found : ExactDecoded → FlatExact
+flat_exact_found d = exact_found_with d (d.hits - d.runner_up_hits)
 
 -- a refusal: its number, the list and the position of its edge, 0xFFFFFFFF or 0xFFFFFFFFFFFFFFFF for every other whole number, and x for the float
-abbrev pub exactRefusedWith : ℕ → ℕ → ℕ → Float → FlatExact
-exactRefusedWith n l i x = record {
+abbrev pub exact_refused_with : ℕ → ℕ → ℕ → Float → FlatExact
+exact_refused_with n l i x = record {
   refusal = n;
   list = l;
   position = i;
@@ -55,16 +55,16 @@ exactRefusedWith n l i x = record {
   runner_up_col = nothing;
   runner_up_hits = nothing;
   margin_hits = nothing;
-  weight = noWeight;
-  total = noWeight;
-  runner_up_weight = noWeight;
+  weight = no_weight;
+  total = no_weight;
+  runner_up_weight = no_weight;
 }
 
 -- and x is NaN
-abbrev pub flatExactRefused : Refusal → FlatExact
-flatExactRefused r = exactRefusedWith r.number (flatList r.place) (flatPosition r.place) nan
+abbrev pub flat_exact_refused : Refusal → FlatExact
+flat_exact_refused r = exact_refused_with r.number (flat_list r.place) (flat_position r.place) nan
 
 -- the answer of exact decode
-abbrev pub flatExact : ExactAnswer → FlatExact
-flatExact (Found d) = flatExactFound d
-flatExact (Refused r) = flatExactRefused r
+abbrev pub flat_exact : ExactAnswer → FlatExact
+flat_exact (Found d) = flat_exact_found d
+flat_exact (Refused r) = flat_exact_refused r

@@ -3,10 +3,10 @@ use Rattle.std.specs.Prelude.{◌≡◌, refl}
 use Rattle.refusals.specs.declared.Refusal.{Refusal}
 use Rattle.exact_answer.specs.declared.ExactAnswer.{ExactAnswer}
 use Rattle.exact_answer.specs.declared.ExactAnswer.TheVariants.{Found, Refused}
-use Rattle.flat.specs.Flat.{notRefused}
-use Rattle.flat_exact.specs.FlatExact.{flatExact, flatExactRefused}
+use Rattle.flat.specs.Flat.{not_refused}
+use Rattle.flat_exact.specs.FlatExact.{flat_exact, flat_exact_refused}
 
 -- A REFUSAL CARRIES NO SQUARE: where the number is not 0, the answer is a refusal, and every field but its number and its place is 0xFFFFFFFF, 0xFFFFFFFFFFFFFFFF or NaN
-pub only-its-refusal-exact : (a : ExactAnswer) → ((flatExact a).refusal ≡ notRefused → ⊥) → (r : Refusal) × (a ≡ Refused r) × (flatExact a ≡ flatExactRefused r)
+pub only-its-refusal-exact : (a : ExactAnswer) → ((flat_exact a).refusal ≡ not_refused → ⊥) → (r : Refusal) × (a ≡ Refused r) × (flat_exact a ≡ flat_exact_refused r)
 only-its-refusal-exact (Found d) h = absurd (h refl)
 only-its-refusal-exact (Refused r) h = (r, refl, refl)

@@ -1,6 +1,6 @@
 // The answer of exact decode as a struct of plain numbers, for callers whose language has no enum with fields. A refusal has its number and its place, and fills every other field with what no found answer has.
 ghost use Rattle.std.specs.Prelude.{◌≡◌, ◌-◌};
-ghost use Rattle.flat_exact.specs.FlatExact.{flatExact, flatExactFound, flatExactRefused};
+ghost use Rattle.flat_exact.specs.FlatExact.{flat_exact, flat_exact_found, flat_exact_refused};
 
 use exact_answer::{ExactAnswer, ExactDecoded};
 use flat::flat::{NOT_REFUSED, NOTHING};
@@ -45,7 +45,7 @@ pub fn ahead(hits: u32, others: u32) -> u32
 
 // A found answer, field by field, and the hits ahead of the runner-up.
 fn found(d: ExactDecoded) -> FlatExact
-    ensures { result ≡ flatExactFound d }
+    ensures { result ≡ flat_exact_found d }
 {
     let square = d.square;
     let runner = d.runner_up;
@@ -75,7 +75,7 @@ fn found(d: ExactDecoded) -> FlatExact
 
 // A refusal: its number and its place, and nothing that could be taken for a square or a weight.
 fn refused(refusal: Refusal) -> FlatExact
-    ensures { result ≡ flatExactRefused refusal }
+    ensures { result ≡ flat_exact_refused refusal }
 {
     let place = refusal.place;
     let list = flat::flat::list_of(place);
@@ -104,7 +104,7 @@ fn refused(refusal: Refusal) -> FlatExact
 
 // The answer of exact decode as a struct.
 pub fn flattened_exact(answer: ExactAnswer) -> FlatExact
-    ensures { result ≡ flatExact answer }
+    ensures { result ≡ flat_exact answer }
 {
     match answer {
         ExactAnswer::Found(d) => found(d),

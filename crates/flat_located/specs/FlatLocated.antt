@@ -4,13 +4,13 @@ use Rattle.refusals.specs.declared.Refusal.{Refusal}
 use Rattle.locate_answer.specs.declared.Located.{Located}
 use Rattle.locate_answer.specs.declared.LocateAnswer.{LocateAnswer}
 use Rattle.locate_answer.specs.declared.LocateAnswer.TheVariants.{Found, Refused}
-use Rattle.flat.specs.Flat.{nothing, notRefused, flatList, flatPosition}
+use Rattle.flat.specs.Flat.{nothing, not_refused, flat_list, flat_position}
 use Rattle.flat_located.specs.declared.FlatLocated.{FlatLocated}
 
 -- what is found: not refused, about no edge, and each field of the answer at its place
-abbrev pub flatLocatedFound : Located → FlatLocated
-flatLocatedFound l = record {
-  refusal = notRefused;
+abbrev pub flat_located_found : Located → FlatLocated
+flat_located_found l = record {
+  refusal = not_refused;
   list = nothing;
   position = nothing;
   transform = l.square.transform;
@@ -24,8 +24,8 @@ flatLocatedFound l = record {
 }
 
 -- a refusal: its number, the list and the position of its edge, and 0xFFFFFFFF for every other number
-abbrev pub locatedRefusedWith : ℕ → ℕ → ℕ → FlatLocated
-locatedRefusedWith n l i = record {
+abbrev pub located_refused_with : ℕ → ℕ → ℕ → FlatLocated
+located_refused_with n l i = record {
   refusal = n;
   list = l;
   position = i;
@@ -40,10 +40,10 @@ locatedRefusedWith n l i = record {
 }
 
 -- and its list and position are those of its place
-abbrev pub flatLocatedRefused : Refusal → FlatLocated
-flatLocatedRefused r = locatedRefusedWith r.number (flatList r.place) (flatPosition r.place)
+abbrev pub flat_located_refused : Refusal → FlatLocated
+flat_located_refused r = located_refused_with r.number (flat_list r.place) (flat_position r.place)
 
 -- the answer of the engine without tables
-abbrev pub flatLocated : LocateAnswer → FlatLocated
-flatLocated (Found l) = flatLocatedFound l
-flatLocated (Refused r) = flatLocatedRefused r
+abbrev pub flat_located : LocateAnswer → FlatLocated
+flat_located (Found l) = flat_located_found l
+flat_located (Refused r) = flat_located_refused r

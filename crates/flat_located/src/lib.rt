@@ -1,6 +1,6 @@
 // The answer of the engine without tables as a struct of plain numbers, for callers whose language has no enum with fields. A refusal has its number and its place, and fills every other field with what no found answer has.
 ghost use Rattle.std.specs.Prelude.{◌≡◌};
-ghost use Rattle.flat_located.specs.FlatLocated.{flatLocated, flatLocatedFound, flatLocatedRefused};
+ghost use Rattle.flat_located.specs.FlatLocated.{flat_located, flat_located_found, flat_located_refused};
 
 use flat::flat::{NOT_REFUSED, NOTHING};
 use locate_answer::{LocateAnswer, Located};
@@ -25,7 +25,7 @@ pub struct FlatLocated {
 
 // What is found, field by field.
 fn found(l: Located) -> FlatLocated
-    ensures { result ≡ flatLocatedFound l }
+    ensures { result ≡ flat_located_found l }
 {
     let square = l.square;
     let runner = l.runner_up;
@@ -48,7 +48,7 @@ fn found(l: Located) -> FlatLocated
 
 // A refusal: its number and its place, and nothing that could be taken for a square.
 fn refused(refusal: Refusal) -> FlatLocated
-    ensures { result ≡ flatLocatedRefused refusal }
+    ensures { result ≡ flat_located_refused refusal }
 {
     let place = refusal.place;
     let list = flat::flat::list_of(place);
@@ -70,7 +70,7 @@ fn refused(refusal: Refusal) -> FlatLocated
 
 // The answer of the engine without tables as a struct.
 pub fn flattened_located(answer: LocateAnswer) -> FlatLocated
-    ensures { result ≡ flatLocated answer }
+    ensures { result ≡ flat_located answer }
 {
     match answer {
         LocateAnswer::Found(l) => found(l),

@@ -8,14 +8,14 @@ use Rattle.part_answer.specs.declared.PartRunnerUp.TheVariants.{NoneShown, Shown
 use Rattle.part_answer.specs.declared.PartDecoded.{PartDecoded}
 use Rattle.part_answer.specs.declared.PartAnswer.{PartAnswer}
 use Rattle.part_answer.specs.declared.PartAnswer.TheVariants.{Found, Refused}
-use Rattle.flat.specs.Flat.{nothing, notRefused, flatList, flatPosition}
-use Rattle.flat_exact.specs.FlatExact.{noWeight}
+use Rattle.flat.specs.Flat.{nothing, not_refused, flat_list, flat_position}
+use Rattle.flat_exact.specs.FlatExact.{no_weight}
 use Rattle.flat_part.specs.declared.FlatNext.{FlatNext}
 use Rattle.flat_part.specs.declared.FlatPart.{FlatPart}
 
 -- a runner-up that is shown: its square, its hits, its weight, and so many hits behind
-abbrev pub nextWith : Square → ℕ → ℕ → ℕ → FlatNext
-nextWith square hits weight margin = record {
+abbrev pub next_with : Square → ℕ → ℕ → ℕ → FlatNext
+next_with square hits weight margin = record {
   next_transform = square.transform;
   next_row = square.row;
   next_col = square.col;
@@ -25,21 +25,21 @@ nextWith square hits weight margin = record {
 }
 
 -- the runner-up of a square with so many hits: where none is shown, no field says a square and the hits of none are 0; else its own
-abbrev pub flatNext : ℕ → PartRunnerUp → FlatNext
-flatNext hits NoneShown = record {
+abbrev pub flat_next : ℕ → PartRunnerUp → FlatNext
+flat_next hits NoneShown = record {
   next_transform = nothing;
   next_row = nothing;
   next_col = nothing;
   next_hits = nothing;
   next_margin = hits;
-  next_weight = noWeight;
+  next_weight = no_weight;
 }
-flatNext hits (Shown square behind weight) = nextWith square behind weight (hits - behind)
+flat_next hits (Shown square behind weight) = next_with square behind weight (hits - behind)
 
 -- a found answer: not refused, about no edge, each field of the answer at its place, and what is said of its runner-up
-abbrev pub partFoundWith : PartDecoded → FlatNext → FlatPart
-partFoundWith d next = record {
-  refusal = notRefused;
+abbrev pub part_found_with : PartDecoded → FlatNext → FlatPart
+part_found_with d next = record {
+  refusal = not_refused;
   list = nothing;
   position = nothing;
   transform = d.square.transform;
@@ -58,12 +58,12 @@ partFoundWith d next = record {
   runner_up_weight = next.next_weight;
 }
 
-abbrev pub flatPartFound : PartDecoded → FlatPart
-flatPartFound d = partFoundWith d (flatNext d.hits d.runner_up)
+abbrev pub flat_part_found : PartDecoded → FlatPart
+flat_part_found d = part_found_with d (flat_next d.hits d.runner_up)
 
 -- a refusal: its number, the list and the position of its edge, 0xFFFFFFFF or 0xFFFFFFFFFFFFFFFF for every other whole number, and x for the float
-abbrev pub partRefusedWith : ℕ → ℕ → ℕ → Float → FlatPart
-partRefusedWith n l i x = record {
+abbrev pub part_refused_with : ℕ → ℕ → ℕ → Float → FlatPart
+part_refused_with n l i x = record {
   refusal = n;
   list = l;
   position = i;
@@ -78,16 +78,16 @@ partRefusedWith n l i x = record {
   runner_up_col = nothing;
   runner_up_hits = nothing;
   margin_hits = nothing;
-  weight = noWeight;
-  total = noWeight;
-  runner_up_weight = noWeight;
+  weight = no_weight;
+  total = no_weight;
+  runner_up_weight = no_weight;
 }
 
 -- and x is NaN
-abbrev pub flatPartRefused : Refusal → FlatPart
-flatPartRefused r = partRefusedWith r.number (flatList r.place) (flatPosition r.place) nan
+abbrev pub flat_part_refused : Refusal → FlatPart
+flat_part_refused r = part_refused_with r.number (flat_list r.place) (flat_position r.place) nan
 
 -- the answer of decode over a part
-abbrev pub flatPart : PartAnswer → FlatPart
-flatPart (Found d) = flatPartFound d
-flatPart (Refused r) = flatPartRefused r
+abbrev pub flat_part : PartAnswer → FlatPart
+flat_part (Found d) = flat_part_found d
+flat_part (Refused r) = flat_part_refused r

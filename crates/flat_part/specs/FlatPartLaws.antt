@@ -8,13 +8,13 @@ use Rattle.part_answer.specs.declared.PartRunnerUp.TheVariants.{NoneShown, Shown
 use Rattle.part_answer.specs.declared.PartDecoded.{PartDecoded}
 use Rattle.part_answer.specs.declared.PartAnswer.{PartAnswer}
 use Rattle.part_answer.specs.declared.PartAnswer.TheVariants.{Found, Refused}
-use Rattle.flat.specs.Flat.{nothing, notRefused}
-use Rattle.flat_exact.specs.FlatExact.{noWeight}
+use Rattle.flat.specs.Flat.{nothing, not_refused}
+use Rattle.flat_exact.specs.FlatExact.{no_weight}
 use Rattle.flat_part.specs.declared.FlatNext.{FlatNext}
-use Rattle.flat_part.specs.FlatPart.{flatNext, flatPart, flatPartRefused}
+use Rattle.flat_part.specs.FlatPart.{flat_next, flat_part, flat_part_refused}
 
 -- A REFUSAL CARRIES NO SQUARE: where the number is not 0, the answer is a refusal, and every field but its number and its place is 0xFFFFFFFF, 0xFFFFFFFFFFFFFFFF or NaN
-pub only-its-refusal-part : (a : PartAnswer) → ((flatPart a).refusal ≡ notRefused → ⊥) → (r : Refusal) × (a ≡ Refused r) × (flatPart a ≡ flatPartRefused r)
+pub only-its-refusal-part : (a : PartAnswer) → ((flat_part a).refusal ≡ not_refused → ⊥) → (r : Refusal) × (a ≡ Refused r) × (flat_part a ≡ flat_part_refused r)
 only-its-refusal-part (Found d) h = absurd (h refl)
 only-its-refusal-part (Refused r) h = (r, refl, refl)
 
@@ -24,7 +24,7 @@ pub record NoneFlat (next : FlatNext) : Type 0 where
   pub row : next.next_row ≡ nothing
   pub col : next.next_col ≡ nothing
   pub hits : next.next_hits ≡ nothing
-  pub weight : next.next_weight ≡ noWeight
+  pub weight : next.next_weight ≡ no_weight
 
 -- a runner-up that is shown has a transform's number, 0 to 7
 abbrev pub NumberedUp : PartRunnerUp → Type 0
@@ -32,10 +32,10 @@ NumberedUp NoneShown = Unit
 NumberedUp (Shown square hits weight) = square.transform < 8
 
 -- NONE IS SHOWN EXACTLY WHERE ITS TRANSFORM IS 0xFFFFFFFF: all five fields then say so, and a runner-up that is shown never does
-pub none-flat : (hits : ℕ) (next : PartRunnerUp) → next ≡ NoneShown → NoneFlat (flatNext hits next)
+pub none-flat : (hits : ℕ) (next : PartRunnerUp) → next ≡ NoneShown → NoneFlat (flat_next hits next)
 none-flat hits NoneShown e = record { transform = refl; row = refl; col = refl; hits = refl; weight = refl }
 none-flat hits (Shown square behind weight) e = let z : ◌≡◌ {A = ℕ} 0 1 = cc in absurd (omega arith)
 
-pub flat-none : (hits : ℕ) (next : PartRunnerUp) → NumberedUp next → (flatNext hits next).next_transform ≡ nothing → next ≡ NoneShown
+pub flat-none : (hits : ℕ) (next : PartRunnerUp) → NumberedUp next → (flat_next hits next).next_transform ≡ nothing → next ≡ NoneShown
 flat-none hits NoneShown h e = refl
 flat-none hits (Shown square behind weight) h e = absurd (omega (arith, h, e))

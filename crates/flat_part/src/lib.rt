@@ -1,6 +1,6 @@
 // The answer of decode over a part as a struct of plain numbers, for callers whose language has no enum with fields. A runner-up that is not shown, and a refusal, fill their fields with what nothing shown has.
 ghost use Rattle.std.specs.Prelude.{◌≡◌};
-ghost use Rattle.flat_part.specs.FlatPart.{flatNext, flatPart, flatPartFound, flatPartRefused};
+ghost use Rattle.flat_part.specs.FlatPart.{flat_next, flat_part, flat_part_found, flat_part_refused};
 
 use flat::flat::{NOT_REFUSED, NOTHING};
 use flat_exact::NO_WEIGHT;
@@ -44,7 +44,7 @@ pub struct FlatNext {
 
 // The runner-up of a square with so many hits. Where none is shown there is no square and no count, and the hits of none are 0.
 fn next_of(hits: u32, next: PartRunnerUp) -> FlatNext
-    ensures { result ≡ flatNext hits next }
+    ensures { result ≡ flat_next hits next }
 {
     match next {
         PartRunnerUp::NoneShown => FlatNext {
@@ -72,7 +72,7 @@ fn next_of(hits: u32, next: PartRunnerUp) -> FlatNext
 
 // A found answer, field by field.
 fn found(d: PartDecoded) -> FlatPart
-    ensures { result ≡ flatPartFound d }
+    ensures { result ≡ flat_part_found d }
 {
     let square = d.square;
     let transform = square.transform as u32;
@@ -101,7 +101,7 @@ fn found(d: PartDecoded) -> FlatPart
 
 // A refusal: its number and its place, and nothing that could be taken for a square or a weight.
 fn refused(refusal: Refusal) -> FlatPart
-    ensures { result ≡ flatPartRefused refusal }
+    ensures { result ≡ flat_part_refused refusal }
 {
     let place = refusal.place;
     let list = flat::flat::list_of(place);
@@ -130,7 +130,7 @@ fn refused(refusal: Refusal) -> FlatPart
 
 // The answer of decode over a part as a struct.
 pub fn flattened_part(answer: PartAnswer) -> FlatPart
-    ensures { result ≡ flatPart answer }
+    ensures { result ≡ flat_part answer }
 {
     match answer {
         PartAnswer::Found(d) => found(d),

@@ -1,6 +1,6 @@
 // The answer of the test of one placing as a struct of plain numbers, for callers whose language has no enum with fields. A refusal has its number and its place, and fills every other field with what no judged answer has.
 ghost use Rattle.std.specs.Prelude.{◌≡◌, cond};
-ghost use Rattle.flat_within.specs.FlatWithin.{flatWithin, flatJudged, flatUnjudged};
+ghost use Rattle.flat_within.specs.FlatWithin.{flat_within, flat_judged, flat_unjudged};
 
 use flat::flat::{NOT_REFUSED, NOTHING};
 use refusals::Refusal;
@@ -29,7 +29,7 @@ fn yes_or_no(within: bool) -> u32
 
 // What was judged, field by field.
 fn judged(test: LimitTest) -> FlatWithin
-    ensures { result ≡ flatJudged test }
+    ensures { result ≡ flat_judged test }
 {
     FlatWithin {
         refusal: NOT_REFUSED,
@@ -42,7 +42,7 @@ fn judged(test: LimitTest) -> FlatWithin
 
 // A refusal: its number and its place, and nothing that could be taken for yes or no.
 fn refused(refusal: Refusal) -> FlatWithin
-    ensures { result ≡ flatUnjudged refusal }
+    ensures { result ≡ flat_unjudged refusal }
 {
     let place = refusal.place;
     let list = flat::flat::list_of(place);
@@ -58,7 +58,7 @@ fn refused(refusal: Refusal) -> FlatWithin
 
 // The answer of the test as a struct.
 pub fn flattened_within(answer: WithinAnswer) -> FlatWithin
-    ensures { result ≡ flatWithin answer }
+    ensures { result ≡ flat_within answer }
 {
     match answer {
         WithinAnswer::Judged(test) => judged(test),

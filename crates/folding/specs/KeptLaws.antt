@@ -10,10 +10,10 @@ use Rattle.std.specs.Float.Ieee.{lt}
 use Rattle.laws.specs.Tests.{clash, cases, compared, split, or-true, or-false, and-true}
 use Rattle.laws.specs.Words.{origins}
 use Rattle.best.specs.CellTables.{CellTables}
-use Rattle.best.specs.Lex.{lexOf}
-use Rattle.scan.specs.Scan.{overLimit, takes, replaced, offeredWithin, emptyScan, SoundKept, SoundScan}
-use Rattle.direct.specs.Direct.{pairHits, originCandidate, tried}
-use Rattle.folding.specs.Transform.{bestOrigin, bestHits, bestCandidate, offeredBy, selected, separationProductCap}
+use Rattle.best.specs.Lex.{lex_of}
+use Rattle.scan.specs.Scan.{over_limit, takes, replaced, offered_within, empty_scan, SoundKept, SoundScan}
+use Rattle.direct.specs.Direct.{pair_hits, origin_candidate, tried}
+use Rattle.folding.specs.Transform.{best_origin, best_hits, best_candidate, offered_by, selected, separation_product_cap}
 use Rattle.folding.specs.TransformLaws.{by-none, by-direct, by-best, selected-none, selected-count, kept_at, selected-best}
 use Rattle.best.specs.declared.lex.LexMax.{LexMax}
 use Rattle.scan.specs.declared.scan.Candidate.{Candidate}
@@ -52,16 +52,16 @@ module _ (L M edges : ℕ) (confidence limit : Float) where
   -- ---- the direct scan
   -- the candidate of one of n origins from the key `from` on, within the limit
   abbrev Tried : ℕ → CellTables → ℕ → ℕ → Candidate → Type 0
-  Tried listed X from n c = (k : ℕ) × (k < n) × (overLimit edges limit (pairHits (origins L M) X (from + k)) ≡ false) × (c ≡ originCandidate L M edges confidence limit listed X (from + k))
+  Tried listed X from n c = (k : ℕ) × (k < n) × (over_limit edges limit (pair_hits (origins L M) X (from + k)) ≡ false) × (c ≡ origin_candidate L M edges confidence limit listed X (from + k))
 
   tried-most : (listed : ℕ) (X : CellTables) (S : Candidate → Type 0) (start : Kept) → MostOf S start → (from n : ℕ)
       → MostOf (λ c. S c ⊎ Tried listed X from n c) (tried L M edges confidence limit listed X from start n)
-  unfolding tried offeredWithin originCandidate
+  unfolding tried offered_within origin_candidate
   tried-most listed X S start h from zero = most-same S (λ c. S c ⊎ Tried listed X from 0 c) start h (λ x s. inl s) (λ x s. ⊎_elim (λ a. a) (λ a. absurd (omega (arith, a.1))) s)
-  tried-most listed X S start h from (suc n) = go (overLimit edges limit new.hits) refl (tried-most listed X S start h from n)
+  tried-most listed X S start h from (suc n) = go (over_limit edges limit new.hits) refl (tried-most listed X S start h from n)
     where
       new : Candidate
-      new = originCandidate L M edges confidence limit listed X (from + n)
+      new = origin_candidate L M edges confidence limit listed X (from + n)
 
       old : Kept
       old = tried L M edges confidence limit listed X from start n
@@ -77,14 +77,14 @@ module _ (L M edges : ℕ) (confidence limit : Float) where
       up x (inr t) = inr (t.0, omega (arith, t.1), t.2, t.3)
 
       -- what is new is the last of them
-      down : (x : Candidate) → After x → Before x ⊎ ((x ≡ new) × (overLimit edges limit new.hits ≡ false))
+      down : (x : Candidate) → After x → Before x ⊎ ((x ≡ new) × (over_limit edges limit new.hits ≡ false))
       down x (inl s) = inl (inl s)
       down x (inr t) = ⊎_elim
-          (λ e. inr (t.3 ∙ ap (λ (k : ℕ). originCandidate L M edges confidence limit listed X (from + k)) e, rw e at t.2))
+          (λ e. inr (t.3 ∙ ap (λ (k : ℕ). origin_candidate L M edges confidence limit listed X (from + k)) e, rw e at t.2))
           (λ l. inl (inr (t.0, l, t.2, t.3)))
           (split t.0 n t.1)
 
-      go : (t : Bool) → overLimit edges limit new.hits ≡ t → MostOf Before old → MostOf After (cond t old (replaced old new))
+      go : (t : Bool) → over_limit edges limit new.hits ≡ t → MostOf Before old → MostOf After (cond t old (replaced old new))
       go true e ih = most-same Before After old ih up (λ x s. ⊎_elim (λ a. a) (λ a. clash e a.1) (down x s))
       go false e ih =
           most-more Before After old new ih (inr (n, omega arith, e, refl)) up
@@ -92,7 +92,7 @@ module _ (L M edges : ℕ) (confidence limit : Float) where
 
   -- the candidate of one of all origins, within the limit
   abbrev pub Among : ℕ → CellTables → Candidate → Type 0
-  Among listed X c = (k : ℕ) × (k < 3 * L * (3 * M)) × (overLimit edges limit (pairHits (origins L M) X k) ≡ false) × (c ≡ originCandidate L M edges confidence limit listed X k)
+  Among listed X c = (k : ℕ) × (k < 3 * L * (3 * M)) × (over_limit edges limit (pair_hits (origins L M) X k) ≡ false) × (c ≡ origin_candidate L M edges confidence limit listed X k)
 
   among : (listed : ℕ) (X : CellTables) (c : Candidate) → Tried listed X 0 (3 * L * (3 * M)) c → Among listed X c
   among listed X c t = (t.0, t.1, rw (zero-add t.0) at t.2, rw (zero-add t.0) at t.3)
@@ -104,44 +104,44 @@ module _ (L M edges : ℕ) (confidence limit : Float) where
   -- a candidate of the transform at a list position: its best origin, or from 1,025 optimal pairs on one of its origins within the limit
   abbrev pub Offers : ℕ → CellTables → Candidate → Type 0
   Offers listed X c =
-      let a = lexOf X.hc X.hw in
-      let b = lexOf X.vc X.vw in
-      (overLimit edges limit (bestHits a b) ≡ false)
-      × (((a.optimal * b.optimal ≤ separationProductCap) × (c ≡ bestCandidate M confidence listed a b (bestOrigin (origins L M) X)))
-      ⊎ ((separationProductCap < a.optimal * b.optimal) × Among listed X c))
+      let a = lex_of X.hc X.hw in
+      let b = lex_of X.vc X.vw in
+      (over_limit edges limit (best_hits a b) ≡ false)
+      × (((a.optimal * b.optimal ≤ separation_product_cap) × (c ≡ best_candidate M confidence listed a b (best_origin (origins L M) X)))
+      ⊎ ((separation_product_cap < a.optimal * b.optimal) × Among listed X c))
 
   transform-most : (listed : ℕ) (X : CellTables) (S : Candidate → Type 0) (kept : Kept) → MostOf S kept
-      → MostOf (λ c. S c ⊎ Offers listed X c) (offeredBy L M edges confidence limit listed X (lexOf X.hc X.hw) (lexOf X.vc X.vw) (bestOrigin (origins L M) X) kept)
-  transform-most listed X S kept h = ⊎_elim none-offered (λ e. ⊎_elim (scanned e) (single e) (compared separationProductCap (a.optimal * b.optimal))) (cases (overLimit edges limit (bestHits a b)))
+      → MostOf (λ c. S c ⊎ Offers listed X c) (offered_by L M edges confidence limit listed X (lex_of X.hc X.hw) (lex_of X.vc X.vw) (best_origin (origins L M) X) kept)
+  transform-most listed X S kept h = ⊎_elim none-offered (λ e. ⊎_elim (scanned e) (single e) (compared separation_product_cap (a.optimal * b.optimal))) (cases (over_limit edges limit (best_hits a b)))
     where
       a : LexMax
-      a = lexOf X.hc X.hw
+      a = lex_of X.hc X.hw
 
       b : LexMax
-      b = lexOf X.vc X.vw
+      b = lex_of X.vc X.vw
 
       first : ℕ
-      first = bestOrigin (origins L M) X
+      first = best_origin (origins L M) X
 
       After : Candidate → Type 0
       After c = S c ⊎ Offers listed X c
 
-      none-offered : overLimit edges limit (bestHits a b) ≡ true → MostOf After (offeredBy L M edges confidence limit listed X a b first kept)
+      none-offered : over_limit edges limit (best_hits a b) ≡ true → MostOf After (offered_by L M edges confidence limit listed X a b first kept)
       none-offered e =
           rw (by-none L M edges confidence limit listed X a b first kept e)
           (most-same S After kept h (λ x s. inl s) (λ x s. ⊎_elim (λ t. t) (λ t. clash e t.0) s))
 
-      scanned : overLimit edges limit (bestHits a b) ≡ false → separationProductCap < a.optimal * b.optimal → MostOf After (offeredBy L M edges confidence limit listed X a b first kept)
+      scanned : over_limit edges limit (best_hits a b) ≡ false → separation_product_cap < a.optimal * b.optimal → MostOf After (offered_by L M edges confidence limit listed X a b first kept)
       scanned e l =
           rw (by-direct L M edges confidence limit listed X a b first kept e l)
           (most-same (λ c. S c ⊎ Tried listed X 0 (3 * L * (3 * M)) c) After (tried L M edges confidence limit listed X 0 kept (3 * L * (3 * M))) (tried-most listed X S kept h 0 (3 * L * (3 * M)))
           (λ x s. ⊎_elim inl (λ t. inr (e, inr (l, among listed X x t))) s)
           (λ x s. ⊎_elim inl (λ t. ⊎_elim (λ u. absurd (omega (arith, u.0))) (λ u. inr (among-tried listed X x u.1)) t.1) s))
 
-      single : overLimit edges limit (bestHits a b) ≡ false → a.optimal * b.optimal ≤ separationProductCap → MostOf After (offeredBy L M edges confidence limit listed X a b first kept)
+      single : over_limit edges limit (best_hits a b) ≡ false → a.optimal * b.optimal ≤ separation_product_cap → MostOf After (offered_by L M edges confidence limit listed X a b first kept)
       single e l =
           rw (by-best L M edges confidence limit listed X a b first kept e l)
-          (most-more S After kept (bestCandidate M confidence listed a b first) h (inr (e, inl (l, refl))) (λ x s. inl s)
+          (most-more S After kept (best_candidate M confidence listed a b first) h (inr (e, inl (l, refl))) (λ x s. inl s)
           (λ x s. ⊎_elim inl (λ t. ⊎_elim (λ u. inr u.1) (λ u. absurd (omega (arith, u.0))) t.1) s))
 
   -- ---- the list
@@ -151,7 +151,7 @@ module _ (L M edges : ℕ) (confidence limit : Float) where
     Listed n c = (p : ℕ) × (p < n) × Offers p (tab p) c
 
     pub kept-most : (n : ℕ) → MostOf (Listed n) (selected L M edges confidence limit ts tab n).best
-    unfolding emptyScan
+    unfolding empty_scan
     kept-most zero = rw (selected-none L M edges confidence limit ts tab) (λ c s. omega (arith, s.1))
     kept-most (suc n) =
         rw (selected-best L M edges confidence limit ts tab n)
@@ -166,7 +166,7 @@ module _ (L M edges : ℕ) (confidence limit : Float) where
 
     -- a candidate stands at the list position that offered it
     pub offers-place : (p : ℕ) (c : Candidate) → Offers p (tab p) c → c.placing.listed ≡ p
-    unfolding originCandidate
+    unfolding origin_candidate
     offers-place p c o = ⊎_elim (λ u. ap (λ (d : Candidate). d.placing.listed) u.1) (λ u. ap (λ (d : Candidate). d.placing.listed) u.1.3) o.1
 
     -- so the scan is one that `finish` takes

@@ -5,8 +5,8 @@ use Rattle.folding.specs.declared.view.TransformTables.{TransformTables}
 use Rattle.best.specs.CellTables.{CellTables, cells}
 
 -- the view that holds four slices
-abbrev pub viewOf : Bor (List ℕ) → Bor (List Float) → Bor (List ℕ) → Bor (List Float) → TransformTables
-viewOf hc hw vc vw = record { h_count = hc; h_weight = hw; v_count = vc; v_weight = vw }
+abbrev pub view_of : Bor (List ℕ) → Bor (List Float) → Bor (List ℕ) → Bor (List Float) → TransformTables
+view_of hc hw vc vw = record { h_count = hc; h_weight = hw; v_count = vc; v_weight = vw }
 
 -- the four tables that a view shows
 abbrev pub viewed : TransformTables → CellTables

@@ -2,7 +2,7 @@
 ghost use Rattle.std.specs.Prelude.{◌≡◌, ◌+◌, ◌≤◌};
 ghost use Rattle.laws.specs.Words.{origins};
 ghost use Rattle.best.specs.CellTables.{Period, TablesOk, cells};
-ghost use Rattle.folding.specs.Transform.{BestOk, first_of, runnerUpWithin, competitorOf, summaryOf, offeredBy, foldTransform, FoldReady};
+ghost use Rattle.folding.specs.Transform.{BestOk, first_of, runner_up_within, competitor_of, summary_of, offered_by, fold_transform, FoldReady};
 ghost use Rattle.folding.specs.TransformLaws.{PairOk};
 
 use best::lex::{LexMax, lex_max};
@@ -50,7 +50,7 @@ fn best_origin(
 // The runner-up inside a transform whose best origin is `first`, from what its horizontal table a and its vertical table b say.
 pub fn runner_up_within(a: LexMax, b: LexMax, first: usize, periods: Periods) -> Ranked
     requires { Period periods.h × Period periods.v × BestOk periods.h periods.v a b }
-    ensures { result ≡ runnerUpWithin periods.h periods.v a b first }
+    ensures { result ≡ runner_up_within periods.h periods.v a b first }
 {
     if a.tied * b.tied > 1 {
         let hits = a.count + b.count;
@@ -69,7 +69,7 @@ pub fn runner_up_within(a: LexMax, b: LexMax, first: usize, periods: Periods) ->
 // An origin of a transform by row and column, over the vertical period.
 fn competitor(origin: Ranked, period: usize, transform: u8) -> RunnerUp
     requires { Period period × (origin.key ≤ 2250000) }
-    ensures { result ≡ competitorOf period transform origin }
+    ensures { result ≡ competitor_of period transform origin }
 {
     let columns = 3 * period;
     let row = (origin.key / columns) as u32;
@@ -85,7 +85,7 @@ fn competitor(origin: Ranked, period: usize, transform: u8) -> RunnerUp
 // The summary of a transform from its best origin and the runner-up within it.
 pub fn summary(first: Ranked, other: Ranked, period: usize, transform: u8) -> TransformSummary
     requires { Period period × (first.key ≤ 2250000) × (other.key ≤ 2250000) }
-    ensures { result ≡ summaryOf period first other transform }
+    ensures { result ≡ summary_of period first other transform }
 {
     let best = competitor(first, period, transform);
     let within = competitor(other, period, transform);
@@ -108,7 +108,7 @@ fn offer_transform(
 ) -> Kept
     requires period { Period periods.h × Period periods.v × TablesOk periods.h periods.v asked.edges (cells hc.now hw.now vc.now vw.now) }
     requires best_ok { BestOk periods.h periods.v a b × (a.count + b.count ≤ asked.edges) × (key ≤ 2250000) }
-    ensures { result ≡ offeredBy periods.h periods.v asked.edges asked.confidence asked.error_limit listed (cells hc.now hw.now vc.now vw.now) a b key kept }
+    ensures { result ≡ offered_by periods.h periods.v asked.edges asked.confidence asked.error_limit listed (cells hc.now hw.now vc.now vw.now) a b key kept }
 {
     let hits = a.count + b.count;
     if over_limit(asked.edges, hits, asked.error_limit) {
@@ -144,7 +144,7 @@ pub fn fold_transform<'a>(
     asked: Asked,
 ) -> HardScan
     requires { FoldReady periods.h periods.v asked.edges (cells hc.now hw.now vc.now vw.now) scan }
-    ensures { result ≡ foldTransform periods.h periods.v asked.edges asked.confidence asked.error_limit transform (cells hc.now hw.now vc.now vw.now) scan }
+    ensures { result ≡ fold_transform periods.h periods.v asked.edges asked.confidence asked.error_limit transform (cells hc.now hw.now vc.now vw.now) scan }
 {
     let a = lex_max(hc, hw);
     let b = lex_max(vc, vw);

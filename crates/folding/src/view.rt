@@ -1,8 +1,8 @@
 // The four tables of one transform as one view, which the scan reads through. The core below stays on plain slices.
 ghost use Rattle.std.specs.Prelude.{◌≡◌};
 ghost use Rattle.best.specs.CellTables.{cells};
-ghost use Rattle.folding.specs.Transform.{foldTransform, FoldReady};
-ghost use Rattle.folding.specs.View.{viewOf, viewed};
+ghost use Rattle.folding.specs.Transform.{fold_transform, FoldReady};
+ghost use Rattle.folding.specs.View.{view_of, viewed};
 
 use laws::Periods;
 use scan::scan::{Asked, HardScan};
@@ -18,7 +18,7 @@ pub struct TransformTables<'a> {
 
 // The view of four tables.
 fn view_of<'a>(hc: &'a [u32], hw: &'a [f32], vc: &'a [u32], vw: &'a [f32]) -> TransformTables<'a>
-    ensures { result ≡ viewOf hc.entry hw.entry vc.entry vw.entry }
+    ensures { result ≡ view_of hc.entry hw.entry vc.entry vw.entry }
 {
     TransformTables {
         h_count: hc,
@@ -37,7 +37,7 @@ fn fold_view<'a>(
     asked: Asked,
 ) -> HardScan
     requires { FoldReady periods.h periods.v asked.edges (viewed t) scan }
-    ensures { result ≡ foldTransform periods.h periods.v asked.edges asked.confidence asked.error_limit transform (viewed t.entry) scan }
+    ensures { result ≡ fold_transform periods.h periods.v asked.edges asked.confidence asked.error_limit transform (viewed t.entry) scan }
 {
     crate::transform::fold_transform(
         scan, t.h_count, t.h_weight, t.v_count, t.v_weight, periods, transform, asked,
@@ -56,7 +56,7 @@ pub fn fold_tables<'a>(
     asked: Asked,
 ) -> HardScan
     requires { FoldReady periods.h periods.v asked.edges (cells hc.now hw.now vc.now vw.now) scan }
-    ensures { result ≡ foldTransform periods.h periods.v asked.edges asked.confidence asked.error_limit transform (cells hc.now hw.now vc.now vw.now) scan }
+    ensures { result ≡ fold_transform periods.h periods.v asked.edges asked.confidence asked.error_limit transform (cells hc.now hw.now vc.now vw.now) scan }
 {
     fold_view(scan, view_of(hc, hw, vc, vw), periods, transform, asked)
 }

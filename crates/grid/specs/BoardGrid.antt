@@ -4,14 +4,14 @@ use Rattle.std.proofs.Common.{mul-le-mul, arith}
 use Rattle.laws.specs.Words.{origins}
 use Rattle.laws.specs.GridLaws.{Laws, origins-laws}
 use Rattle.board.specs.Hits.{Board}
-use Rattle.board.specs.Sides.{periodOf}
+use Rattle.board.specs.Sides.{period_of}
 use Rattle.board.specs.Domain.{BoardOk}
 use Rattle.best.specs.CellTables.{Period}
 
-pub period-h : (B : Board) → BoardOk B → Period (periodOf B true)
+pub period-h : (B : Board) → BoardOk B → Period (period_of B true)
 period-h B ok = record { more = ok.h.some; few = ok.h.few; free = ok.h.free }
 
-pub period-v : (B : Board) → BoardOk B → Period (periodOf B false)
+pub period-v : (B : Board) → BoardOk B → Period (period_of B false)
 period-v B ok = record { more = ok.v.some; few = ok.v.few; free = ok.v.free }
 
 module _ (L M : ℕ) (p : Period L) (q : Period M) where

@@ -13,6 +13,6 @@ lowest p f a zero = a
 lowest p f a (suc i) = cond (p i) (lower (f i) (lowest p f a i)) (lowest p f a i)
 
 -- the least key over the pairs of one of the first n horizontal cells and one of w vertical cells that pass
-unfoldable pub rowMajor : Grid → ℕ → (ℕ → Bool) → (ℕ → Bool) → ℕ → ℕ
-rowMajor G w ph pv zero = G.none
-rowMajor G w ph pv (suc h) = cond (ph h) (lowest pv (G.key h) (rowMajor G w ph pv h) w) (rowMajor G w ph pv h)
+unfoldable pub row_major : Grid → ℕ → (ℕ → Bool) → (ℕ → Bool) → ℕ → ℕ
+row_major G w ph pv zero = G.none
+row_major G w ph pv (suc h) = cond (ph h) (lowest pv (G.key h) (row_major G w ph pv h) w) (row_major G w ph pv h)

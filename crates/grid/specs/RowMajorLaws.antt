@@ -9,7 +9,7 @@ use native.Mathlib.Omega.{arith}
 use Rattle.laws.specs.Tests.{clash, split}
 use Rattle.laws.specs.Words.{count, Grid}
 use Rattle.laws.specs.Counting.{count-one}
-use Rattle.grid.specs.RowMajor.{lower, lowest, rowMajor}
+use Rattle.grid.specs.RowMajor.{lower, lowest, row_major}
 
 -- ---- one cell more
 pub lowest-no : (p : ℕ → Bool) (f : ℕ → ℕ) (a i x : ℕ) → x ≡ lowest p f a i → p i ≡ false → x ≡ lowest p f a (i + 1)
@@ -24,12 +24,12 @@ lowest-yes p f a i x e t = rw (add-one i, t, ← e)
 pub lowest-old : (p : ℕ → Bool) (f : ℕ → ℕ) (a i x : ℕ) → x ≡ lowest p f a i → p i ≡ true → x ≤ f i → x ≡ lowest p f a (i + 1)
 lowest-old p f a i x e t l = sym (ap (λ (c : Bool). cond c (f i) x) (le-ltb (f i) x l)) ∙ lowest-yes p f a i x e t
 
-pub major-no : (G : Grid) (w : ℕ) (p q : ℕ → Bool) (i x : ℕ) → x ≡ rowMajor G w p q i → p i ≡ false → x ≡ rowMajor G w p q (i + 1)
-unfolding rowMajor
+pub major-no : (G : Grid) (w : ℕ) (p q : ℕ → Bool) (i x : ℕ) → x ≡ row_major G w p q i → p i ≡ false → x ≡ row_major G w p q (i + 1)
+unfolding row_major
 major-no G w p q i x e t = rw (add-one i, t) e
 
-pub major-yes : (G : Grid) (w : ℕ) (p q : ℕ → Bool) (i x : ℕ) → x ≡ rowMajor G w p q i → p i ≡ true → lowest q (G.key i) x w ≡ rowMajor G w p q (i + 1)
-unfolding rowMajor
+pub major-yes : (G : Grid) (w : ℕ) (p q : ℕ → Bool) (i x : ℕ) → x ≡ row_major G w p q i → p i ≡ true → lowest q (G.key i) x w ≡ row_major G w p q (i + 1)
+unfolding row_major
 major-yes G w p q i x e t = rw (add-one i, t, ← e)
 
 -- ---- it is the least
@@ -81,44 +81,44 @@ module _ (p : ℕ → Bool) (f : ℕ → ℕ) (a : ℕ) where
       go false q (inr w) = inr (w.0, omega (arith, w.1), w.2, w.3)
 
 module _ (G : Grid) (w : ℕ) (p q : ℕ → Bool) where
-  pub major-none : (n : ℕ) → rowMajor G w p q n ≤ G.none
-  unfolding rowMajor
+  pub major-none : (n : ℕ) → row_major G w p q n ≤ G.none
+  unfolding row_major
   major-none zero = omega arith
   major-none (suc n) = go (p n) (major-none n)
     where
-      go : (x : Bool) → rowMajor G w p q n ≤ G.none → cond x (lowest q (G.key n) (rowMajor G w p q n) w) (rowMajor G w p q n) ≤ G.none
-      go true h = omega (arith, lowest_start q (G.key n) (rowMajor G w p q n) w)
+      go : (x : Bool) → row_major G w p q n ≤ G.none → cond x (lowest q (G.key n) (row_major G w p q n) w) (row_major G w p q n) ≤ G.none
+      go true h = omega (arith, lowest_start q (G.key n) (row_major G w p q n) w)
       go false h = h
 
-  pub major-le : (n h v : ℕ) → h < n → v < w → p h ≡ true → q v ≡ true → rowMajor G w p q n ≤ G.key h v
-  unfolding rowMajor
+  pub major-le : (n h v : ℕ) → h < n → v < w → p h ≡ true → q v ≡ true → row_major G w p q n ≤ G.key h v
+  unfolding row_major
   major-le zero h v l m s t = absurd (omega arith)
   major-le (suc n) h v l m s t = go (p n) refl (λ z. major-le n h v z m s t) (split h n l)
     where
-      go : (x : Bool) → p n ≡ x → (h < n → rowMajor G w p q n ≤ G.key h v) → (h ≡ n) ⊎ (h < n)
-          → cond x (lowest q (G.key n) (rowMajor G w p q n) w) (rowMajor G w p q n) ≤ G.key h v
-      go true e ih (inl r) = rw r (lowest-le q (G.key n) (rowMajor G w p q n) w v m t)
-      go true e ih (inr z) = omega (arith, ih z, lowest_start q (G.key n) (rowMajor G w p q n) w)
+      go : (x : Bool) → p n ≡ x → (h < n → row_major G w p q n ≤ G.key h v) → (h ≡ n) ⊎ (h < n)
+          → cond x (lowest q (G.key n) (row_major G w p q n) w) (row_major G w p q n) ≤ G.key h v
+      go true e ih (inl r) = rw r (lowest-le q (G.key n) (row_major G w p q n) w v m t)
+      go true e ih (inr z) = omega (arith, ih z, lowest_start q (G.key n) (row_major G w p q n) w)
       go false e ih (inl r) = clash (sym (ap p r) ∙ s) e
       go false e ih (inr z) = ih z
 
-  pub major-is : (n : ℕ) → (rowMajor G w p q n ≡ G.none) ⊎ ((h : ℕ) × (v : ℕ) × (h < n) × (v < w) × (p h ≡ true) × (q v ≡ true) × (rowMajor G w p q n ≡ G.key h v))
-  unfolding rowMajor
+  pub major-is : (n : ℕ) → (row_major G w p q n ≡ G.none) ⊎ ((h : ℕ) × (v : ℕ) × (h < n) × (v < w) × (p h ≡ true) × (q v ≡ true) × (row_major G w p q n ≡ G.key h v))
+  unfolding row_major
   major-is zero = inl refl
   major-is (suc n) = go (p n) refl (major-is n)
     where
       Pair : ℕ → ℕ → Type 0
       Pair m r = (h : ℕ) × (v : ℕ) × (h < m) × (v < w) × (p h ≡ true) × (q v ≡ true) × (r ≡ G.key h v)
 
-      go : (x : Bool) → p n ≡ x → (rowMajor G w p q n ≡ G.none) ⊎ Pair n (rowMajor G w p q n)
-          → (cond x (lowest q (G.key n) (rowMajor G w p q n) w) (rowMajor G w p q n) ≡ G.none) ⊎ Pair (suc n) (cond x (lowest q (G.key n) (rowMajor G w p q n) w) (rowMajor G w p q n))
-      go true e (inl r) = ⊎_elim (λ z. inl (z ∙ r)) (λ z. inr (n, z.0, omega arith, z.1, e, z.2, z.3)) (lowest-is q (G.key n) (rowMajor G w p q n) w)
-      go true e (inr u) = ⊎_elim (λ z. inr (u.0, u.1, omega (arith, u.2), u.3, u.4, u.5, z ∙ u.6)) (λ z. inr (n, z.0, omega arith, z.1, e, z.2, z.3)) (lowest-is q (G.key n) (rowMajor G w p q n) w)
+      go : (x : Bool) → p n ≡ x → (row_major G w p q n ≡ G.none) ⊎ Pair n (row_major G w p q n)
+          → (cond x (lowest q (G.key n) (row_major G w p q n) w) (row_major G w p q n) ≡ G.none) ⊎ Pair (suc n) (cond x (lowest q (G.key n) (row_major G w p q n) w) (row_major G w p q n))
+      go true e (inl r) = ⊎_elim (λ z. inl (z ∙ r)) (λ z. inr (n, z.0, omega arith, z.1, e, z.2, z.3)) (lowest-is q (G.key n) (row_major G w p q n) w)
+      go true e (inr u) = ⊎_elim (λ z. inr (u.0, u.1, omega (arith, u.2), u.3, u.4, u.5, z ∙ u.6)) (λ z. inr (n, z.0, omega arith, z.1, e, z.2, z.3)) (lowest-is q (G.key n) (row_major G w p q n) w)
       go false e (inl r) = inl r
       go false e (inr u) = inr (u.0, u.1, omega (arith, u.2), u.3, u.4, u.5, u.6)
 
   -- where one cell of each kind passes, it is the key of the two
-  pub major-only : (n h v : ℕ) → h < n → v < w → p h ≡ true → q v ≡ true → count n p ≡ 1 → count w q ≡ 1 → G.key h v < G.none → rowMajor G w p q n ≡ G.key h v
+  pub major-only : (n h v : ℕ) → h < n → v < w → p h ≡ true → q v ≡ true → count n p ≡ 1 → count w q ≡ 1 → G.key h v < G.none → row_major G w p q n ≡ G.key h v
   major-only n h v l m s t one sole under = ⊎_elim
       (λ z. absurd (omega (arith, z, under, major-le n h v l m s t)))
       (λ u. u.6 ∙ ap₂ G.key (count-one p n u.0 h one u.2 l u.4 s) (count-one q w u.1 v sole u.3 m u.5 t))

@@ -3,7 +3,7 @@ ghost use Rattle.std.specs.Prelude.{◌≡◌, ◌*◌, ◌/◌, ◌≤◌, ◌<
 ghost use Rattle.laws.specs.Words.{joint, origins};
 ghost use Rattle.best.specs.Lex.{optimal};
 ghost use Rattle.best.specs.CellTables.{Period};
-ghost use Rattle.grid.specs.RowMajor.{lower, lowest, rowMajor};
+ghost use Rattle.grid.specs.RowMajor.{lower, lowest, row_major};
 
 use best::lex::is_optimal;
 use laws::Periods;
@@ -107,7 +107,7 @@ pub fn row_major_first(
 ) -> usize
     requires period { Period periods.h × Period periods.v }
     requires hc_len { (length hc.now ≡ 3 * periods.h) × (length hw.now ≡ 3 * periods.h) × (length vc.now ≡ 3 * periods.v) × (length vw.now ≡ 3 * periods.v) }
-    ensures { result ≡ rowMajor (origins periods.h periods.v) (length vc.now) (optimal hc.now hw.now ht hh) (optimal vc.now vw.now vt vh) (length hc.now) }
+    ensures { result ≡ row_major (origins periods.h periods.v) (length vc.now) (optimal hc.now hw.now ht hh) (optimal vc.now vw.now vt vh) (length hc.now) }
 {
     let mut best: usize = 3 * periods.h * (3 * periods.v);
     let mut h: usize = 0;

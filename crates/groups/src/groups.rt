@@ -1,7 +1,7 @@
 // Groups: the edges of one side that share long residue, short residue and bit. A group's number is long · 6 + short · 2 + bit.
 ghost use Rattle.std.specs.Prelude.{◌≡◌, ◌+◌, ◌*◌, ◌<◌, ◌≤◌, length, nat_abs};
 ghost use Rattle.laws.specs.Modulus.{ModulusOk};
-ghost use Rattle.board.specs.Transform.{matrixOf, lookupOf};
+ghost use Rattle.board.specs.Transform.{matrix_of, lookup_of};
 ghost use Rattle.board.specs.Hits.{edges};
 ghost use Rattle.board.specs.Domain.{EdgeOk};
 ghost use Rattle.groups.specs.Groups.{group, place_of};
@@ -24,8 +24,8 @@ fn group_of(long: i32, short: i32, bit: u8, period: Modulus) -> u32
 // moduli h and v, come from outside, since the same serve all edges.
 pub fn group_place(edge: Edge, t: u8, matrix: [[i32; 2]; 2], h: Modulus, v: Modulus) -> u32
     requires edge_ok { EdgeOk edge t }
-    requires modulus_ok { ModulusOk h × ModulusOk v × (matrix ≡ matrixOf t) }
-    ensures { (result ≡ place_of h.n v.n (lookupOf t edge.row edge.col edge.orientation) edge.bit) × (result < (h.n + v.n) * 6) }
+    requires modulus_ok { ModulusOk h × ModulusOk v × (matrix ≡ matrix_of t) }
+    ensures { (result ≡ place_of h.n v.n (lookup_of t edge.row edge.col edge.orientation) edge.bit) × (result < (h.n + v.n) * 6) }
 {
     let bit = edge.bit;
     let l = lookup::transform_edge_lookup(t, matrix, edge);

@@ -6,14 +6,14 @@ use Rattle.laws.specs.Tests.{clash, not_so}
 use Rattle.laws.specs.Words.{origins}
 use Rattle.best.specs.CellTables.{CellTables, Period, TablesOk}
 use Rattle.figures.specs.Gate.{passed}
-use Rattle.scan.specs.Scan.{overLimit, runnerUp}
-use Rattle.folding.specs.Transform.{bestOrigin, bestAt, selected}
+use Rattle.scan.specs.Scan.{over_limit, runner_up_of}
+use Rattle.folding.specs.Transform.{best_origin, best_at, selected}
 use Rattle.folding.specs.TransformLaws.{best-under}
 use Rattle.hard.specs.RateLaws.{fewer-over, more_within}
 use Rattle.hard.specs.SummedLaws.{summed}
 use Rattle.hard.specs.Placings.{not-far-ahead, found, NoneWithin, Sole, MostOther, Right}
 use Rattle.hard.specs.PlacingsLaws.{sole-only}
-use Rattle.hard.specs.OneList.{hitsOf, key_at, originNumber, outcomeOf, choice, Stopped, Unclear, Passes, Reported, InRange}
+use Rattle.hard.specs.OneList.{hits_of, key_at, origin_number, outcome_of, choice, Stopped, Unclear, Passes, Reported, InRange}
 use Rattle.hard.specs.WinnerLaws.{Winner, Chose, is-chosen, runner-up-most, in-range, ahead, passes, place-named}
 use Rattle.scan.specs.declared.scan.Candidate.{Candidate}
 use Rattle.scan.specs.declared.scan.RunnerUp.{RunnerUp}
@@ -23,10 +23,10 @@ use Rattle.scan.specs.declared.scan.Choice.TheVariants.{Nothing, Chosen}
 -- n positions, at most eight, each with the tables of a list of `edges` edges
 module _ (L M edges : ℕ) (confidence limit : Float) (ts : ℕ → ℕ) (tab : ℕ → CellTables) (n : ℕ) (p : Period L) (q : Period M) (few : n ≤ 8) (ok : (i : ℕ) → i < n → TablesOk L M edges (tab i)) where
   abbrev hit : ℕ → ℕ → ℕ
-  hit = hitsOf L M tab
+  hit = hits_of L M tab
 
   abbrev none : ℕ
-  none = originNumber L M
+  none = origin_number L M
 
   abbrev chose : Choice
   chose = choice L M edges confidence limit ts tab n
@@ -42,7 +42,7 @@ module _ (L M edges : ℕ) (confidence limit : Float) (ts : ℕ → ℕ) (tab : 
   Won c = Winner L M edges confidence limit ts tab n c.placing.listed c
 
   abbrev runner-up : Candidate → RunnerUp
-  runner-up c = runnerUp (selected L M edges confidence limit ts tab n).summaries c.placing.listed n
+  runner-up c = runner_up_of (selected L M edges confidence limit ts tab n).summaries c.placing.listed n
 
   abbrev key : Candidate → ℕ
   key c = key_at M c.placing.row c.placing.col
@@ -55,13 +55,13 @@ module _ (L M edges : ℕ) (confidence limit : Float) (ts : ℕ → ℕ) (tab : 
     λ i k S. clash (passes L M edges confidence limit ts tab n p q few ok c.placing.listed c W i k S) (rw e at t),
   )
 
-  right : (x : Choice) → Known x → Right n none edges limit hit (outcomeOf M edges x)
+  right : (x : Choice) → Known x → Right n none edges limit hit (outcome_of M edges x)
   right Nothing h = h
   right (Chosen c r) h = judged c r h.0 h.1 (passed edges c.hits r.hits) refl
 
   -- ---- the theorem: selection and gate give the right outcome
-  pub one_list : Right n none edges limit hit (outcomeOf M edges (choice L M edges confidence limit ts tab n))
-  one_list = right chose (known chose refl)
+  pub one_list_lem : Right n none edges limit hit (outcome_of M edges (choice L M edges confidence limit ts tab n))
+  one_list_lem = right chose (known chose refl)
 
   -- ---- the same, statement by statement
   -- (a) nothing is chosen exactly when no placing is within the limit
@@ -122,21 +122,21 @@ module _ (L M edges : ℕ) (confidence limit : Float) (ts : ℕ → ℕ) (tab : 
 
   -- what is chosen has the hits that it says, and no placing within the limit has more
   pub choice-most : (c : Candidate) (r : RunnerUp) → choice L M edges confidence limit ts tab n ≡ Chosen c r
-      → (hit c.placing.listed (key_at M c.placing.row c.placing.col) ≡ c.hits) × ((i k : ℕ) → i < n → k < none → overLimit edges limit (hit i k) ≡ false → hit i k ≤ c.hits)
+      → (hit c.placing.listed (key_at M c.placing.row c.placing.col) ≡ c.hits) × ((i k : ℕ) → i < n → k < none → over_limit edges limit (hit i k) ≡ false → hit i k ≤ c.hits)
   choice-most c r e =
       let W = (known (Chosen c r) e).0 in (
         W.at,
         λ i k hi hk h.
             let m = (summed L M p q edges (tab i) (ok i hi)).most k in
-            le_trans m (W.most i hi (more_within edges limit (hit i k) (bestAt tab i) (ok i hi).few m (best-under L M p q edges (tab i) (ok i hi)) h)),
+            le_trans m (W.most i hi (more_within edges limit (hit i k) (best_at tab i) (ok i hi).few m (best-under L M p q edges (tab i) (ok i hi)) h)),
       )
 
   -- ---- refusal 11 in document 01's words: "no listed transform's best hits are within the limit"
-  pub none-within-best : (choice L M edges confidence limit ts tab n ≡ Nothing → (i : ℕ) → i < n → overLimit edges limit (bestAt tab i) ≡ true)
-      × (((i : ℕ) → i < n → overLimit edges limit (bestAt tab i) ≡ true) → choice L M edges confidence limit ts tab n ≡ Nothing)
-  none-within-best = (over, λ h. refuses-none-within.1 (λ i k hi hk. fewer-over edges limit (hit i k) (bestAt tab i) (ok i hi).few ((summed L M p q edges (tab i) (ok i hi)).most k) (best-under L M p q edges (tab i) (ok i hi)) (h i hi)))
+  pub none-within-best : (choice L M edges confidence limit ts tab n ≡ Nothing → (i : ℕ) → i < n → over_limit edges limit (best_at tab i) ≡ true)
+      × (((i : ℕ) → i < n → over_limit edges limit (best_at tab i) ≡ true) → choice L M edges confidence limit ts tab n ≡ Nothing)
+  none-within-best = (over, λ h. refuses-none-within.1 (λ i k hi hk. fewer-over edges limit (hit i k) (best_at tab i) (ok i hi).few ((summed L M p q edges (tab i) (ok i hi)).most k) (best-under L M p q edges (tab i) (ok i hi)) (h i hi)))
     where
-      over : choice L M edges confidence limit ts tab n ≡ Nothing → (i : ℕ) → i < n → overLimit edges limit (bestAt tab i) ≡ true
+      over : choice L M edges confidence limit ts tab n ≡ Nothing → (i : ℕ) → i < n → over_limit edges limit (best_at tab i) ≡ true
       over e i hi =
           let s = summed L M p q edges (tab i) (ok i hi) in
-          ap (overLimit edges limit) (sym s.at) ∙ refuses-none-within.0 e i (bestOrigin (origins L M) (tab i)) hi s.inside
+          ap (over_limit edges limit) (sym s.at) ∙ refuses-none-within.0 e i (best_origin (origins L M) (tab i)) hi s.inside

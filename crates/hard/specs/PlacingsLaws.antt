@@ -2,7 +2,7 @@
 use Rattle.std.specs.Prelude.{◌≡◌, refl, ℕ, ◌<◌, Float}
 use Rattle.std.proofs.Common.{sym, ap, ap₂, ◌∙◌, ⊎_elim, arith}
 use Rattle.laws.specs.Tests.{clash, decided}
-use Rattle.scan.specs.Scan.{overLimit}
+use Rattle.scan.specs.Scan.{over_limit}
 use Rattle.hard.specs.Placings.{Outcome, none-within-limit, not-far-ahead, found, Sole, MostOther, Right}
 
 module _ (n none edges : ℕ) (limit : Float) (hit : ℕ → ℕ → ℕ) where
@@ -41,7 +41,7 @@ module _ (n none edges : ℕ) (limit : Float) (hit hit' : ℕ → ℕ → ℕ) (
   sole-ext p k S = record {
     listed = S.listed;
     key = S.key;
-    allowed = ap (overLimit edges limit) (sym (same p k S.listed S.key)) ∙ S.allowed;
+    allowed = ap (over_limit edges limit) (sym (same p k S.listed S.key)) ∙ S.allowed;
     ahead = λ q j hq hj ne. omega (arith, S.ahead q j hq hj ne, same q j hq hj, same p k S.listed S.key);
   }
 
@@ -55,10 +55,10 @@ module _ (n none edges : ℕ) (limit : Float) (hit hit' : ℕ → ℕ → ℕ) (
 
 pub right-ext : (n none edges : ℕ) (limit : Float) (hit hit' : ℕ → ℕ → ℕ) → ((p k : ℕ) → p < n → k < none → hit p k ≡ hit' p k)
     → (o : Outcome) → Right n none edges limit hit o → Right n none edges limit hit' o
-right-ext n none edges limit hit hit' same none-within-limit h = λ p k hp hk. ap (overLimit edges limit) (sym (same p k hp hk)) ∙ h p k hp hk
+right-ext n none edges limit hit hit' same none-within-limit h = λ p k hp hk. ap (over_limit edges limit) (sym (same p k hp hk)) ∙ h p k hp hk
 right-ext n none edges limit hit hit' same not-far-ahead h =
     let w = h.0 in (
-      (w.0, w.1, w.2, w.3, ap (overLimit edges limit) (sym (same w.0 w.1 w.2 w.3)) ∙ w.4),
+      (w.0, w.1, w.2, w.3, ap (over_limit edges limit) (sym (same w.0 w.1 w.2 w.3)) ∙ w.4),
       λ p k S. h.1 p k (sole-ext n none edges limit hit' hit (λ i j hi hj. sym (same i j hi hj)) p k S),
     )
 right-ext n none edges limit hit hit' same (found p k hits runner-up) h =

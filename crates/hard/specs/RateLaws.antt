@@ -10,19 +10,19 @@ use Rattle.std.specs.Float.Ieee.Order.{round_mono}
 use Rattle.std.specs.Float.Ieee.Positive.{num, den, through}
 use Rattle.std.specs.Float.Ieee.Scale.{round_val, round_under, finite}
 use Rattle.laws.specs.Tests.{clash, not_so, compared, or-true}
-use Rattle.laws.specs.Words.{zeroF, oneF, Weight}
+use Rattle.laws.specs.Words.{zero_f, one_f, Weight}
 use Rattle.laws.specs.Weights.{weightlike}
 use Rattle.laws.specs.WeightLaws.{confidence, lt-cross, eq-level}
-use Rattle.figures.specs.Figures.{rateOf}
+use Rattle.figures.specs.Figures.{rate_of}
 use Rattle.figures.specs.RangeLaws.{rate-is}
-use Rattle.scan.specs.Scan.{overLimit}
+use Rattle.scan.specs.Scan.{over_limit}
 
 -- ---- a rounded fraction from 0 to 1 is a weight
-zero-round : round binary32 false 0 1 ≡ zeroF
+zero-round : round binary32 false 0 1 ≡ zero_f
 unfolding round
 zero-round = refl
 
-one-round : round binary32 false 1 1 ≡ oneF
+one-round : round binary32 false 1 1 ≡ one_f
 unfolding round
 one-round = refl
 
@@ -88,11 +88,11 @@ below_up (fin true m c) (fin false n d) (fin false k g) p q h e =
 
 -- ---- the limit
 -- where hits are over the limit, fewer hits are too
-pub fewer-over : (edges : ℕ) (limit : Float) (few more : ℕ) → edges ≤ 8192 → few ≤ more → more ≤ edges → overLimit edges limit more ≡ true → overLimit edges limit few ≡ true
-unfolding overLimit
+pub fewer-over : (edges : ℕ) (limit : Float) (few more : ℕ) → edges ≤ 8192 → few ≤ more → more ≤ edges → over_limit edges limit more ≡ true → over_limit edges limit few ≡ true
+unfolding over_limit
 fewer-over edges limit few more small l m e = go (eq-zero-or-pos edges)
   where
-    go : (edges ≡ 0) ⊎ (0 < edges) → lt limit (rateOf edges few) ≡ true
+    go : (edges ≡ 0) ⊎ (0 < edges) → lt limit (rate_of edges few) ≡ true
     go (inl z) = let s : few ≡ more = omega arith in rw s e
     go (inr p) =
         let wx = share-weight (edges - more) edges p (omega arith) in
@@ -104,14 +104,14 @@ fewer-over edges limit few more small l m e = go (eq-zero-or-pos edges)
         (rw (rate-is edges more p small) at e))
 
 -- and where hits are within it, more hits are too
-pub more_within : (edges : ℕ) (limit : Float) (few more : ℕ) → edges ≤ 8192 → few ≤ more → more ≤ edges → overLimit edges limit few ≡ false → overLimit edges limit more ≡ false
-more_within edges limit few more small l m e = not_so (overLimit edges limit more) (λ d. clash (fewer-over edges limit few more small l m d) e)
+pub more_within : (edges : ℕ) (limit : Float) (few more : ℕ) → edges ≤ 8192 → few ≤ more → more ≤ edges → over_limit edges limit few ≡ false → over_limit edges limit more ≡ false
+more_within edges limit few more small l m e = not_so (over_limit edges limit more) (λ d. clash (fewer-over edges limit few more small l m d) e)
 
 -- no share of misses is above 1, so a list that is selected with limit 1 never lacks a placing within it
-pub never-over-one : (edges hits : ℕ) → 0 < edges → edges ≤ 8192 → overLimit edges oneF hits ≡ false
-unfolding overLimit
+pub never-over-one : (edges hits : ℕ) → 0 < edges → edges ≤ 8192 → over_limit edges one_f hits ≡ false
+unfolding over_limit
 never-over-one edges hits p small =
     let one : 0 < 1 = lit< tt in
     let x = round binary32 false (edges - hits) edges in
     let w = share-weight (edges - hits) edges p (omega arith) in
-    rw (rate-is edges hits p small) (lt-cross oneF x tt w ∙ le-ltb _ _ (no-smaller x oneF w tt (rw one-round at (round_mono binary32 (edges - hits) edges 1 1 p one (omega arith)))))
+    rw (rate-is edges hits p small) (lt-cross one_f x tt w ∙ le-ltb _ _ (no-smaller x one_f w tt (rw one-round at (round_mono binary32 (edges - hits) edges 1 1 p one (omega arith)))))

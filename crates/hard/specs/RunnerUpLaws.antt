@@ -5,11 +5,11 @@ use Rattle.std.proofs.Common.{ap, ◌∙◌, inl, inr, arith}
 use Rattle.std.proofs.Math.Logic.{⊎_elim}
 use Rattle.std.proofs.Math.Nat.{div-add-mod'}
 use Rattle.laws.specs.Tests.{cases, decided}
-use Rattle.scan.specs.Scan.{noSummary, runnerUp}
+use Rattle.scan.specs.Scan.{no_summary, runner_up_of}
 use Rattle.scan.specs.ScanLaws.{runner-up-own, runner-up-other, runner-up-is}
-use Rattle.folding.specs.Transform.{competitorOf, summaryOf}
+use Rattle.folding.specs.Transform.{competitor_of, summary_of}
 use Rattle.hard.specs.SummedLaws.{Summed}
-use Rattle.hard.specs.OneList.{key_at, originNumber}
+use Rattle.hard.specs.OneList.{key_at, origin_number}
 use Rattle.scan.specs.declared.scan.TransformSummary.{TransformSummary}
 use Rattle.scan.specs.declared.scan.RunnerUp.{RunnerUp}
 use Rattle.folding.specs.declared.transform.Ranked.{Ranked}
@@ -17,24 +17,24 @@ use Rattle.folding.specs.declared.transform.Ranked.{Ranked}
 -- n list positions with the transforms ts and the hits `hit`; at position i the most hits B i, at the origin O i, the runner-up N i inside, and whether there is a tie. The winner stands at
 -- position w with an origin that is its position's best where there is no tie
 module _ (L M n : ℕ) (ts : ℕ → ℕ) (hit : ℕ → ℕ → ℕ) (B O : ℕ → ℕ) (N : ℕ → Ranked) (tie : ℕ → Bool) (ss : List TransformSummary)
-    (at_position : (i : ℕ) → i < n → get_or ss i noSummary ≡ summaryOf M (record { hits = B i; key = O i }) (N i) (ts i))
-    (sums : (i : ℕ) → i < n → Summed (originNumber L M) (hit i) (B i) (O i) (N i) (tie i))
+    (at_position : (i : ℕ) → i < n → get_or ss i no_summary ≡ summary_of M (record { hits = B i; key = O i }) (N i) (ts i))
+    (sums : (i : ℕ) → i < n → Summed (origin_number L M) (hit i) (B i) (O i) (N i) (tie i))
     (w key : ℕ) (in_List : w < n) (first : tie w ≡ false → key ≡ O w) where
   abbrev none : ℕ
-  none = originNumber L M
+  none = origin_number L M
 
   abbrev r : RunnerUp
-  r = runnerUp ss w n
+  r = runner_up_of ss w n
 
   abbrev summary : ℕ → TransformSummary
-  summary i = summaryOf M (record { hits = B i; key = O i }) (N i) (ts i)
+  summary i = summary_of M (record { hits = B i; key = O i }) (N i) (ts i)
 
   pub runner-up-inside : (N w).hits ≤ r.hits
-  unfolding summaryOf competitorOf
+  unfolding summary_of competitor_of
   runner-up-inside = rw (at_position w in_List) at (runner-up-own ss w n)
 
   other : (i : ℕ) → i < n → (i ≡ w → ⊥) → B i ≤ r.hits
-  unfolding summaryOf competitorOf
+  unfolding summary_of competitor_of
   other i l ne = rw (at_position i l) at (runner-up-other ss w n i l ne)
 
   -- what it is: the runner-up inside the winner's transform, or another position's best
@@ -58,7 +58,7 @@ module _ (L M n : ℕ) (ts : ℕ → ℕ) (hit : ℕ → ℕ → ℕ) (B O : ℕ
 
   -- and one has as many
   pub other-attains : (i : ℕ) × (j : ℕ) × (i < n) × (j < none) × ((i ≡ w) × (j ≡ key) → ⊥) × (hit i j ≡ r.hits)
-  unfolding summaryOf competitorOf
+  unfolding summary_of competitor_of
   other-attains = ⊎_elim inside (λ u. let t = sums u.0 u.1 in (u.0, O u.0, u.1, t.inside, (λ x. u.2 x.0), t.at ∙ sym (ap (λ (x : RunnerUp). x.hits) u.3))) is
     where
       s : Summed none (hit w) (B w) (O w) (N w) (tie w)
@@ -77,7 +77,7 @@ module _ (L M n : ℕ) (ts : ℕ → ℕ) (hit : ℕ → ℕ → ℕ) (B O : ℕ
 
   -- it stands at a list position, on the board
   pub runner-up-named : (i : ℕ) × (k : ℕ) × (i < n) × (k < none) × (ts i ≡ r.transform) × (r.row ≡ k / (3 * M)) × (r.col ≡ k % (3 * M))
-  unfolding summaryOf competitorOf
+  unfolding summary_of competitor_of
   runner-up-named = ⊎_elim
       (λ e. rw e (w, (N w).key, in_List, (sums w in_List).key_in, refl, refl, refl))
       (λ u. rw u.3 (u.0, O u.0, u.1, (sums u.0 u.1).inside, refl, refl, refl))
@@ -85,7 +85,7 @@ module _ (L M n : ℕ) (ts : ℕ → ℕ) (hit : ℕ → ℕ → ℕ) (B O : ℕ
 
   -- where the winner's position has no tie, the runner-up is named by an origin of its own
   pub own_origin : tie w ≡ false → (i : ℕ) × (i < n) × (ts i ≡ r.transform) × (key_at M r.row r.col < none) × ((i ≡ w) × (key_at M r.row r.col ≡ key) → ⊥) × (hit i (key_at M r.row r.col) ≡ r.hits)
-  unfolding summaryOf competitorOf
+  unfolding summary_of competitor_of
   own_origin t = ⊎_elim inside outside is
     where
       back : (k : ℕ) → key_at M (k / (3 * M)) (k % (3 * M)) ≡ k

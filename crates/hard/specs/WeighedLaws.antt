@@ -15,21 +15,21 @@ use Rattle.laws.specs.WeightLaws.{Bounds, by-counts}
 use Rattle.laws.specs.WithinLaws.{upto-within, within_more}
 use Rattle.laws.specs.ShareLaws.{magnitude-of, by-shares, share-within}
 use Rattle.board.specs.Hits.{EdgeList, Board, size}
-use Rattle.board.specs.Sides.{periodOf}
+use Rattle.board.specs.Sides.{period_of}
 use Rattle.board.specs.Domain.{ListOk, BoardOk}
-use Rattle.figures.specs.Figures.{confidenceTo, totalConfidence, noConfidence}
-use Rattle.cells.specs.Cells.{countsOf, weightsOf}
+use Rattle.figures.specs.Figures.{confidence_to, total_confidence, no_confidence}
+use Rattle.cells.specs.Cells.{counts_of, weights_of}
 use Rattle.tables.specs.TablesTheorems.{counts-few, weights-bounded}
-use Rattle.best.specs.CellTables.{CellTables, Period, TablesOk, wAt}
-use Rattle.best.specs.Lex.{lexOf}
+use Rattle.best.specs.CellTables.{CellTables, Period, TablesOk, w_at}
+use Rattle.best.specs.Lex.{lex_of}
 use Rattle.grid.specs.BoardGrid.{grid, period-h, period-v}
-use Rattle.scan.specs.Scan.{chosen, chosenBy}
-use Rattle.direct.specs.Direct.{originCandidate}
+use Rattle.scan.specs.Scan.{chosen, chosen_by}
+use Rattle.direct.specs.Direct.{origin_candidate}
 use Rattle.folding.specs.Transform.{selected}
 use Rattle.folding.specs.TransformLaws.{best-ok}
 use Rattle.folding.specs.KeptLaws.{MostOf, Offers, Listed, kept-most}
 use Rattle.hard.specs.OneList.{choice}
-use Rattle.hard.specs.Select.{tables_of, scanOf, selection}
+use Rattle.hard.specs.Select.{tables_of, scan_of, selection}
 use Rattle.hard.specs.SelectLaws.{tables-ok}
 use Rattle.hard.specs.SelectTheorems.{selected-chosen}
 use Rattle.scan.specs.declared.scan.Candidate.{Candidate}
@@ -48,17 +48,17 @@ pub record Weighed (L M : ℕ) (confidence : Float) (tab : ℕ → CellTables) (
   pub in_list : p < n
   pub h-in : h < 3 * L
   pub v-in : v < 3 * M
-  pub weight : c.weight ≡ add binary32 (wAt (tab p).hw h) (wAt (tab p).vw v)
+  pub weight : c.weight ≡ add binary32 (w_at (tab p).hw h) (w_at (tab p).vw v)
   pub score : c.score ≡ div binary32 c.weight confidence
 
 module _ (L M edges : ℕ) (confidence limit : Float) (ts : ℕ → ℕ) (tab : ℕ → CellTables) (n : ℕ) (u : Period L) (v : Period M) (ok : (i : ℕ) → i < n → TablesOk L M edges (tab i)) where
   offer-weighed : (i : ℕ) (c : Candidate) → i < n → Offers L M edges confidence limit i (tab i) c → Weighed L M confidence tab n c
-  unfolding lexOf originCandidate
+  unfolding lex_of origin_candidate
   offer-weighed i c l o = ⊎_elim
       (λ s. record {
         p = i;
-        h = (lexOf (tab i).hc (tab i).hw).cell;
-        v = (lexOf (tab i).vc (tab i).vw).cell;
+        h = (lex_of (tab i).hc (tab i).hw).cell;
+        v = (lex_of (tab i).vc (tab i).vw).cell;
         in_list = l;
         h-in = (best-ok L M u v edges (tab i) (ok i l)).h-cell;
         v-in = (best-ok L M u v edges (tab i) (ok i l)).v-cell;
@@ -67,8 +67,8 @@ module _ (L M edges : ℕ) (confidence limit : Float) (ts : ℕ → ℕ) (tab : 
       })
       (λ s. let t = s.1 in record {
         p = i;
-        h = (origins L M).hOf t.0;
-        v = (origins L M).vOf t.0;
+        h = (origins L M).h_of t.0;
+        v = (origins L M).v_of t.0;
         in_list = l;
         h-in = (grid L M u v).h-in t.0;
         v-in = (grid L M u v).v-in t.0;
@@ -82,52 +82,52 @@ module _ (L M edges : ℕ) (confidence limit : Float) (ts : ℕ → ℕ) (tab : 
   unfolding chosen
   chosen-weighed x e c r k = go (selected L M edges confidence limit ts tab n).best (kept-most L M edges confidence limit ts tab n) (e ∙ k)
     where
-      go : (o : Kept) → MostOf (Listed L M edges confidence limit ts tab n) o → chosenBy (selected L M edges confidence limit ts tab n) o ≡ Chosen c r → Weighed L M confidence tab n c
+      go : (o : Kept) → MostOf (Listed L M edges confidence limit ts tab n) o → chosen_by (selected L M edges confidence limit ts tab n) o ≡ Chosen c r → Weighed L M confidence tab n c
       go Nobody m q = let z : ◌≡◌ {A = ℕ} 0 1 = cc in absurd (omega arith)
       go (One d) m q = let z : d ≡ c = cc in subst (λ (y : Candidate). Weighed L M confidence tab n y) z (offer-weighed m.0.0 d m.0.1 m.0.2)
 
 -- ---- on a board
 module _ (B : Board) (E : EdgeList) (board : BoardOk B) (list : ListOk E) where
   -- two cells together, bounded as the confidences are
-  module _ (t h v : ℕ) (lh : h < 3 * periodOf B true) (lv : v < 3 * periodOf B false) where
+  module _ (t h v : ℕ) (lh : h < 3 * period_of B true) (lv : v < 3 * period_of B false) where
     abbrev pair : Float
-    pair = add binary32 (wAt (tables_of B E t).hw h) (wAt (tables_of B E t).vw v)
+    pair = add binary32 (w_at (tables_of B E t).hw h) (w_at (tables_of B E t).vw v)
 
     abbrev number : ℕ
-    number = get_or (countsOf B E t true) h 0 + get_or (countsOf B E t false) v 0
+    number = get_or (counts_of B E t true) h 0 + get_or (counts_of B E t false) v 0
 
-    few : get_or (countsOf B E t true) h 0 + get_or (countsOf B E t false) v 0 ≤ size E
+    few : get_or (counts_of B E t true) h 0 + get_or (counts_of B E t false) v 0 ≤ size E
     few = counts-few B E t h v lh lv
 
     pair-bounded : (U W : Float → ℕ → Type 0) → Bounds U W → ((i : ℕ) → i < size E → W (get_or E.confidences i nan) 1) → U pair number
     unfolding tables_of
     pair-bounded U W K each =
-        K.more (get_or (weightsOf B E t true) h nan) (get_or (weightsOf B E t false) v nan) (get_or (countsOf B E t true) h 0) (get_or (countsOf B E t false) v 0)
+        K.more (get_or (weights_of B E t true) h nan) (get_or (weights_of B E t false) v nan) (get_or (counts_of B E t true) h 0) (get_or (counts_of B E t false) v 0)
         (weights-bounded B E t board list true h lh U W K each)
-        (K.again (get_or (weightsOf B E t false) v nan) (get_or (countsOf B E t false) v 0) (weights-bounded B E t board list false v lv U W K each))
+        (K.again (get_or (weights_of B E t false) v nan) (get_or (counts_of B E t false) v 0) (weights-bounded B E t board list false v lv U W K each))
         (omega (arith, few, list.few))
 
     -- at most the number of edges
-    pub pair-within : Within (add binary32 (wAt (tables_of B E t).hw h) (wAt (tables_of B E t).vw v)) (size E)
+    pub pair-within : Within (add binary32 (w_at (tables_of B E t).hw h) (w_at (tables_of B E t).vw v)) (size E)
     pair-within = within_more pair number (size E) few (upto-within pair number (pair-bounded Upto _ by-counts list.confidence))
 
     -- over the total confidence at most twice that
-    pub pair-share : noConfidence E ≡ false → Within (div binary32 pair (totalConfidence E)) (2 * size E)
-    unfolding noConfidence confidenceTo
+    pub pair-share : no_confidence E ≡ false → Within (div binary32 pair (total_confidence E)) (2 * size E)
+    unfolding no_confidence confidence_to
     pair-share k =
         let s : length E.confidences ≡ size E = list.confidences in
         let u = magnitude-of (λ i. get_or E.confidences i nan) (length E.confidences) (omega (arith, list.few)) (λ i l. list.confidence i (omega arith)) k in
-        within_more (div binary32 pair (totalConfidence E)) (2 * number) (2 * size E) (omega (arith, few))
-        (share-within pair (totalConfidence E) number u.q (round_whole binary32 false (2 * number) (omega (arith, few, list.few)))
+        within_more (div binary32 pair (total_confidence E)) (2 * number) (2 * size E) (omega (arith, few))
+        (share-within pair (total_confidence E) number u.q (round_whole binary32 false (2 * number) (omega (arith, few, list.few)))
         (pair-bounded _ _ (by-shares u.q u.small) (λ i l. u.each i (omega arith))) u.reaches)
 
   -- THE WINNER'S FIGURES ARE FINITE: its weight is at most the number of edges, and its score at most twice that
   pub winner-within : (ts : List ℕ) (limit : Float) (w : Candidate) (r : RunnerUp) → selection B E ts limit ≡ Selected w r → Within w.weight (size E) × Within w.score (2 * size E)
-  unfolding scanOf
+  unfolding scan_of
   winner-within ts limit w r e =
       let c = selected-chosen B E ts limit w r e in
-      let a = chosen-weighed (periodOf B true) (periodOf B false) (size E) (totalConfidence E) limit (λ p. get_or ts p 0) (λ p. tables_of B E (get_or ts p 0)) (length ts) (period-h B board) (period-v B board) (λ i l. tables-ok B E (get_or ts i 0) board list) _ refl w r c.1 in
+      let a = chosen-weighed (period_of B true) (period_of B false) (size E) (total_confidence E) limit (λ p. get_or ts p 0) (λ p. tables_of B E (get_or ts p 0)) (length ts) (period-h B board) (period-v B board) (λ i l. tables-ok B E (get_or ts i 0) board list) _ refl w r c.1 in
       let t = get_or ts a.p 0 in (
         subst (λ (x : Float). Within x (size E)) (sym a.weight) (pair-within t a.h a.v a.h-in a.v-in),
-        subst (λ (x : Float). Within x (2 * size E)) (sym (a.score ∙ ap (λ (x : Float). div binary32 x (totalConfidence E)) a.weight)) (pair-share t a.h a.v a.h-in a.v-in c.0),
+        subst (λ (x : Float). Within x (2 * size E)) (sym (a.score ∙ ap (λ (x : Float). div binary32 x (total_confidence E)) a.weight)) (pair-share t a.h a.v a.h-in a.v-in c.0),
       )

@@ -7,18 +7,18 @@ use Rattle.std.proofs.Math.Logic.{⊎_elim}
 use Rattle.laws.specs.Tests.{clash, cases, compared, decided, not_so}
 use Rattle.laws.specs.Words.{origins}
 use Rattle.best.specs.CellTables.{CellTables, Period, TablesOk}
-use Rattle.best.specs.Lex.{lexOf}
+use Rattle.best.specs.Lex.{lex_of}
 use Rattle.figures.specs.Gate.{passed}
-use Rattle.scan.specs.Scan.{overLimit, noSummary, runnerUp, chosen, chosenBy}
-use Rattle.direct.specs.Direct.{originCandidate}
-use Rattle.folding.specs.Transform.{bestOrigin, bestHits, bestCandidate, pairsTied, runnerUpWithin, summaryOf, transformSummary, selected, separationProductCap}
+use Rattle.scan.specs.Scan.{over_limit, no_summary, runner_up_of, chosen, chosen_by}
+use Rattle.direct.specs.Direct.{origin_candidate}
+use Rattle.folding.specs.Transform.{best_origin, best_hits, best_candidate, pairs_tied, runner_up_within, summary_of, transform_summary, selected, separation_product_cap}
 use Rattle.folding.specs.TransformLaws.{best-under, selected-count, summary-at}
 use Rattle.folding.specs.KeptLaws.{MostOf, Offers, Listed, kept-most, offers-place}
 use Rattle.hard.specs.RateLaws.{fewer-over, more_within}
 use Rattle.hard.specs.SummedLaws.{Summed, summed, many-tied}
 use Rattle.hard.specs.RunnerUpLaws.{runner-up-inside, others-bounded, other-attains, runner-up-named, own_origin}
 use Rattle.hard.specs.Placings.{NoneWithin, Sole, MostOther}
-use Rattle.hard.specs.OneList.{hitsOf, key_at, originNumber, choice, InRange}
+use Rattle.hard.specs.OneList.{hits_of, key_at, origin_number, choice, InRange}
 use Rattle.best.specs.declared.lex.LexMax.{LexMax}
 use Rattle.scan.specs.declared.scan.TransformSummary.{TransformSummary}
 use Rattle.scan.specs.declared.scan.Candidate.{Candidate}
@@ -32,29 +32,29 @@ use Rattle.folding.specs.declared.transform.Ranked.{Ranked}
 -- n list positions with the transforms ts and the tables tab, of a list of `edges` edges
 module _ (L M edges : ℕ) (confidence limit : Float) (ts : ℕ → ℕ) (tab : ℕ → CellTables) (n : ℕ) where
   abbrev hit : ℕ → ℕ → ℕ
-  hit = hitsOf L M tab
+  hit = hits_of L M tab
 
   abbrev none : ℕ
-  none = originNumber L M
+  none = origin_number L M
 
   abbrev ha : ℕ → LexMax
-  ha i = lexOf (tab i).hc (tab i).hw
+  ha i = lex_of (tab i).hc (tab i).hw
 
   abbrev va : ℕ → LexMax
-  va i = lexOf (tab i).vc (tab i).vw
+  va i = lex_of (tab i).vc (tab i).vw
 
   -- most hits, best origin, runner-up inside, and whether there is a tie, at position i
   abbrev B : ℕ → ℕ
-  B i = bestHits (ha i) (va i)
+  B i = best_hits (ha i) (va i)
 
   abbrev O : ℕ → ℕ
-  O i = bestOrigin (origins L M) (tab i)
+  O i = best_origin (origins L M) (tab i)
 
   abbrev N : ℕ → Ranked
-  N i = runnerUpWithin L M (ha i) (va i) (O i)
+  N i = runner_up_within L M (ha i) (va i) (O i)
 
   abbrev tie : ℕ → Bool
-  tie i = pairsTied (ha i) (va i)
+  tie i = pairs_tied (ha i) (va i)
 
   -- the kept candidate c, offered at position w
   pub record Winner (w : ℕ) (c : Candidate) : Type 0 where
@@ -65,8 +65,8 @@ module _ (L M edges : ℕ) (confidence limit : Float) (ts : ℕ → ℕ) (tab : 
     pub inside : key_at M c.placing.row c.placing.col < none
     pub at : hit w (key_at M c.placing.row c.placing.col) ≡ c.hits
     pub best : c.hits ≡ B w
-    pub allowed : overLimit edges limit c.hits ≡ false
-    pub most : (i : ℕ) → i < n → overLimit edges limit (B i) ≡ false → B i ≤ c.hits
+    pub allowed : over_limit edges limit c.hits ≡ false
+    pub most : (i : ℕ) → i < n → over_limit edges limit (B i) ≡ false → B i ≤ c.hits
     pub first : tie w ≡ false → key_at M c.placing.row c.placing.col ≡ O w
 
   module _ (p : Period L) (q : Period M) (few : n ≤ 8) (ok : (i : ℕ) → i < n → TablesOk L M edges (tab i)) where
@@ -88,26 +88,26 @@ module _ (L M edges : ℕ) (confidence limit : Float) (ts : ℕ → ℕ) (tab : 
 
     -- ---- the kept candidate
     -- a position whose best hits are within the limit offers a candidate with them
-    offers-best : (i : ℕ) → i < n → overLimit edges limit (B i) ≡ false → (c : Candidate) × Offers L M edges confidence limit i (tab i) c × (c.hits ≡ B i)
-    unfolding originCandidate
-    offers-best i l e = go (compared separationProductCap ((ha i).optimal * (va i).optimal))
+    offers-best : (i : ℕ) → i < n → over_limit edges limit (B i) ≡ false → (c : Candidate) × Offers L M edges confidence limit i (tab i) c × (c.hits ≡ B i)
+    unfolding origin_candidate
+    offers-best i l e = go (compared separation_product_cap ((ha i).optimal * (va i).optimal))
       where
         s : Summed none (hit i) (B i) (O i) (N i) (tie i)
         s = sums i l
 
-        go : (separationProductCap < (ha i).optimal * (va i).optimal) ⊎ ((ha i).optimal * (va i).optimal ≤ separationProductCap) → (c : Candidate) × Offers L M edges confidence limit i (tab i) c × (c.hits ≡ B i)
-        go (inl m) = (originCandidate L M edges confidence limit i (tab i) (O i), (e, inr (m, (O i, s.inside, ap (overLimit edges limit) s.at ∙ e, refl))), s.at)
-        go (inr m) = (bestCandidate M confidence i (ha i) (va i) (O i), (e, inl (m, refl)), refl)
+        go : (separation_product_cap < (ha i).optimal * (va i).optimal) ⊎ ((ha i).optimal * (va i).optimal ≤ separation_product_cap) → (c : Candidate) × Offers L M edges confidence limit i (tab i) c × (c.hits ≡ B i)
+        go (inl m) = (origin_candidate L M edges confidence limit i (tab i) (O i), (e, inr (m, (O i, s.inside, ap (over_limit edges limit) s.at ∙ e, refl))), s.at)
+        go (inr m) = (best_candidate M confidence i (ha i) (va i) (O i), (e, inl (m, refl)), refl)
 
     winner : (w : ℕ) (c : Candidate) → w < n → Offers L M edges confidence limit w (tab w) c → ((d : Candidate) → Listed L M edges confidence limit ts tab n d → d.hits ≤ c.hits) → Winner w c
-    unfolding originCandidate
+    unfolding origin_candidate
     winner w c l o h = ⊎_elim single scanned o.1
       where
         s : Summed none (hit w) (B w) (O w) (N w) (tie w)
         s = sums w l
 
         -- no allowed position has more
-        most : (i : ℕ) → i < n → overLimit edges limit (B i) ≡ false → B i ≤ c.hits
+        most : (i : ℕ) → i < n → over_limit edges limit (B i) ≡ false → B i ≤ c.hits
         most i m e = let b = offers-best i m e in omega (arith, h b.0 (i, m, b.1), b.2)
 
         -- an origin of this position, with the best hits
@@ -127,13 +127,13 @@ module _ (L M edges : ℕ) (confidence limit : Float) (ts : ℕ → ℕ) (tab : 
               first = λ d. e ∙ f d;
             }
 
-        single : ((ha w).optimal * (va w).optimal ≤ separationProductCap) × (c ≡ bestCandidate M confidence w (ha w) (va w) (O w)) → Winner w c
+        single : ((ha w).optimal * (va w).optimal ≤ separation_product_cap) × (c ≡ best_candidate M confidence w (ha w) (va w) (O w)) → Winner w c
         single u =
             let best : c.hits ≡ B w = ap (λ (d : Candidate). d.hits) u.1 in
             with-key (O w) s.inside (s.at ∙ sym best) best (ap (λ (d : Candidate). d.placing.row) u.1, ap (λ (d : Candidate). d.placing.col) u.1) (λ d. refl)
 
-        scanned : (separationProductCap < (ha w).optimal * (va w).optimal)
-            × ((k : ℕ) × (k < none) × (overLimit edges limit (hit w k) ≡ false) × (c ≡ originCandidate L M edges confidence limit w (tab w) k)) → Winner w c
+        scanned : (separation_product_cap < (ha w).optimal * (va w).optimal)
+            × ((k : ℕ) × (k < none) × (over_limit edges limit (hit w k) ≡ false) × (c ≡ origin_candidate L M edges confidence limit w (tab w) k)) → Winner w c
         scanned u =
             let t = u.1 in
             let at : c.hits ≡ hit w t.0 = ap (λ (d : Candidate). d.hits) t.3 in
@@ -150,10 +150,10 @@ module _ (L M edges : ℕ) (confidence limit : Float) (ts : ℕ → ℕ) (tab : 
       key = key_at M c.placing.row c.placing.col
 
       abbrev r : RunnerUp
-      r = runnerUp ss w n
+      r = runner_up_of ss w n
 
-      at_position : (i : ℕ) → i < n → get_or ss i noSummary ≡ summaryOf M (record { hits = B i; key = O i }) (N i) (ts i)
-      unfolding transformSummary
+      at_position : (i : ℕ) → i < n → get_or ss i no_summary ≡ summary_of M (record { hits = B i; key = O i }) (N i) (ts i)
+      unfolding transform_summary
       at_position i l = summary-at L M edges confidence limit ts tab n i l few
 
       -- no other placing has more hits than the runner-up, and one has as many
@@ -182,10 +182,10 @@ module _ (L M edges : ℕ) (confidence limit : Float) (ts : ℕ → ℕ) (tab : 
             row = W.row;
             col = W.col;
             hits = omega (arith, W.best, under-edges w W.in_list);
-            runner-up-listed = (v.0, v.2, v.4);
-            runner-up-row = rw v.5 (row_in v.1 v.3);
-            runner-up-col = rw v.6 (col-in v.1);
-            runner-up-hits = omega (arith, a.5, (sums a.0 a.2).most a.1, under-edges a.0 a.2);
+            runner_up_listed = (v.0, v.2, v.4);
+            runner_up_row = rw v.5 (row_in v.1 v.3);
+            runner_up_col = rw v.6 (col-in v.1);
+            runner_up_hits = omega (arith, a.5, (sums a.0 a.2).most a.1, under-edges a.0 a.2);
           }
 
       -- ---- the gate
@@ -233,20 +233,20 @@ module _ (L M edges : ℕ) (confidence limit : Float) (ts : ℕ → ℕ) (tab : 
     -- ---- what the choice is
     abbrev pub Chose : Choice → Type 0
     Chose Nothing = NoneWithin n none edges limit hit
-    Chose (Chosen c r) = Winner c.placing.listed c × (r ≡ runnerUp ss c.placing.listed n)
+    Chose (Chosen c r) = Winner c.placing.listed c × (r ≡ runner_up_of ss c.placing.listed n)
 
     -- no position's best hits are within the limit, so no placing is
     nobody : ((c : Candidate) → Listed L M edges confidence limit ts tab n c → ⊥) → NoneWithin n none edges limit hit
     nobody h i k hi hk =
         fewer-over edges limit (hit i k) (B i) (ok i hi).few ((sums i hi).most k) (under-edges i hi)
-        (⊎_elim (λ e. e) (λ e. let b = offers-best i hi e in absurd (h b.0 (i, hi, b.1))) (cases (overLimit edges limit (B i))))
+        (⊎_elim (λ e. e) (λ e. let b = offers-best i hi e in absurd (h b.0 (i, hi, b.1))) (cases (over_limit edges limit (B i))))
 
     pub is-chosen : Chose (choice L M edges confidence limit ts tab n)
     unfolding chosen
     is-chosen = go (selected L M edges confidence limit ts tab n).best (kept-most L M edges confidence limit ts tab n)
       where
-        go : (o : Kept) → MostOf (Listed L M edges confidence limit ts tab n) o → Chose (chosenBy (selected L M edges confidence limit ts tab n) o)
+        go : (o : Kept) → MostOf (Listed L M edges confidence limit ts tab n) o → Chose (chosen_by (selected L M edges confidence limit ts tab n) o)
         go Nobody h = nobody h
         go (One c) h =
             let W = winner h.0.0 c h.0.1 h.0.2 h.1 in
-            (subst (λ (w : ℕ). Winner w c) (sym W.listed) W, ap (runnerUp ss c.placing.listed) (selected-count L M edges confidence limit ts tab n))
+            (subst (λ (w : ℕ). Winner w c) (sym W.listed) W, ap (runner_up_of ss c.placing.listed) (selected-count L M edges confidence limit ts tab n))

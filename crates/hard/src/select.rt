@@ -1,9 +1,9 @@
 // Hard selection on one list: the tables of each transform in turn, folded into the scan, and what it comes to.
 ghost use Rattle.std.specs.Prelude.{◌≡◌, ◌*◌, ◌+◌, ◌<◌, length};
 ghost use Rattle.board.specs.Hits.{edges, tables};
-ghost use Rattle.folding.specs.Transform.{foldTransform};
+ghost use Rattle.folding.specs.Transform.{fold_transform};
 ghost use Rattle.hard.specs.Select.{SelectReady, SelectDone};
-ghost use Rattle.hard.specs.SelectLaws.{roomCells, RoomReady, ScanDone};
+ghost use Rattle.hard.specs.SelectLaws.{room_cells, RoomReady, ScanDone};
 
 use laws::Periods;
 use refusals::{Place, Refusal};
@@ -27,7 +27,7 @@ fn fold_room<'a>(
 ) -> HardScan
     requires room_ready { RoomReady periods.h periods.v asked.edges counts.now weights.now }
     requires count_bound { scan.count < 8 }
-    ensures { result ≡ foldTransform periods.h periods.v asked.edges asked.confidence asked.error_limit transform (roomCells periods.h periods.v counts.now weights.now) scan }
+    ensures { result ≡ fold_transform periods.h periods.v asked.edges asked.confidence asked.error_limit transform (room_cells periods.h periods.v counts.now weights.now) scan }
 {
     let a = 3 * periods.h;
     let e = a + 3 * periods.v;

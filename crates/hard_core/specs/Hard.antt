@@ -2,53 +2,53 @@
 use Rattle.std.specs.Prelude.{◌≡◌, Bool, true, false, cond, ◌&&◌, List, ℕ, ◌-◌, get_or, length, pos, Float}
 use Rattle.std.specs.Float.{nan, binary32}
 use Rattle.std.specs.Float.Ieee.{of_int}
-use Rattle.laws.specs.Words.{oneF}
+use Rattle.laws.specs.Words.{one_f}
 use Rattle.laws.specs.Cleared.{SameBeyond}
 use Rattle.board.specs.Hits.{EdgeList, Board, size}
-use Rattle.room.specs.Room.{tablesRoom}
+use Rattle.room.specs.Room.{tables_room}
 use Rattle.admission.specs.Calls.{HardCall}
 use Rattle.scan.specs.declared.scan.Candidate.{Candidate}
 use Rattle.scan.specs.declared.scan.RunnerUp.{RunnerUp}
 use Rattle.hard.specs.declared.select.Selection.{Selection}
 use Rattle.hard.specs.declared.select.Selection.TheVariants as sel
-use Rattle.figures.specs.Figures.{rateOf, meanOf}
+use Rattle.figures.specs.Figures.{rate_of, mean_of}
 use Rattle.figures.specs.Gate.{passed}
-use Rattle.hard.specs.Select.{selection, Rooms, builtTo}
+use Rattle.hard.specs.Select.{selection, Rooms, built_to}
 use Rattle.answer.specs.declared.Decoded.{Decoded}
 use Rattle.answer.specs.declared.Answer.{Answer}
 use Rattle.answer.specs.declared.Answer.TheVariants.{Found, Refused}
 use Rattle.verdict.specs.Verdict.{judged}
 
 -- "select on the logical list with the limit, then on the physical list with limit 1; origin and matrix must agree; then the gate on the logical list"
-abbrev pub afterPhysical : EdgeList → List ℕ → Candidate → RunnerUp → Selection → Answer
-afterPhysical L ts w runner (sel.Refused r) = Refused r
-afterPhysical L ts w runner (sel.Selected p other) = judged (get_or ts w.placing.listed 0) w runner (get_or ts p.placing.listed 0) p (size L)
+abbrev pub after_physical : EdgeList → List ℕ → Candidate → RunnerUp → Selection → Answer
+after_physical L ts w runner (sel.Refused r) = Refused r
+after_physical L ts w runner (sel.Selected p other) = judged (get_or ts w.placing.listed 0) w runner (get_or ts p.placing.listed 0) p (size L)
 
-abbrev pub afterLogical : HardCall → Selection → Answer
-afterLogical call (sel.Refused r) = Refused r
-afterLogical call (sel.Selected w runner) = afterPhysical call.logical call.transforms w runner (selection call.board call.physical call.transforms oneF)
+abbrev pub after_logical : HardCall → Selection → Answer
+after_logical call (sel.Refused r) = Refused r
+after_logical call (sel.Selected w runner) = after_physical call.logical call.transforms w runner (selection call.board call.physical call.transforms one_f)
 
 -- what an accepted hard call answers
-unfoldable pub hardCore : HardCall → Answer
+unfoldable pub hard_core : HardCall → Answer
 unfolding judged
-hardCore call = afterLogical call (selection call.board call.logical call.transforms call.error-limit)
+hard_core call = after_logical call (selection call.board call.logical call.transforms call.error_limit)
 
 -- ---- what the core leaves to be cleared
 -- after the logical list's selection: where that was refused the room as it left it, else the physical list's tables of the last transform
 unfoldable pub PhysicalRooms : Selection → HardCall → List ℕ → List ℕ → List Float → List Float → Type 0
 PhysicalRooms (sel.Refused r) call c c' w w' = (c' ≡ c) × (w' ≡ w)
-PhysicalRooms (sel.Selected x runner) call c c' w w' = Rooms call.board call.physical call.transforms (builtTo call.physical call.transforms) c c' w w'
+PhysicalRooms (sel.Selected x runner) call c c' w w' = Rooms call.board call.physical call.transforms (built_to call.physical call.transforms) c c' w w'
 
 -- the logical list's tables of the last transform, and over them the physical list's
 pub record CoreRooms (call : HardCall) (c c' : List ℕ) (w w' : List Float) : Type 0 where
   pub counts : List ℕ
   pub weights : List Float
-  pub logical : Rooms call.board call.logical call.transforms (builtTo call.logical call.transforms) c counts w weights
-  pub physical : PhysicalRooms (selection call.board call.logical call.transforms call.error-limit) call counts c' weights w'
+  pub logical : Rooms call.board call.logical call.transforms (built_to call.logical call.transforms) c counts w weights
+  pub physical : PhysicalRooms (selection call.board call.logical call.transforms call.error_limit) call counts c' weights w'
 
 -- the answer, and both room slices: used, with their surplus as it was
 pub record CoreDone (call : HardCall) (c c' : List ℕ) (w w' : List Float) (r : Answer) : Type 0 where
-  pub answer : r ≡ hardCore call
+  pub answer : r ≡ hard_core call
   pub rooms : CoreRooms call c c' w w'
-  pub counts : SameBeyond 0 (tablesRoom call.board) c c'
-  pub weights : SameBeyond nan (tablesRoom call.board) w w'
+  pub counts : SameBeyond 0 (tables_room call.board) c c'
+  pub weights : SameBeyond nan (tables_room call.board) w w'

@@ -8,7 +8,7 @@ use Rattle.demand.specs.Demand.{Leads, RunsUp, AgreesPhysical, Tells}
 pub record HardAnswered (call : HardCall) (d : Decoded) : Type 0 where
   pub square : Placing
   pub runner-up : Placing
-  pub leads : Leads call.board call.logical call.transforms call.error-limit square
+  pub leads : Leads call.board call.logical call.transforms call.error_limit square
   pub agrees : AgreesPhysical call.board call.physical call.transforms square
   pub runs_up : RunsUp call.board call.logical call.transforms square runner-up
   pub tells : Tells call.board call.logical call.logical call.transforms square runner-up d.square d.hits d.edges d.runner_up d.runner_up_hits

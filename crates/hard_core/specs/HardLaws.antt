@@ -3,13 +3,13 @@ use Rattle.std.specs.Prelude.{◌≡◌, refl, Bool, true, false, not, ◌&&◌,
 use Rattle.std.proofs.Math.Path.{sym, ap, subst}
 use Rattle.std.proofs.Common.{ap₂, ◌∙◌, le_trans, le_of_eq, arith, lit<}
 use Rattle.std.specs.Float.{nan}
-use Rattle.laws.specs.Words.{oneF}
+use Rattle.laws.specs.Words.{one_f}
 use Rattle.laws.specs.Cleared.{SameBeyond, beyond-trans}
 use Rattle.board.specs.Hits.{EdgeList, Board, size}
 use Rattle.board.specs.Transform.{mat}
-use Rattle.board.specs.Sides.{periodOf}
+use Rattle.board.specs.Sides.{period_of}
 use Rattle.board.specs.Domain.{ListOk, BoardOk}
-use Rattle.room.specs.Room.{tablesRoom}
+use Rattle.room.specs.Room.{tables_room}
 use Rattle.refusals.specs.declared.Refusal.{Refusal}
 use Rattle.admission.specs.Calls.{HardCall}
 use Rattle.admission.specs.Accepted.{TransformsOk, HardAccepted}
@@ -24,42 +24,42 @@ use Rattle.answer.specs.declared.Answer.{Answer}
 use Rattle.answer.specs.declared.Answer.TheVariants.{Found, Refused}
 use Rattle.verdict.specs.Verdict.{judged}
 use Rattle.hard.specs.Ready.{ready-logical, ready-physical, beyond}
-use Rattle.hard_core.specs.Hard.{afterPhysical, afterLogical, hardCore, PhysicalRooms, CoreRooms, CoreDone}
+use Rattle.hard_core.specs.Hard.{after_physical, after_logical, hard_core, PhysicalRooms, CoreRooms, CoreDone}
 
 -- ---- the three ways in which the core ends
 module _ (call : HardCall) (c : List ℕ) (w : List Float) (A : HardAccepted call (length c) (length w)) where
-  module _ (c' : List ℕ) (w' : List Float) (r : Selection) (D : SelectDone call.board call.logical call.transforms call.error-limit c c' w w' r) where
+  module _ (c' : List ℕ) (w' : List Float) (r : Selection) (D : SelectDone call.board call.logical call.transforms call.error_limit c c' w w' r) where
     pub core-refused : (n : Refusal) → r ≡ sel.Refused n → CoreDone call c c' w w' (Refused n)
-    unfolding hardCore PhysicalRooms
+    unfolding hard_core PhysicalRooms
     core-refused n k =
-        let s = beyond call c w A call.logical call.error-limit c c' w w' r (ready-logical call c w A) D in
+        let s = beyond call c w A call.logical call.error_limit c c' w w' r (ready-logical call c w A) D in
         record {
-          answer = ap (afterLogical call) (sym k ∙ D.answer);
+          answer = ap (after_logical call) (sym k ∙ D.answer);
           rooms = record { counts = c'; weights = w'; logical = D.rooms; physical = subst (λ (z : Selection). PhysicalRooms z call c' c' w' w') (sym k ∙ D.answer) (refl, refl) };
           counts = s.0;
           weights = s.1;
         }
 
-    module _ (x : Candidate) (runner : RunnerUp) (k : r ≡ sel.Selected x runner) (c'' : List ℕ) (w'' : List Float) (q : Selection) (F : SelectDone call.board call.physical call.transforms oneF c' c'' w' w'' q) where
-      both : SameBeyond 0 (tablesRoom call.board) c c'' × SameBeyond nan (tablesRoom call.board) w w''
+    module _ (x : Candidate) (runner : RunnerUp) (k : r ≡ sel.Selected x runner) (c'' : List ℕ) (w'' : List Float) (q : Selection) (F : SelectDone call.board call.physical call.transforms one_f c' c'' w' w'' q) where
+      both : SameBeyond 0 (tables_room call.board) c c'' × SameBeyond nan (tables_room call.board) w w''
       both =
-          let s = beyond call c w A call.logical call.error-limit c c' w w' r (ready-logical call c w A) D in
-          let t = beyond call c w A call.physical oneF c' c'' w' w'' q (ready-physical call c w A c' w' s.0.len s.1.len) F in
-          (beyond-trans 0 (tablesRoom call.board) c c' c'' s.0 t.0, beyond-trans nan (tablesRoom call.board) w w' w'' s.1 t.1)
+          let s = beyond call c w A call.logical call.error_limit c c' w w' r (ready-logical call c w A) D in
+          let t = beyond call c w A call.physical one_f c' c'' w' w'' q (ready-physical call c w A c' w' s.0.len s.1.len) F in
+          (beyond-trans 0 (tables_room call.board) c c' c'' s.0 t.0, beyond-trans nan (tables_room call.board) w w' w'' s.1 t.1)
 
       core-rooms : CoreRooms call c c'' w w''
       unfolding PhysicalRooms
       core-rooms = record { counts = c'; weights = w'; logical = D.rooms; physical = subst (λ (z : Selection). PhysicalRooms z call c' c'' w' w'') (sym k ∙ D.answer) F.rooms }
 
-      core-answer : afterPhysical call.logical call.transforms x runner q ≡ hardCore call
-      unfolding hardCore
-      core-answer = ap (afterPhysical call.logical call.transforms x runner) F.answer ∙ ap (afterLogical call) (sym k ∙ D.answer)
+      core-answer : after_physical call.logical call.transforms x runner q ≡ hard_core call
+      unfolding hard_core
+      core-answer = ap (after_physical call.logical call.transforms x runner) F.answer ∙ ap (after_logical call) (sym k ∙ D.answer)
 
       pub core-physical-refused : (n : Refusal) → q ≡ sel.Refused n → CoreDone call c c'' w w'' (Refused n)
-      core-physical-refused n g = record { answer = ap (afterPhysical call.logical call.transforms x runner) (sym g) ∙ core-answer; rooms = core-rooms; counts = both.0; weights = both.1 }
+      core-physical-refused n g = record { answer = ap (after_physical call.logical call.transforms x runner) (sym g) ∙ core-answer; rooms = core-rooms; counts = both.0; weights = both.1 }
 
       pub core-judged : (p : Candidate) (other : RunnerUp) (a : Answer) → q ≡ sel.Selected p other → a ≡ judged (get_or call.transforms x.placing.listed 0) x runner (get_or call.transforms p.placing.listed 0) p (size call.logical) → CoreDone call c c'' w w'' a
-      core-judged p other a g e = record { answer = e ∙ ap (afterPhysical call.logical call.transforms x runner) (sym g) ∙ core-answer; rooms = core-rooms; counts = both.0; weights = both.1 }
+      core-judged p other a g e = record { answer = e ∙ ap (after_physical call.logical call.transforms x runner) (sym g) ∙ core-answer; rooms = core-rooms; counts = both.0; weights = both.1 }
 
 -- ---- any two results that the core's promise allows are equal, and so are the rooms
 module _ (call : HardCall) where
@@ -67,8 +67,8 @@ module _ (call : HardCall) where
   unfolding PhysicalRooms
   physical-same (sel.Refused n) m c d v w x f g = (f.0 ∙ sym g.0, f.1 ∙ sym g.1)
   physical-same (sel.Selected y runner) m c d v w x f g =
-      let s = selection call.board call.physical call.transforms oneF in
-      let e = select-unique call.board call.physical call.transforms oneF m v c d w x s s (record { answer = refl; rooms = f }) (record { answer = refl; rooms = g }) in
+      let s = selection call.board call.physical call.transforms one_f in
+      let e = select-unique call.board call.physical call.transforms one_f m v c d w x s s (record { answer = refl; rooms = f }) (record { answer = refl; rooms = g }) in
       (e.1, e.2)
 
   physical-over : (s : Selection) (m n c d : List ℕ) (v u w x : List Float) → m ≡ n → v ≡ u → PhysicalRooms s call m c v w → PhysicalRooms s call n d u x → (c ≡ d) × (w ≡ x)
@@ -79,9 +79,9 @@ module _ (call : HardCall) where
   core_unique c c' d' w w' x' r s a b =
       let p = a.rooms in
       let q = b.rooms in
-      let z = selection call.board call.logical call.transforms call.error-limit in
+      let z = selection call.board call.logical call.transforms call.error_limit in
       let e =
-      select-unique call.board call.logical call.transforms call.error-limit c w p.counts q.counts p.weights q.weights z z (record { answer = refl; rooms = p.logical })
+      select-unique call.board call.logical call.transforms call.error_limit c w p.counts q.counts p.weights q.weights z z (record { answer = refl; rooms = p.logical })
       (record { answer = refl; rooms = q.logical }) in
       let f = physical-over z p.counts q.counts c' d' p.weights q.weights w' x' e.1 e.2 p.physical q.physical in
       (a.answer ∙ sym b.answer, f.0, f.1)

@@ -1,7 +1,7 @@
 // What an accepted hard call answers: the winners of both lists, judged by hits.
 ghost use Rattle.std.specs.Prelude.{◌≡◌, ◌≤◌, ◌<◌, length};
 ghost use Rattle.board.specs.Hits.{edges, tables};
-ghost use Rattle.admission.specs.Calls.{hardCall};
+ghost use Rattle.admission.specs.Calls.{hard_call};
 ghost use Rattle.admission.specs.Accepted.{HardAccepted};
 ghost use Rattle.hard_core.specs.Hard.{CoreDone};
 
@@ -29,12 +29,12 @@ pub fn hard_core<'a>(
     weights: &mut [f32],
 ) -> Answer
     requires { HardAccepted
-        (hardCall
+        (hard_call
         (edges lrows.now lcols.now lorientations.now lbits.now lconfidences.now)
         (edges prows.now pcols.now porientations.now pbits.now pconfidences.now)
         transforms.now (tables h.now v.now) error_limit) (length counts.old) (length weights.old) }
     ensures { CoreDone
-        (hardCall
+        (hard_call
         (edges lrows.now lcols.now lorientations.now lbits.now lconfidences.now)
         (edges prows.now pcols.now porientations.now pbits.now pconfidences.now)
         transforms.now (tables h.now v.now) error_limit)

@@ -1,7 +1,7 @@
 // The bit that the board predicts of an edge, and whether the edge is a hit.
 ghost use Rattle.std.specs.Prelude.{◌≡◌, [], ◌<◌, ◌≤◌, length};
-ghost use Rattle.board.specs.Transform.{matrixOf};
-ghost use Rattle.board.specs.Hits.{edges, tables, edge_at, predicted, edgeHit};
+ghost use Rattle.board.specs.Transform.{matrix_of};
+ghost use Rattle.board.specs.Hits.{edges, tables, edge_at, predicted, edge_hit};
 ghost use Rattle.board.specs.Domain.{EdgeOk, ColumnsOk, BoardOk};
 
 use answer::Square;
@@ -36,9 +36,9 @@ pub fn is_hit<'a>(
     matrix: [[i32; 2]; 2],
 ) -> bool
     requires board_ok { BoardOk (tables h.now v.now) }
-    requires edge_ok { EdgeOk edge square.transform × (matrix ≡ matrixOf square.transform) }
+    requires edge_ok { EdgeOk edge square.transform × (matrix ≡ matrix_of square.transform) }
     requires row_bound { (square.row ≤ 1500) × (square.col ≤ 1500) }
-    ensures { result ≡ edgeHit (tables h.now v.now) edge square }
+    ensures { result ≡ edge_hit (tables h.now v.now) edge square }
 {
     let l = lookup::transform_edge_lookup(square.transform, matrix, edge);
     predicted_bit(h, v, l, square.row, square.col) == edge.bit
@@ -58,9 +58,9 @@ pub fn hit_at<'a>(
 ) -> bool
     requires columns_ok { ColumnsOk rows.now cols.now orientations.now bits.now × (i < length rows.now) }
     requires board_ok { BoardOk (tables h.now v.now) }
-    requires transform_bound { (square.transform < 8) × (matrix ≡ matrixOf square.transform) }
+    requires transform_bound { (square.transform < 8) × (matrix ≡ matrix_of square.transform) }
     requires row_bound { (square.row ≤ 1500) × (square.col ≤ 1500) }
-    ensures { result ≡ edgeHit (tables h.now v.now) (edge_at (edges rows.now cols.now orientations.now bits.now []) i) square }
+    ensures { result ≡ edge_hit (tables h.now v.now) (edge_at (edges rows.now cols.now orientations.now bits.now []) i) square }
 {
     let edge = board::edge::edge_at(rows, cols, orientations, bits, i);
     is_hit(h, v, edge, square, matrix)

@@ -5,11 +5,11 @@ use Rattle.std.proofs.Common.{sym, inl, inr, ⊎_elim, eq-or-lt_of_le}
 use Rattle.std.proofs.Math.Bool.{true, false, cond}
 use Prim.Native.Nat.{ℕ, zero, suc, ◌+◌, ◌≤◌, ◌<◌}
 use native.Mathlib.Omega.{arith}
-use Rattle.laws.specs.Words.{firstFrom, first}
+use Rattle.laws.specs.Words.{first_from, first}
 
 -- a search that passed the indices below r and stopped there
-from-least : (p : ℕ → Bool) (i k r : ℕ) → i ≤ r → r ≤ i + k → ((j : ℕ) → j < r → p j ≡ false) → (r < i + k → p r ≡ true) → firstFrom p i k ≡ r
-unfolding firstFrom
+from-least : (p : ℕ → Bool) (i k r : ℕ) → i ≤ r → r ≤ i + k → ((j : ℕ) → j < r → p j ≡ false) → (r < i + k → p r ≡ true) → first_from p i k ≡ r
+unfolding first_from
 from-least p i zero r lo hi below at = omega arith
 from-least p i (suc k) r lo hi below at =
     ⊎_elim
@@ -23,12 +23,12 @@ first-least p n r hi below at = from-least p 0 n r (omega arith) (omega arith) b
 
 -- ---- what a search tells its caller
 
-step : (p : ℕ → Bool) (i k : ℕ) (b : Bool) → p i ≡ b → i + suc k ≤ cond b i (firstFrom p (suc i) k) → (p i ≡ false) × (suc i + k ≤ firstFrom p (suc i) k)
+step : (p : ℕ → Bool) (i k : ℕ) (b : Bool) → p i ≡ b → i + suc k ≤ cond b i (first_from p (suc i) k) → (p i ≡ false) × (suc i + k ≤ first_from p (suc i) k)
 step p i k true e h = absurd (omega arith)
 step p i k false e h = (e, omega arith)
 
-from-none : (p : ℕ → Bool) (i k : ℕ) → i + k ≤ firstFrom p i k → (j : ℕ) → i ≤ j → j < i + k → p j ≡ false
-unfolding firstFrom
+from-none : (p : ℕ → Bool) (i k : ℕ) → i + k ≤ first_from p i k → (j : ℕ) → i ≤ j → j < i + k → p j ≡ false
+unfolding first_from
 from-none p i zero h j lo hi = absurd (omega arith)
 from-none p i (suc k) h j lo hi =
     let s = step p i k (p i) refl h in
@@ -40,32 +40,32 @@ unfolding first
 first-none p n h k l = from-none p 0 n (omega arith) k (omega arith) (omega arith)
 
 module _ (p : ℕ → Bool) where
-  from_le : (i k : ℕ) → firstFrom p i k ≤ i + k
-  unfolding firstFrom
+  from_le : (i k : ℕ) → first_from p i k ≤ i + k
+  unfolding first_from
   from_le i zero = omega arith
   from_le i (suc k) = go (p i) (from_le (suc i) k)
     where
-      go : (b : Bool) → firstFrom p (suc i) k ≤ suc i + k → cond b i (firstFrom p (suc i) k) ≤ i + suc k
+      go : (b : Bool) → first_from p (suc i) k ≤ suc i + k → cond b i (first_from p (suc i) k) ≤ i + suc k
       go true h = omega arith
       go false h = omega arith
 
   -- the index itself passes
-  from-passes : (i k : ℕ) → firstFrom p i k < i + k → p (firstFrom p i k) ≡ true
-  unfolding firstFrom
+  from-passes : (i k : ℕ) → first_from p i k < i + k → p (first_from p i k) ≡ true
+  unfolding first_from
   from-passes i zero h = absurd (omega arith)
   from-passes i (suc k) h = go (p i) refl (from-passes (suc i) k) h
     where
-      go : (b : Bool) → p i ≡ b → (firstFrom p (suc i) k < suc i + k → p (firstFrom p (suc i) k) ≡ true) → cond b i (firstFrom p (suc i) k) < i + suc k → p (cond b i (firstFrom p (suc i) k)) ≡ true
+      go : (b : Bool) → p i ≡ b → (first_from p (suc i) k < suc i + k → p (first_from p (suc i) k) ≡ true) → cond b i (first_from p (suc i) k) < i + suc k → p (cond b i (first_from p (suc i) k)) ≡ true
       go true e ih l = e
       go false e ih l = ih (omega arith)
 
   -- and none before it
-  from-before : (i k j : ℕ) → i ≤ j → j < firstFrom p i k → p j ≡ false
-  unfolding firstFrom
+  from-before : (i k j : ℕ) → i ≤ j → j < first_from p i k → p j ≡ false
+  unfolding first_from
   from-before i zero j lo h = absurd (omega arith)
   from-before i (suc k) j lo h = go (p i) refl (from-before (suc i) k j) h (eq-or-lt_of_le lo)
     where
-      go : (b : Bool) → p i ≡ b → (suc i ≤ j → j < firstFrom p (suc i) k → p j ≡ false) → j < cond b i (firstFrom p (suc i) k) → (i ≡ j) ⊎ (i < j) → p j ≡ false
+      go : (b : Bool) → p i ≡ b → (suc i ≤ j → j < first_from p (suc i) k → p j ≡ false) → j < cond b i (first_from p (suc i) k) → (i ≡ j) ⊎ (i < j) → p j ≡ false
       go true e ih l s = absurd (omega arith)
       go false e ih l (inl r) = rw r at e
       go false e ih l (inr m) = ih m l

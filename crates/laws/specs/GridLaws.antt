@@ -2,17 +2,17 @@
 use Rattle.std.specs.Prelude.{◌≡◌, ◌≢◌, ℕ, ◌+◌, ◌*◌, ◌/◌, ◌%◌, ◌<◌}
 use Rattle.std.proofs.Common.{ap₂, ◌∙◌, arith, mod-lt, div-lt_iff_lt-mul, div-add-mod', lit<}
 use Rattle.std.proofs.Math.Arith.{digits_div, digits_mod, digits_lt}
-use Rattle.laws.specs.Words.{joint, Grid, row_of, colOf, origins}
+use Rattle.laws.specs.Words.{joint, Grid, row_of, col_of, origins}
 use Rattle.laws.specs.Residues.{joint-long, joint-short, joint-below, joint-back}
 
 -- what a selection needs of a grid of hn horizontal and vn vertical cells: keys and pairs of cells are the same thing
 pub record Laws (G : Grid) (hn vn : ℕ) : Type 0 where
   pub under : (h v : ℕ) → h < hn → v < vn → G.key h v < G.none
-  pub h-in : (k : ℕ) → G.hOf k < hn
-  pub v-in : (k : ℕ) → G.vOf k < vn
-  pub h-key : (h v : ℕ) → h < hn → v < vn → G.hOf (G.key h v) ≡ h
-  pub v-key : (h v : ℕ) → h < hn → v < vn → G.vOf (G.key h v) ≡ v
-  pub back : (k : ℕ) → k < G.none → G.key (G.hOf k) (G.vOf k) ≡ k
+  pub h-in : (k : ℕ) → G.h_of k < hn
+  pub v-in : (k : ℕ) → G.v_of k < vn
+  pub h_key : (h v : ℕ) → h < hn → v < vn → G.h_of (G.key h v) ≡ h
+  pub v_key : (h v : ℕ) → h < hn → v < vn → G.v_of (G.key h v) ≡ v
+  pub back : (k : ℕ) → k < G.none → G.key (G.h_of k) (G.v_of k) ≡ k
 
 -- every origin's horizontal cell stands in the table of 3L cells
 pub h-below : (L : ℕ) → 0 < L → (row col : ℕ) → row % L * 3 + col % 3 < 3 * L
@@ -29,14 +29,14 @@ module _ (L M : ℕ) (p : 0 < L) (q : 0 < M) (n : L % 3 ≢ 0) (m : M % 3 ≢ 0)
   row_in : (h v : ℕ) → row_of L M h v < 3 * L
   row_in h v = joint-below L p n (v / M) (h / 3)
 
-  col-in : (h v : ℕ) → colOf M h v < 3 * M
+  col-in : (h v : ℕ) → col_of M h v < 3 * M
   col-in h v = joint-below M q m (h % 3) (v % M)
 
   -- a key's row and column come back
-  key_row : (h v : ℕ) → (row_of L M h v * (3 * M) + colOf M h v) / (3 * M) ≡ row_of L M h v
+  key_row : (h v : ℕ) → (row_of L M h v * (3 * M) + col_of M h v) / (3 * M) ≡ row_of L M h v
   key_row h v = digits_div (row_of L M h v) (col-in h v)
 
-  key-col : (h v : ℕ) → (row_of L M h v * (3 * M) + colOf M h v) % (3 * M) ≡ colOf M h v
+  key-col : (h v : ℕ) → (row_of L M h v * (3 * M) + col_of M h v) % (3 * M) ≡ col_of M h v
   key-col h v = digits_mod (row_of L M h v) (col-in h v)
 
   third : (h : ℕ) → h < 3 * L → h / 3 < L
@@ -66,11 +66,11 @@ module _ (L M : ℕ) (p : 0 < L) (q : 0 < M) (n : L % 3 ≢ 0) (m : M % 3 ≢ 0)
     under = λ h v l k. digits_lt (row_in h v) (col-in h v);
     h-in = λ k. h-below L p (k / (3 * M)) (k % (3 * M));
     v-in = λ k. v_below M q (k / (3 * M)) (k % (3 * M));
-    h-key = λ h v l k.
+    h_key = λ h v l k.
         ap₂ (λ (x y : ℕ). x % L * 3 + y % 3) (key_row h v) (key-col h v)
         ∙ ap₂ (λ (x y : ℕ). x * 3 + y) (joint-long L p n (v / M) (h / 3) (third h l)) (joint-short M q m (h % 3) (v % M) (mod-lt h three))
         ∙ div-add-mod' h 3;
-    v-key = λ h v l k.
+    v_key = λ h v l k.
         ap₂ (λ (x y : ℕ). x % 3 * M + y % M) (key_row h v) (key-col h v)
         ∙ ap₂ (λ (x y : ℕ). x * M + y) (joint-short L p n (v / M) (h / 3) (part v k)) (joint-long M q m (h % 3) (v % M) (mod-lt v q))
         ∙ div-add-mod' v M;
@@ -82,7 +82,7 @@ module _ (L M : ℕ) (p : 0 < L) (q : 0 < M) (n : L % 3 ≢ 0) (m : M % 3 ≢ 0)
           ap₂ (joint L) (digits_div (short-v k) (mod-lt (k % (3 * M)) q)) (digits_div (long-h k) (mod-lt (k % (3 * M)) three))
           ∙ joint-back L p n (k / (3 * M)) ((div-lt_iff_lt-mul wide).1 l)
 
-      cols : (k : ℕ) → colOf M (long-h k * 3 + short-h k) (short-v k * M + long-v k) ≡ k % (3 * M)
+      cols : (k : ℕ) → col_of M (long-h k * 3 + short-h k) (short-v k * M + long-v k) ≡ k % (3 * M)
       cols k =
           ap₂ (joint M) (digits_mod (long-h k) (mod-lt (k % (3 * M)) three)) (digits_mod (short-v k) (mod-lt (k % (3 * M)) q))
           ∙ joint-back M q m (k % (3 * M)) (mod-lt k wide)

@@ -10,7 +10,7 @@ use Rattle.std.specs.Float.Ieee.Exact.{HasValue, round_exact}
 use Rattle.std.specs.Float.Ieee.Bits.{of_bits-to_bits}
 use Rattle.std.specs.Float.Ieee.Nearest.{div_same}
 use Rattle.std.specs.Float.Ieee.Digits.{back}
-use Rattle.laws.specs.Words.{put, fold, zeroF}
+use Rattle.laws.specs.Words.{put, fold, zero_f}
 use Rattle.laws.specs.Weights.{Unsigned}
 
 -- ---- a format holds a value once
@@ -71,7 +71,7 @@ round-self : (f : Format) (m : ℕ) (e : ℤ) → T (fits f (fin false m e)) →
 round-self f m e t = unique f (round f false (m * up e) (down e)) (fin false m e) false (m * up e) (down e) (down_pos e) (round-fits f false (m * up e) (down e)) t (self-value f m e t) (refl, refl)
 
 -- +0 added to a weight without a minus sign
-kept : (f : Format) (m : ℕ) (e : ℤ) → T (fits f (fin false m e)) → add f (fin false m e) zeroF ≡ fin false m e
+kept : (f : Format) (m : ℕ) (e : ℤ) → T (fits f (fin false m e)) → add f (fin false m e) zero_f ≡ fin false m e
 unfolding add sum
 kept f m e t =
     ap (λ x. round f false (x + 0 * down e) (down e * 1)) (mul-one (m * up e))
@@ -80,17 +80,17 @@ kept f m e t =
     ∙ ap (λ x. round f false (m * up e) x) (mul-one (down e))
     ∙ round-self f m e t
 
-pub add-plus-zero : (x : Float) → Unsigned x → add binary32 x zeroF ≡ x
+pub add-plus-zero : (x : Float) → Unsigned x → add binary32 x zero_f ≡ x
 add-plus-zero nan h = absurd h.0
 add-plus-zero (inf s) h = absurd h.0
 add-plus-zero (fin true m e) h = absurd h.0
 add-plus-zero (fin false m e) h = kept binary32 m e h.1
 
 -- ---- a sum from +0 is a value of f32
-pub sum_fits : (p : ℕ → Bool) (w : ℕ → Float) (n : ℕ) → T (fits binary32 (fold (add binary32) zeroF n p w))
+pub sum_fits : (p : ℕ → Bool) (w : ℕ → Float) (n : ℕ) → T (fits binary32 (fold (add binary32) zero_f n p w))
 unfolding fold fits
 sum_fits p w zero = tt
-sum_fits p w (suc n) = go (p n) (fold (add binary32) zeroF n p w) (sum_fits p w n)
+sum_fits p w (suc n) = go (p n) (fold (add binary32) zero_f n p w) (sum_fits p w n)
   where
     go : (b : Bool) (x : Float) → T (fits binary32 x) → T (fits binary32 (put (add binary32) b x (w n)))
     go true x h = add-fits binary32 x (w n)

@@ -16,7 +16,7 @@ use Rattle.std.specs.Float.Ieee.Order.{round_mono}
 use Rattle.std.specs.Float.Ieee.Digits.{back}
 use Rattle.std.specs.Float.Ieee.Positive.{first_pos}
 use Rattle.laws.specs.Tests.{compared, split, clash}
-use Rattle.laws.specs.Words.{fold, all, one, zeroF, Weight}
+use Rattle.laws.specs.Words.{fold, all, one, zero_f, Weight}
 use Rattle.laws.specs.Counting.{count-le}
 use Rattle.laws.specs.Weights.{Upto, UptoOver, WeightOver, Within}
 use Rattle.laws.specs.WeightLaws.{lt-or-eq, Held, Bounds, add-over, sum-upto}
@@ -129,11 +129,11 @@ add-below (fin false m e) (fin true n d) a b c C l h k t =
 
 -- of the total of n confidences, each is
 module _ (w : ℕ → Float) (c : ℕ) (C : 0 < c) (l : Held 1 c) where
-  each_below : (n : ℕ) → n ≤ 2 ^ 24 → ((i : ℕ) → i < n → Weight (w i) 1) → Below (fold (add binary32) zeroF n all w) c → (i : ℕ) → i < n → WeightOver (w i) 1 c
+  each_below : (n : ℕ) → n ≤ 2 ^ 24 → ((i : ℕ) → i < n → Weight (w i) 1) → Below (fold (add binary32) zero_f n all w) c → (i : ℕ) → i < n → WeightOver (w i) 1 c
   unfolding fold
   each_below zero few ok b i h = absurd (omega arith)
   each_below (suc n) few ok b i h =
-      let t = add-below (fold (add binary32) zeroF n all w) (w n) (fold ◌+◌ 0 n all one) 1 c C l (sum-upto all w one n (λ j k. ok j (omega arith)) (le_trans (count-le all n) (omega arith))) (ok n (omega arith)) b in
+      let t = add-below (fold (add binary32) zero_f n all w) (w n) (fold ◌+◌ 0 n all one) 1 c C l (sum-upto all w one n (λ j k. ok j (omega arith)) (le_trans (count-le all n) (omega arith))) (ok n (omega arith)) b in
       ⊎_elim (λ e. subst (λ (j : ℕ). WeightOver (w j) 1 c) (sym e) t.1) (λ k. each_below n (omega arith) (λ j m. ok j (omega arith)) t.0 i k) (split i n h)
 
 -- ---- the magnitude of a total that is not 0
@@ -152,9 +152,9 @@ whole_each (fin false m e) h = rw mul-one h
 
 module _ (w : ℕ → Float) (n : ℕ) (few : n ≤ 2 ^ 24) (ok : (i : ℕ) → i < n → Weight (w i) 1) where
   abbrev total : Float
-  total = fold (add binary32) zeroF n all w
+  total = fold (add binary32) zero_f n all w
 
-  module _ (m : ℕ) (e : ℤ) (is : fold (add binary32) zeroF n all w ≡ fin false m e) where
+  module _ (m : ℕ) (e : ℤ) (is : fold (add binary32) zero_f n all w ≡ fin false m e) where
     search : (k : ℕ) → k ≤ 149 → down e ≤ m * up e * 2 ^ k → Magnitude (fin false m e) n w
     search zero l h = record {
       q = 0;
@@ -173,7 +173,7 @@ module _ (w : ℕ → Float) (n : ℕ) (few : n ≤ 2 ^ 24) (ok : (i : ℕ) → 
         (compared (m * up e * 2 ^ k) (down e))
 
   -- the total of confidences has one, where it is not 0
-  find : (x : Float) → fold (add binary32) zeroF n all w ≡ x → Upto x (fold ◌+◌ 0 n all one) → T (fits binary32 x) → eq x zeroF ≡ false → Magnitude x n w
+  find : (x : Float) → fold (add binary32) zero_f n all w ≡ x → Upto x (fold ◌+◌ 0 n all one) → T (fits binary32 x) → eq x zero_f ≡ false → Magnitude x n w
   unfolding eq fits
   find nan is u f z = absurd u
   find (inf s) is u f z = absurd u
@@ -185,8 +185,8 @@ module _ (w : ℕ → Float) (n : ℕ) (few : n ≤ 2 ^ 24) (ok : (i : ℕ) → 
       let one_up : 1 ≤ suc m * up e = mul-pos (zero-lt-suc m) (up_pos e) in
       search (suc m) e is 149 (omega arith) (le_trans b (le_trans (le_of_eq (sym (one-mul (2 ^ 149)))) (mul-le-mul_right (2 ^ 149) one_up)))
 
-  pub magnitude-of : eq (fold (add binary32) zeroF n all w) zeroF ≡ false → Magnitude (fold (add binary32) zeroF n all w) n w
-  magnitude-of z = find (fold (add binary32) zeroF n all w) refl (sum-upto all w one n ok (le_trans (count-le all n) few)) (sum_fits all w n) z
+  pub magnitude-of : eq (fold (add binary32) zero_f n all w) zero_f ≡ false → Magnitude (fold (add binary32) zero_f n all w) n w
+  magnitude-of z = find (fold (add binary32) zero_f n all w) refl (sum-upto all w one n ok (le_trans (count-le all n) few)) (sum_fits all w n) z
 
 -- ---- the share
 -- a weight bounded in counts of 2 ^ -q, over a total that is at least half of 2 ^ -q

@@ -5,8 +5,8 @@ use Rattle.std.specs.Int.Signed.{le_z, lt_z, mag}
 use Rattle.std.proofs.lemmas.Bool.{eqb-false}
 use Rattle.std.specs.Int.{Width}
 use mir.Val.{SFits, hbits, to_z, of_z}
-use Rattle.laws.specs.Words.{eqZ}
-use Rattle.laws.specs.Whole.{eq-eqZ, ne-eqZ}
+use Rattle.laws.specs.Words.{eq_z}
+use Rattle.laws.specs.Whole.{eq-eq_z, ne-eq_z}
 
 -- what is kept of z, read back
 abbrev pub read : Width → ℤ → ℤ
@@ -42,12 +42,12 @@ module _ (w : Width) (x y : ℤ) (p : SFits w x) (q : SFits w y) where
   pub same_bits : of_z w x ≡ of_z w y → x ≡ y
   same_bits e = sym (to_z-of_z p) ∙ ap (to_z w) e ∙ to_z-of_z q
 
-  pub said-eq : eqb (of_z w x) (of_z w y) ≡ eqZ x y
+  pub said-eq : eqb (of_z w x) (of_z w y) ≡ eq_z x y
   said-eq = go (eqb (of_z w x) (of_z w y)) refl
     where
-      go : (t : Bool) → eqb (of_z w x) (of_z w y) ≡ t → t ≡ eqZ x y
-      go true e = sym (eq-eqZ x y (same_bits (eqb-true (of_z w x) (of_z w y) e)))
-      go false e = sym (ne-eqZ x y (λ d. eqb-false (of_z w x) (of_z w y) e (ap (of_z w) d)))
+      go : (t : Bool) → eqb (of_z w x) (of_z w y) ≡ t → t ≡ eq_z x y
+      go true e = sym (eq-eq_z x y (same_bits (eqb-true (of_z w x) (of_z w y) e)))
+      go false e = sym (ne-eq_z x y (λ d. eqb-false (of_z w x) (of_z w y) e (ap (of_z w) d)))
 
 -- ---- the sign
 pub is_pos : (x : ℤ) → le_z (pos 0) x ≡ true → (a : ℕ) × (x ≡ pos a)

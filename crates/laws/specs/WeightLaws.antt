@@ -13,7 +13,7 @@ use Rattle.std.specs.Float.Ieee.Back.{round_whole}
 use Rattle.std.specs.Float.Ieee.Order.{round_mono}
 use Rattle.std.specs.Float.Ieee.Positive.{num, den, den_pos, through}
 use Rattle.laws.specs.Tests.{compared, and_comm}
-use Rattle.laws.specs.Words.{put, fold, zeroF, oneF, Weight, heavier}
+use Rattle.laws.specs.Words.{put, fold, zero_f, one_f, Weight, heavier}
 use Rattle.laws.specs.Best.{Weak}
 use Rattle.laws.specs.Weights.{Upto, UptoOver, WeightOver, weightlike}
 
@@ -128,7 +128,7 @@ upto-weight (fin false m e) a h = h
 
 -- a bound that additions keep: U of a sum, W of what is added to it
 pub record Bounds (U W : Float → ℕ → Type 0) : Type 0 where
-  pub none : U zeroF 0
+  pub none : U zero_f 0
   pub more : (x y : Float) (a b : ℕ) → U x a → W y b → a + b ≤ 2 ^ 24 → U (add binary32 x y) (a + b)
   pub again : (x : Float) (a : ℕ) → U x a → W x a
 
@@ -146,12 +146,12 @@ module _ (U W : Float → ℕ → Type 0) (K : Bounds U W) (p : ℕ → Bool) (w
   less true a c h = omega arith
   less false a c h = h
 
-  pub sum-bounded : (n : ℕ) → ((i : ℕ) → i < n → W (w i) (g i)) → fold ◌+◌ 0 n p g ≤ 2 ^ 24 → U (fold (add binary32) zeroF n p w) (fold ◌+◌ 0 n p g)
+  pub sum-bounded : (n : ℕ) → ((i : ℕ) → i < n → W (w i) (g i)) → fold ◌+◌ 0 n p g ≤ 2 ^ 24 → U (fold (add binary32) zero_f n p w) (fold ◌+◌ 0 n p g)
   unfolding fold
   sum-bounded zero h l = K.none
-  sum-bounded (suc n) h l = step (p n) (fold (add binary32) zeroF n p w) (w n) (fold ◌+◌ 0 n p g) (g n) (sum-bounded n (λ i k. h i (omega arith)) (less (p n) (fold ◌+◌ 0 n p g) (g n) l)) (h n (omega arith)) l
+  sum-bounded (suc n) h l = step (p n) (fold (add binary32) zero_f n p w) (w n) (fold ◌+◌ 0 n p g) (g n) (sum-bounded n (λ i k. h i (omega arith)) (less (p n) (fold ◌+◌ 0 n p g) (g n) l)) (h n (omega arith)) l
 
-pub sum-upto : (p : ℕ → Bool) (w : ℕ → Float) (g : ℕ → ℕ) (n : ℕ) → ((i : ℕ) → i < n → Weight (w i) (g i)) → fold ◌+◌ 0 n p g ≤ 2 ^ 24 → Upto (fold (add binary32) zeroF n p w) (fold ◌+◌ 0 n p g)
+pub sum-upto : (p : ℕ → Bool) (w : ℕ → Float) (g : ℕ → ℕ) (n : ℕ) → ((i : ℕ) → i < n → Weight (w i) (g i)) → fold ◌+◌ 0 n p g ≤ 2 ^ 24 → Upto (fold (add binary32) zero_f n p w) (fold ◌+◌ 0 n p g)
 sum-upto = sum-bounded Upto Weight by-counts
 
 -- ---- a confidence, by the tests 0.0 <= x and x <= 1.0
@@ -162,7 +162,7 @@ none_left (suc m) u d h k = absurd (stuck (suc m * u) (mul-pos (zero-lt-suc m) h
     stuck : (x : ℕ) → 0 < x → 0 ≡ x → ⊥
     stuck x p q = omega arith
 
-pub confidence : (x : Float) → T (le zeroF x) → T (le x oneF) → Weight x 1
+pub confidence : (x : Float) → T (le zero_f x) → T (le x one_f) → Weight x 1
 unfolding le
 confidence nan h k = absurd h
 confidence (inf true) h k = absurd h

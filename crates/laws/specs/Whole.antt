@@ -5,7 +5,7 @@ use Rattle.std.proofs.Common.{ap, subst, sym, ◌∙◌, true≢false, le_refl, 
 use Rattle.std.proofs.Math.IntN.{sub_ℕ}
 use Rattle.std.specs.Int.Signed.{lt_z}
 use Rattle.laws.specs.Tests.{by-test}
-use Rattle.laws.specs.Words.{eqZ}
+use Rattle.laws.specs.Words.{eq_z}
 
 -- ---- size
 pub abs_neg : (z : ℤ) → nat_abs (neg_ℤ z) ≡ nat_abs z
@@ -47,24 +47,24 @@ abs-mul (negsuc a) (pos b) = abs_neg (pos (suc a * b))
 abs-mul (negsuc a) (negsuc b) = refl
 
 -- ---- equality as a test
-pub eqZ-true : (a b : ℤ) → eqZ a b ≡ true → a ≡ b
-eqZ-true (pos a) (pos b) e = ap pos (eqb-true a b e)
-eqZ-true (pos a) (negsuc b) e = absurd (true≢false (sym e))
-eqZ-true (negsuc a) (pos b) e = absurd (true≢false (sym e))
-eqZ-true (negsuc a) (negsuc b) e = ap negsuc (eqb-true a b e)
+pub eq_z-true : (a b : ℤ) → eq_z a b ≡ true → a ≡ b
+eq_z-true (pos a) (pos b) e = ap pos (eqb-true a b e)
+eq_z-true (pos a) (negsuc b) e = absurd (true≢false (sym e))
+eq_z-true (negsuc a) (pos b) e = absurd (true≢false (sym e))
+eq_z-true (negsuc a) (negsuc b) e = ap negsuc (eqb-true a b e)
 
-pub eqZ-refl : (a : ℤ) → eqZ a a ≡ true
-eqZ-refl (pos a) = eq-eqb a a refl
-eqZ-refl (negsuc a) = eq-eqb a a refl
+pub eq_z-refl : (a : ℤ) → eq_z a a ≡ true
+eq_z-refl (pos a) = eq-eqb a a refl
+eq_z-refl (negsuc a) = eq-eqb a a refl
 
-pub eq-eqZ : (a b : ℤ) → a ≡ b → eqZ a b ≡ true
-eq-eqZ a b e = rw e (eqZ-refl b)
+pub eq-eq_z : (a b : ℤ) → a ≡ b → eq_z a b ≡ true
+eq-eq_z a b e = rw e (eq_z-refl b)
 
-pub ne-eqZ : (a b : ℤ) → (a ≡ b → ⊥) → eqZ a b ≡ false
-ne-eqZ a b n = go (eqZ a b) refl
+pub ne-eq_z : (a b : ℤ) → (a ≡ b → ⊥) → eq_z a b ≡ false
+ne-eq_z a b n = go (eq_z a b) refl
   where
-    go : (t : Bool) → eqZ a b ≡ t → t ≡ false
-    go true e = absurd (n (eqZ-true a b e))
+    go : (t : Bool) → eq_z a b ≡ t → t ≡ false
+    go true e = absurd (n (eq_z-true a b e))
     go false e = refl
 
 -- ---- order and sums, raised into the naturals

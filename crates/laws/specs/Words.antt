@@ -29,30 +29,30 @@ count n p = fold ◌+◌ 0 n p one
 
 -- ---- searches (First.antt, Best.antt, Second.antt)
 -- the least index at which a test holds, of k tests from index i on; i + k if there is none
-unfoldable pub firstFrom : (ℕ → Bool) → ℕ → ℕ → ℕ
-firstFrom p i zero = i
-firstFrom p i (suc k) = cond (p i) i (firstFrom p (suc i) k)
+unfoldable pub first_from : (ℕ → Bool) → ℕ → ℕ → ℕ
+first_from p i zero = i
+first_from p i (suc k) = cond (p i) i (first_from p (suc i) k)
 
 -- the least index below n
 unfoldable pub first : (ℕ → Bool) → ℕ → ℕ
-first p n = firstFrom p 0 n
+first p n = first_from p 0 n
 
 -- i where it beats a, else a
 abbrev pub better : (ℕ → ℕ → Bool) → ℕ → ℕ → ℕ
 better b i a = cond (b i a) i a
 
 -- the first index below n that no index below n beats
-unfoldable pub firstBest : (ℕ → ℕ → Bool) → ℕ → ℕ
-firstBest b zero = 0
-firstBest b (suc i) = better b i (firstBest b i)
+unfoldable pub first_best : (ℕ → ℕ → Bool) → ℕ → ℕ
+first_best b zero = 0
+first_best b (suc i) = better b i (first_best b i)
 
 -- i beats j by a number
 abbrev pub above : (ℕ → ℕ) → ℕ → ℕ → Bool
 above f i j = ltb (f j) (f i)
 
 -- by a number and then by another order
-abbrev pub lexBeats : (ℕ → ℕ) → (ℕ → ℕ → Bool) → ℕ → ℕ → Bool
-lexBeats f w i j = ltb (f j) (f i) || (eqb (f i) (f j) && w i j)
+abbrev pub lex_beats : (ℕ → ℕ) → (ℕ → ℕ → Bool) → ℕ → ℕ → Bool
+lex_beats f w i j = ltb (f j) (f i) || (eqb (f i) (f j) && w i j)
 
 -- the first index but k, from which the search for a second starts
 abbrev pub other : ℕ → ℕ
@@ -82,40 +82,40 @@ joint L s l = numer L s l % (3 * L)
 pub record Grid : Type 0 where
   pub none : ℕ
   pub key : ℕ → ℕ → ℕ
-  pub hOf : ℕ → ℕ
-  pub vOf : ℕ → ℕ
+  pub h_of : ℕ → ℕ
+  pub v_of : ℕ → ℕ
 
 -- the row that two cells name: horizontal cell h is the class (h / 3, h mod 3), vertical cell v the class (v / M, v mod M), "stored row by row"
 abbrev pub row_of : ℕ → ℕ → ℕ → ℕ → ℕ
 row_of L M h v = joint L (v / M) (h / 3)
 
 -- the column
-abbrev pub colOf : ℕ → ℕ → ℕ → ℕ
-colOf M h v = joint M (h % 3) (v % M)
+abbrev pub col_of : ℕ → ℕ → ℕ → ℕ
+col_of M h v = joint M (h % 3) (v % M)
 
 -- the origins of the board whose horizontal table has L patterns and whose vertical table has M: 3 L rows of 3 M columns
 abbrev pub origins : ℕ → ℕ → Grid
 origins L M = record {
   none = 3 * L * (3 * M);
-  key = λ h v. row_of L M h v * (3 * M) + colOf M h v;
-  hOf = λ k. k / (3 * M) % L * 3 + k % (3 * M) % 3;
-  vOf = λ k. k / (3 * M) % 3 * M + k % (3 * M) % M;
+  key = λ h v. row_of L M h v * (3 * M) + col_of M h v;
+  h_of = λ k. k / (3 * M) % L * 3 + k % (3 * M) % 3;
+  v_of = λ k. k / (3 * M) % 3 * M + k % (3 * M) % M;
 }
 
 -- ---- whole numbers, floats, lists (Whole.antt, Weights.antt, Cleared.antt)
 -- two whole numbers are equal, as a test
-abbrev pub eqZ : ℤ → ℤ → Bool
-eqZ (pos a) (pos b) = eqb a b
-eqZ (pos a) (negsuc b) = false
-eqZ (negsuc a) (pos b) = false
-eqZ (negsuc a) (negsuc b) = eqb a b
+abbrev pub eq_z : ℤ → ℤ → Bool
+eq_z (pos a) (pos b) = eqb a b
+eq_z (pos a) (negsuc b) = false
+eq_z (negsuc a) (pos b) = false
+eq_z (negsuc a) (negsuc b) = eqb a b
 
 -- the floats 0 and 1
-abbrev pub zeroF : Float
-zeroF = fin false 0 (pos 0)
+abbrev pub zero_f : Float
+zero_f = fin false 0 (pos 0)
 
-abbrev pub oneF : Float
-oneF = fin false 1 (pos 0)
+abbrev pub one_f : Float
+one_f = fin false 1 (pos 0)
 
 -- no NaN and no infinity
 abbrev pub Finite : Float → Type 0

@@ -1,7 +1,7 @@
 // The leaf functions that the laws of specs/ are about: remainders that are never negative; and the two periods of a board.
 ghost use Rattle.std.specs.Prelude.{◌≡◌, ◌+◌, ◌<◌, ◌≤◌, ◌%◌, pos, nat_abs, ◌+ℤ◌};
 ghost use Rattle.laws.specs.Words.{emod};
-ghost use Rattle.laws.specs.Modulus.{modulusOf, ModulusOk};
+ghost use Rattle.laws.specs.Modulus.{modulus_of, ModulusOk};
 
 // The lengths of a board's two pattern tables: how far the horizontal patterns go before they come again, and the vertical ones.
 #[derive(Drop)]
@@ -42,7 +42,7 @@ pub struct Modulus {
 // The modulus of n, for many remainders by the same number.
 pub fn modulus_of(n: u32) -> Modulus
     requires { (0 < n) × (n ≤ 500) }
-    ensures { result ≡ modulusOf n }
+    ensures { result ≡ modulus_of n }
 {
     let lift = (2000002 / n + 1) * n;
     let factor = 4294967296 / (n as u64) + 1;

@@ -2,32 +2,32 @@
 use Rattle.std.specs.Prelude.{Bool, true, false, cond, List, ℕ, zero, suc, ◌+◌, ◌*◌, ◌/◌, ◌%◌, ◌≤◌, ◌<◌, ltb, get_or, length}
 use Rattle.laws.specs.Words.{origins}
 use Rattle.board.specs.Hits.{EdgeList, Board}
-use Rattle.board.specs.Sides.{periodOf}
+use Rattle.board.specs.Sides.{period_of}
 use Rattle.board.specs.Domain.{EdgesOk, BoardOk}
-use Rattle.classes.specs.Classes.{classHits}
+use Rattle.classes.specs.Classes.{class_hits}
 use Rattle.tops.specs.declared.Top.{Top}
-use Rattle.tops.specs.Tops.{topTo, larger}
+use Rattle.tops.specs.Tops.{top_to, larger}
 use Rattle.lead.specs.declared.Peak.{Peak}
 use Rattle.lead.specs.declared.Lead.{Lead}
 
 -- the best class of a side and the second best
 abbrev pub top_of : Board → EdgeList → ℕ → Bool → Top
-top_of B E t s = topTo (classHits B E t s) (periodOf B s * 3)
+top_of B E t s = top_to (class_hits B E t s) (period_of B s * 3)
 
 -- the vertical cell, by the grid's numbering, of the class j: short residue · M + long residue
 abbrev pub cell_of : ℕ → ℕ → ℕ
 cell_of M j = j % 3 * M + j / 3
 
 -- of one transform, from the best classes a and b of its two sides
-abbrev pub peakFrom : ℕ → ℕ → Top → Top → Peak
-peakFrom L M a b = record {
+abbrev pub peak_from : ℕ → ℕ → Top → Top → Peak
+peak_from L M a b = record {
   best = a.best + b.best;
   key = (origins L M).key a.at (cell_of M b.at);
   next = larger (a.next + b.best) (a.best + b.next);
 }
 
-unfoldable pub peakOf : Board → EdgeList → ℕ → Peak
-peakOf B E t = peakFrom (periodOf B true) (periodOf B false) (top_of B E t true) (top_of B E t false)
+unfoldable pub peak_of : Board → EdgeList → ℕ → Peak
+peak_of B E t = peak_from (period_of B true) (period_of B false) (top_of B E t true) (top_of B E t false)
 
 -- ---- over the transforms
 abbrev pub started : Peak → Lead
@@ -45,13 +45,13 @@ merged S p P =
     S)
 
 -- the first n + 1 positions
-unfoldable pub leadAfter : (ℕ → Peak) → ℕ → Lead
-leadAfter P zero = started (P 0)
-leadAfter P (suc n) = merged (leadAfter P n) (suc n) (P (suc n))
+unfoldable pub lead_after : (ℕ → Peak) → ℕ → Lead
+lead_after P zero = started (P 0)
+lead_after P (suc n) = merged (lead_after P n) (suc n) (P (suc n))
 
 -- the peaks of the transform list ts
 abbrev pub peaks : Board → EdgeList → List ℕ → ℕ → Peak
-peaks B E ts p = peakOf B E (get_or ts p 0)
+peaks B E ts p = peak_of B E (get_or ts p 0)
 
 -- what is asked: edges in range, a board, and 1 to 8 transforms
 pub record LeadReady (B : Board) (E : EdgeList) (ts : List ℕ) : Type 0 where

@@ -5,12 +5,12 @@ use Prim.Native.Nat.{ℕ, zero, suc, ◌+◌, ◌-◌, ◌≤◌, ◌<◌}
 use Rattle.laws.specs.Tests.{split, decided}
 use Rattle.laws.specs.Words.{origins}
 use Rattle.board.specs.Hits.{EdgeList, Board}
-use Rattle.board.specs.Sides.{periodOf}
+use Rattle.board.specs.Sides.{period_of}
 use Rattle.board.specs.Domain.{BoardOk}
 use Rattle.lead.specs.declared.Peak.{Peak}
 use Rattle.lead.specs.declared.Lead.{Lead}
-use Rattle.lead.specs.Lead.{started, merged, leadAfter, peaks}
-use Rattle.lead.specs.PeakLaws.{IsPeak, keyHits, peak}
+use Rattle.lead.specs.Lead.{started, merged, lead_after, peaks}
+use Rattle.lead.specs.PeakLaws.{IsPeak, key_hits, peak}
 
 -- n positions with the keys below `none`
 pub record Leading (n none : ℕ) (hit : ℕ → ℕ → ℕ) (S : Lead) : Type 0 where
@@ -39,8 +39,8 @@ module _ (none : ℕ) (hit : ℕ → ℕ → ℕ) where
   }
 
   -- a placing of the positions so far has at most the best
-  best_of : (n : ℕ) (S : Lead) → Leading n none hit S → (q j : ℕ) → q < n → j < none → hit q j ≤ S.best
-  best_of n S A q j h k = go (decided q S.listed) (decided j S.key)
+  best_of_lem : (n : ℕ) (S : Lead) → Leading n none hit S → (q j : ℕ) → q < n → j < none → hit q j ≤ S.best
+  best_of_lem n S A q j h k = go (decided q S.listed) (decided j S.key)
     where
       go : (q ≡ S.listed) ⊎ (q ≡ S.listed → ⊥) → (j ≡ S.key) ⊎ (j ≡ S.key → ⊥) → hit q j ≤ S.best
       go (inl e) (inl d) = omega (arith, ap₂ hit e d, A.at)
@@ -69,11 +69,11 @@ module _ (none : ℕ) (hit : ℕ → ℕ → ℕ) where
             key_in = I.key_in;
             at = I.at;
             under = I.under;
-            others = λ q j h k ne. ⊎_elim (λ z. rw z (I.others j k (λ x. ne (z, x)))) (λ l. omega (arith, best_of n S A q j l k, m)) (split q n h);
+            others = λ q j h k ne. ⊎_elim (λ z. rw z (I.others j k (λ x. ne (z, x)))) (λ l. omega (arith, best_of_lem n S A q j l k, m)) (split q n h);
             from_in = omega arith;
             had = let w = I.had in (w.0, w.1, (λ x. w.2 x.1), w.3);
-            first = λ q j h k. omega (arith, best_of n S A q j h k, ltb-true S.best P.best e);
-            early = λ q j h k ne. omega (arith, best_of n S A q j h k, m);
+            first = λ q j h k. omega (arith, best_of_lem n S A q j h k, ltb-true S.best P.best e);
+            early = λ q j h k ne. omega (arith, best_of_lem n S A q j h k, m);
           }
       go true false c e d f =
           let m = ltb-false S.best P.next d in
@@ -82,10 +82,10 @@ module _ (none : ℕ) (hit : ℕ → ℕ → ℕ) where
             key_in = I.key_in;
             at = I.at;
             under = omega (arith, ltb-true S.best P.best e);
-            others = λ q j h k ne. ⊎_elim (λ z. rw z (omega (arith, I.others j k (λ x. ne (z, x)), m))) (λ l. best_of n S A q j l k) (split q n h);
+            others = λ q j h k ne. ⊎_elim (λ z. rw z (omega (arith, I.others j k (λ x. ne (z, x)), m))) (λ l. best_of_lem n S A q j l k) (split q n h);
             from_in = omega (arith, A.listed_in);
             had = (S.key, A.key_in, (λ x. omega (arith, x.0, A.listed_in)), A.at);
-            first = λ q j h k. omega (arith, best_of n S A q j h k, ltb-true S.best P.best e);
+            first = λ q j h k. omega (arith, best_of_lem n S A q j h k, ltb-true S.best P.best e);
             early = λ q j h k ne. A.first q j h k;
           }
       go false b true e d f =
@@ -115,27 +115,27 @@ module _ (none : ℕ) (hit : ℕ → ℕ → ℕ) where
             early = A.early;
           }
 
-  lead_after : (P : ℕ → Peak) → ((p : ℕ) → IsPeak none (hit p) (P p)) → (n : ℕ) → Leading (suc n) none hit (leadAfter P n)
-  unfolding leadAfter
-  lead_after P h zero = lead-starts (P 0) (h 0)
-  lead_after P h (suc n) = lead-more (suc n) (leadAfter P n) (P (suc n)) (lead_after P h n) (h (suc n))
+  lead_after_lem : (P : ℕ → Peak) → ((p : ℕ) → IsPeak none (hit p) (P p)) → (n : ℕ) → Leading (suc n) none hit (lead_after P n)
+  unfolding lead_after
+  lead_after_lem P h zero = lead-starts (P 0) (h 0)
+  lead_after_lem P h (suc n) = lead-more (suc n) (lead_after P n) (P (suc n)) (lead_after_lem P h n) (h (suc n))
 
 -- ---- of a board, a list and its transforms: THE LEAD IS WHAT IT SAYS, by the hits of every placing
 pub leading : (B : Board) (E : EdgeList) (ts : List ℕ) → BoardOk B → 0 < length ts
-    → Leading (length ts) (origins (periodOf B true) (periodOf B false)).none (λ p k. keyHits B E (get_or ts p 0) k) (leadAfter (peaks B E ts) (length ts - 1))
+    → Leading (length ts) (origins (period_of B true) (period_of B false)).none (λ p k. key_hits B E (get_or ts p 0) k) (lead_after (peaks B E ts) (length ts - 1))
 leading B E ts ok some =
     let e : suc (length ts - 1) ≡ length ts = omega arith in
-    rw e at (lead_after (origins (periodOf B true) (periodOf B false)).none (λ p k. keyHits B E (get_or ts p 0) k) (peaks B E ts) (λ p. peak B E (get_or ts p 0) ok) (length ts - 1))
+    rw e at (lead_after_lem (origins (period_of B true) (period_of B false)).none (λ p k. key_hits B E (get_or ts p 0) k) (peaks B E ts) (λ p. peak B E (get_or ts p 0) ok) (length ts - 1))
 
 -- ---- one position more
-pub lead-next : (P : ℕ → Peak) (p : ℕ) (S r : Lead) (x : Peak) → 0 < p → S ≡ leadAfter P (p - 1) → x ≡ P p → r ≡ merged S p x → r ≡ leadAfter P (p + 1 - 1)
-unfolding leadAfter
+pub lead-next : (P : ℕ → Peak) (p : ℕ) (S r : Lead) (x : Peak) → 0 < p → S ≡ lead_after P (p - 1) → x ≡ P p → r ≡ merged S p x → r ≡ lead_after P (p + 1 - 1)
+unfolding lead_after
 lead-next P zero S r x some e q k = absurd (omega arith)
 lead-next P (suc p) S r x some e q k =
     let z : suc p - 1 ≡ p = omega arith in
     let y : suc p + 1 - 1 ≡ suc p = omega arith in
-    k ∙ ap₂ (λ (a : Lead) (b : Peak). merged a (suc p) b) (e ∙ ap (leadAfter P) z) q ∙ sym (ap (leadAfter P) y)
+    k ∙ ap₂ (λ (a : Lead) (b : Peak). merged a (suc p) b) (e ∙ ap (lead_after P) z) q ∙ sym (ap (lead_after P) y)
 
-pub lead-first : (P : ℕ → Peak) (r : Lead) (x : Peak) → x ≡ P 0 → r ≡ started x → r ≡ leadAfter P (1 - 1)
-unfolding leadAfter
+pub lead-first : (P : ℕ → Peak) (r : Lead) (x : Peak) → x ≡ P 0 → r ≡ started x → r ≡ lead_after P (1 - 1)
+unfolding lead_after
 lead-first P r x e k = k ∙ ap started e

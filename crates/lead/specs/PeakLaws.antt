@@ -6,16 +6,16 @@ use Rattle.laws.specs.Tests.{decided}
 use Rattle.laws.specs.Words.{origins}
 use Rattle.laws.specs.GridLaws.{Laws}
 use Rattle.board.specs.Hits.{EdgeList, Board, size, hits}
-use Rattle.board.specs.Sides.{periodOf}
+use Rattle.board.specs.Sides.{period_of}
 use Rattle.board.specs.Domain.{BoardOk}
 use Rattle.grid.specs.BoardGrid.{period-h, period-v, grid}
-use Rattle.classes.specs.Classes.{classHits}
+use Rattle.classes.specs.Classes.{class_hits}
 use Rattle.classes.specs.ClassesLaws.{class-le, hits-classes}
 use Rattle.tops.specs.declared.Top.{Top}
-use Rattle.tops.specs.Tops.{topTo, larger}
+use Rattle.tops.specs.Tops.{top_to, larger}
 use Rattle.tops.specs.TopsLaws.{IsTop, top, second-had, larger-left, larger-right, larger-is}
 use Rattle.lead.specs.declared.Peak.{Peak}
-use Rattle.lead.specs.Lead.{top_of, cell_of, peakFrom, peakOf}
+use Rattle.lead.specs.Lead.{top_of, cell_of, peak_from, peak_of}
 
 -- the best of the keys below `none`, and the most hits of another
 pub record IsPeak (none : ℕ) (hit : ℕ → ℕ) (P : Peak) : Type 0 where
@@ -50,12 +50,12 @@ module _ (M : ℕ) (p : 0 < M) where
 
 -- ---- a grid of keys over two sides, with the hits f by horizontal and g by vertical class
 module _ (L M : ℕ) (q : 0 < M) (G : Laws (origins L M) (3 * L) (3 * M)) (f g : ℕ → ℕ) (hit : ℕ → ℕ) (two-h : 1 < L * 3) (two-v : 1 < M * 3)
-    (sum : (k : ℕ) → hit k ≡ f ((origins L M).hOf k) + g (class_of M ((origins L M).vOf k))) where
+    (sum : (k : ℕ) → hit k ≡ f ((origins L M).h_of k) + g (class_of M ((origins L M).v_of k))) where
   abbrev a : Top
-  a = topTo f (L * 3)
+  a = top_to f (L * 3)
 
   abbrev b : Top
-  b = topTo g (M * 3)
+  b = top_to g (M * 3)
 
   A : IsTop f (L * 3) a
   A = top f (L * 3) two-h
@@ -70,11 +70,11 @@ module _ (L M : ℕ) (q : 0 < M) (G : Laws (origins L M) (3 * L) (3 * M)) (f g :
   turn : (n x : ℕ) → x < n * 3 → x < 3 * n
   turn n x h = omega arith
 
-  key-h : (i j : ℕ) → i < L * 3 → j < M * 3 → (origins L M).hOf (key_of i j) ≡ i
-  key-h i j h k = G.h-key i (cell_of M j) (turn L i h) (cell_in M q j (turn M j k))
+  key-h : (i j : ℕ) → i < L * 3 → j < M * 3 → (origins L M).h_of (key_of i j) ≡ i
+  key-h i j h k = G.h_key i (cell_of M j) (turn L i h) (cell_in M q j (turn M j k))
 
-  key-v : (i j : ℕ) → i < L * 3 → j < M * 3 → class_of M ((origins L M).vOf (key_of i j)) ≡ j
-  key-v i j h k = ap (class_of M) (G.v-key i (cell_of M j) (turn L i h) (cell_in M q j (turn M j k))) ∙ class-cell M q j (turn M j k)
+  key-v : (i j : ℕ) → i < L * 3 → j < M * 3 → class_of M ((origins L M).v_of (key_of i j)) ≡ j
+  key-v i j h k = ap (class_of M) (G.v_key i (cell_of M j) (turn L i h) (cell_in M q j (turn M j k))) ∙ class-cell M q j (turn M j k)
 
   key-hits : (i j : ℕ) → i < L * 3 → j < M * 3 → hit (key_of i j) ≡ f i + g j
   key-hits i j h k = sum (key_of i j) ∙ ap₂ (λ (x y : ℕ). f x + g y) (key-h i j h k) (key-v i j h k)
@@ -89,7 +89,7 @@ module _ (L M : ℕ) (q : 0 < M) (G : Laws (origins L M) (3 * L) (3 * M)) (f g :
   v-most : (j : ℕ) → j < M * 3 → g j ≤ b.best
   v-most j h = ⊎_elim (λ e. omega (arith, ap g e, W.attained)) (λ n. omega (arith, W.others j h n, W.under)) (decided j b.at)
 
-  pub peak-grid : IsPeak (origins L M).none hit (peakFrom L M a b)
+  pub peak-grid : IsPeak (origins L M).none hit (peak_from L M a b)
   peak-grid = record {
     key_in = key_in a.at b.at A.in-range W.in-range;
     at = key-hits a.at b.at A.in-range W.in-range ∙ ap₂ ◌+◌ A.attained W.attained;
@@ -105,22 +105,22 @@ module _ (L M : ℕ) (q : 0 < M) (G : Laws (origins L M) (3 * L) (3 * M)) (f g :
       r = a.best + b.next
 
       others : (k : ℕ) → k < (origins L M).none → (k ≡ key_of a.at b.at → ⊥) → hit k ≤ larger l r
-      others k h ne = go (decided ((origins L M).hOf k) a.at) (decided (class_of M ((origins L M).vOf k)) b.at)
+      others k h ne = go (decided ((origins L M).h_of k) a.at) (decided (class_of M ((origins L M).v_of k)) b.at)
         where
           i : ℕ
-          i = (origins L M).hOf k
+          i = (origins L M).h_of k
 
           j : ℕ
-          j = class_of M ((origins L M).vOf k)
+          j = class_of M ((origins L M).v_of k)
 
           hi : i < L * 3
           hi = let z = G.h-in k in omega arith
 
           hj : j < M * 3
-          hj = let z = class-in M q ((origins L M).vOf k) (G.v-in k) in omega arith
+          hj = let z = class-in M q ((origins L M).v_of k) (G.v-in k) in omega arith
 
           go : (i ≡ a.at) ⊎ (i ≡ a.at → ⊥) → (j ≡ b.at) ⊎ (j ≡ b.at → ⊥) → hit k ≤ larger l r
-          go (inl e) (inl d) = absurd (ne (sym (G.back k h) ∙ ap₂ (origins L M).key e (sym (cell-class M q ((origins L M).vOf k) (G.v-in k)) ∙ ap (cell_of M) d)))
+          go (inl e) (inl d) = absurd (ne (sym (G.back k h) ∙ ap₂ (origins L M).key e (sym (cell-class M q ((origins L M).v_of k) (G.v-in k)) ∙ ap (cell_of M) d)))
           go (inl e) (inr d) = omega (arith, sum k, h-most i hi, W.others j hj d, larger-right l r)
           go (inr e) d = omega (arith, sum k, A.others i hi e, v-most j hj, larger-left l r)
 
@@ -129,7 +129,7 @@ module _ (L M : ℕ) (q : 0 < M) (G : Laws (origins L M) (3 * L) (3 * M)) (f g :
           let w = second-had f (L * 3) two-h in (
             key_of w.0 b.at,
             key_in w.0 b.at w.1 W.in-range,
-            (λ d. w.2 (sym (key-h w.0 b.at w.1 W.in-range) ∙ ap (origins L M).hOf d ∙ key-h a.at b.at A.in-range W.in-range)),
+            (λ d. w.2 (sym (key-h w.0 b.at w.1 W.in-range) ∙ ap (origins L M).h_of d ∙ key-h a.at b.at A.in-range W.in-range)),
             key-hits w.0 b.at w.1 W.in-range ∙ ap₂ ◌+◌ w.3 W.attained ∙ sym e,
           )
 
@@ -138,38 +138,38 @@ module _ (L M : ℕ) (q : 0 < M) (G : Laws (origins L M) (3 * L) (3 * M)) (f g :
           let w = second-had g (M * 3) two-v in (
             key_of a.at w.0,
             key_in a.at w.0 A.in-range w.1,
-            (λ d. w.2 (sym (key-v a.at w.0 A.in-range w.1) ∙ ap (λ (k : ℕ). class_of M ((origins L M).vOf k)) d ∙ key-v a.at b.at A.in-range W.in-range)),
+            (λ d. w.2 (sym (key-v a.at w.0 A.in-range w.1) ∙ ap (λ (k : ℕ). class_of M ((origins L M).v_of k)) d ∙ key-v a.at b.at A.in-range W.in-range)),
             key-hits a.at w.0 A.in-range w.1 ∙ ap₂ ◌+◌ A.attained w.3 ∙ sym e,
           )
 
 -- ---- of a board
 -- the hits of the origin with the key k
-abbrev pub keyHits : Board → EdgeList → ℕ → ℕ → ℕ
-keyHits B E t k = hits B E t (k / (3 * periodOf B false)) (k % (3 * periodOf B false))
+abbrev pub key_hits : Board → EdgeList → ℕ → ℕ → ℕ
+key_hits B E t k = hits B E t (k / (3 * period_of B false)) (k % (3 * period_of B false))
 
 module _ (B : Board) (E : EdgeList) (t : ℕ) (ok : BoardOk B) where
   abbrev hn : ℕ
-  hn = periodOf B true
+  hn = period_of B true
 
   abbrev vn : ℕ
-  vn = periodOf B false
+  vn = period_of B false
 
   -- the hits of a key are those of its two classes
-  key-sum : (k : ℕ) → keyHits B E t k ≡ classHits B E t true ((origins hn vn).hOf k) + classHits B E t false (class_of vn ((origins hn vn).vOf k))
+  key-sum : (k : ℕ) → key_hits B E t k ≡ class_hits B E t true ((origins hn vn).h_of k) + class_hits B E t false (class_of vn ((origins hn vn).v_of k))
   key-sum k =
       let r = k / (3 * vn) in
       let c = k % (3 * vn) in
       let some : 0 < vn = omega (arith, ok.v.some) in
       let z : c % vn < vn = mod-lt c some in
       hits-classes B E t ok r c
-      ∙ ap (λ (x : ℕ). classHits B E t true (r % hn * 3 + c % 3) + classHits B E t false x) (sym (ap₂ (λ (x y : ℕ). x * 3 + y) (digits_mod (r % 3) z) (digits_div (r % 3) z)))
+      ∙ ap (λ (x : ℕ). class_hits B E t true (r % hn * 3 + c % 3) + class_hits B E t false x) (sym (ap₂ (λ (x y : ℕ). x * 3 + y) (digits_mod (r % 3) z) (digits_div (r % 3) z)))
 
-  pub peak : IsPeak (origins hn vn).none (keyHits B E t) (peakOf B E t)
-  unfolding peakOf
+  pub peak : IsPeak (origins hn vn).none (key_hits B E t) (peak_of B E t)
+  unfolding peak_of
   peak =
-      peak-grid hn vn (omega (arith, ok.v.some)) (grid hn vn (period-h B ok) (period-v B ok)) (classHits B E t true) (classHits B E t false) (keyHits B E t) (omega (arith, ok.h.some)) (omega (arith, ok.v.some)) key-sum
+      peak-grid hn vn (omega (arith, ok.v.some)) (grid hn vn (period-h B ok) (period-v B ok)) (class_hits B E t true) (class_hits B E t false) (key_hits B E t) (omega (arith, ok.h.some)) (omega (arith, ok.v.some)) key-sum
 
   -- the best classes stand in their tables, and have no more hits than there are edges
-  pub top_in : (s : Bool) → ((top_of B E t s).at < periodOf B s * 3) × ((top_of B E t s).best ≤ size E) × ((top_of B E t s).next ≤ size E)
-  top_in true = let I = top (classHits B E t true) (hn * 3) (omega (arith, ok.h.some)) in (I.in-range, omega (arith, I.attained, class-le B E t true (top_of B E t true).at), omega (arith, I.under, I.attained, class-le B E t true (top_of B E t true).at))
-  top_in false = let I = top (classHits B E t false) (vn * 3) (omega (arith, ok.v.some)) in (I.in-range, omega (arith, I.attained, class-le B E t false (top_of B E t false).at), omega (arith, I.under, I.attained, class-le B E t false (top_of B E t false).at))
+  pub top_in : (s : Bool) → ((top_of B E t s).at < period_of B s * 3) × ((top_of B E t s).best ≤ size E) × ((top_of B E t s).next ≤ size E)
+  top_in true = let I = top (class_hits B E t true) (hn * 3) (omega (arith, ok.h.some)) in (I.in-range, omega (arith, I.attained, class-le B E t true (top_of B E t true).at), omega (arith, I.under, I.attained, class-le B E t true (top_of B E t true).at))
+  top_in false = let I = top (class_hits B E t false) (vn * 3) (omega (arith, ok.v.some)) in (I.in-range, omega (arith, I.attained, class-le B E t false (top_of B E t false).at), omega (arith, I.under, I.attained, class-le B E t false (top_of B E t false).at))

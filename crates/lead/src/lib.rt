@@ -2,7 +2,7 @@
 ghost use Rattle.std.specs.Prelude.{◌≡◌, [], ◌-◌, length};
 ghost use Rattle.board.specs.Hits.{edges, tables};
 ghost use Rattle.classes.specs.Classes.{CountReady};
-ghost use Rattle.lead.specs.Lead.{peakOf, started, merged, leadAfter, peaks, LeadReady};
+ghost use Rattle.lead.specs.Lead.{peak_of, started, merged, lead_after, peaks, LeadReady};
 
 use laws::Periods;
 use tops::larger;
@@ -36,7 +36,7 @@ fn peak_of(
     v: &[u8],
 ) -> Peak
     requires { CountReady (tables h.now v.now) (edges rows.now cols.now orientations.now bits.now []) t }
-    ensures { result ≡ peakOf (tables h.now v.now) (edges rows.now cols.now orientations.now bits.now []) t }
+    ensures { result ≡ peak_of (tables h.now v.now) (edges rows.now cols.now orientations.now bits.now []) t }
 {
     let periods = Periods {
         h: h.len(),
@@ -112,7 +112,7 @@ pub fn lead_of(
     v: &[u8],
 ) -> Lead
     requires { LeadReady (tables h.now v.now) (edges rows.now cols.now orientations.now bits.now []) transforms.now }
-    ensures { result ≡ leadAfter (peaks (tables h.now v.now) (edges rows.now cols.now orientations.now bits.now []) transforms.now) (length transforms.now - 1) }
+    ensures { result ≡ lead_after (peaks (tables h.now v.now) (edges rows.now cols.now orientations.now bits.now []) transforms.now) (length transforms.now - 1) }
 {
     let mut lead = start(peak_of(rows, cols, orientations, bits, transforms[0], h, v));
     let mut p: usize = 1;

@@ -5,10 +5,10 @@ use Rattle.std.proofs.Math.ListN.{get_or-eq_default}
 use Rattle.std.specs.Int.Signed.{lt_z, mag}
 use Rattle.std.specs.Int.{w64}
 use Rattle.laws.specs.Tests.{compared}
-use Rattle.laws.specs.Words.{eqZ}
+use Rattle.laws.specs.Words.{eq_z}
 use Rattle.laws.specs.Whole.{abs-add}
 use Rattle.laws.specs.Signed.{read, fits-abs, fit_at, read_at}
-use Rattle.level.specs.Level.{sAt}
+use Rattle.level.specs.Level.{s_at}
 use Rattle.level.specs.Sums.{SumsOk}
 
 -- a number of at most 2^53 in size is read back as it is
@@ -16,8 +16,8 @@ pub small-read : (x : ℤ) → nat_abs x ≤ 2 ^ 53 → read w64 x ≡ x
 small-read x h = to_z-of_z (fits-abs {w = w64} x (omega arith))
 
 -- what a callee says of a number that was read
-pub read-eq : (x y : ℤ) (r : Bool) → mag x < 2 ^ 63 → r ≡ eqZ (read w64 x) y → r ≡ eqZ x y
-read-eq x y r h e = e ∙ ap (λ (z : ℤ). eqZ z y) (to_z-of_z {w = w64} {z = x} (record { sfits = h }))
+pub read-eq : (x y : ℤ) (r : Bool) → mag x < 2 ^ 63 → r ≡ eq_z (read w64 x) y → r ≡ eq_z x y
+read-eq x y r h e = e ∙ ap (λ (z : ℤ). eq_z z y) (to_z-of_z {w = w64} {z = x} (record { sfits = h }))
 
 -- two numbers that are together within 2^53: their sum fits, is small, and is read back
 module _ (x y : ℤ) (h : nat_abs x + nat_abs y ≤ 2 ^ 53) where
@@ -41,22 +41,22 @@ sums_lt a b c d h k t e = ap₂ lt_z (sym (sum-read a b h)) (sym (sum-read c d k
 -- ---- two tables
 module _ (L M : ℕ) (hs vs : List ℤ) (ok : SumsOk L M hs vs) (p : 3 < L) (q : 3 < M) where
   -- past its end a table reads 0, so the bound holds of all numbers
-  pub all-bounded : (i j : ℕ) → nat_abs (sAt hs i) + nat_abs (sAt vs j) ≤ 2 ^ 53
+  pub all-bounded : (i j : ℕ) → nat_abs (s_at hs i) + nat_abs (s_at vs j) ≤ 2 ^ 53
   all-bounded i j = ⊎_elim (λ l. ⊎_elim (ok.bounded i j l) (v-out l) (compared j (3 * M))) (λ l. ⊎_elim (h-out l) (none l) (compared j (3 * M))) (compared i (3 * L))
     where
-      h-zero : 3 * L ≤ i → sAt hs i ≡ pos 0
+      h-zero : 3 * L ≤ i → s_at hs i ≡ pos 0
       h-zero l = get_or-eq_default hs (pos 0) {n = i} (omega (arith, ok.hlen))
 
-      v-zero : 3 * M ≤ j → sAt vs j ≡ pos 0
+      v-zero : 3 * M ≤ j → s_at vs j ≡ pos 0
       v-zero m = get_or-eq_default vs (pos 0) {n = j} (omega (arith, ok.vlen))
 
-      v-out : i < 3 * L → 3 * M ≤ j → nat_abs (sAt hs i) + nat_abs (sAt vs j) ≤ 2 ^ 53
+      v-out : i < 3 * L → 3 * M ≤ j → nat_abs (s_at hs i) + nat_abs (s_at vs j) ≤ 2 ^ 53
       v-out l m = rw (v-zero m) (omega (arith, ok.bounded i 0 l (omega arith)))
 
-      h-out : 3 * L ≤ i → j < 3 * M → nat_abs (sAt hs i) + nat_abs (sAt vs j) ≤ 2 ^ 53
+      h-out : 3 * L ≤ i → j < 3 * M → nat_abs (s_at hs i) + nat_abs (s_at vs j) ≤ 2 ^ 53
       h-out l m = rw (h-zero l) (omega (arith, ok.bounded 0 j (omega arith) m))
 
-      none : 3 * L ≤ i → 3 * M ≤ j → nat_abs (sAt hs i) + nat_abs (sAt vs j) ≤ 2 ^ 53
+      none : 3 * L ≤ i → 3 * M ≤ j → nat_abs (s_at hs i) + nat_abs (s_at vs j) ≤ 2 ^ 53
       none l m = rw (h-zero l, v-zero m) (omega arith)
 
   pub h-two : 1 < length hs

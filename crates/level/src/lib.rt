@@ -1,7 +1,7 @@
 // One table of likelihood sums, by cell.
 ghost use Rattle.std.specs.Prelude.{◌≡◌, ◌<◌, length};
-ghost use Rattle.laws.specs.Words.{eqZ};
-ghost use Rattle.level.specs.Level.{levelBest, levelAround, levelOf};
+ghost use Rattle.laws.specs.Words.{eq_z};
+ghost use Rattle.level.specs.Level.{level_best, level_around, level_of};
 ghost use Rattle.level.specs.LevelLaws.{Top};
 
 // The first cell of largest sum, that sum, how many cells have it, and the first of the second-best cells with its sum.
@@ -17,7 +17,7 @@ pub struct LevelMax {
 // The first cell of largest sum.
 fn level_best(sums: &[i64]) -> usize
     requires { 1 < length sums.now }
-    ensures { (result ≡ levelBest sums.now) × (result < length sums.now) }
+    ensures { (result ≡ level_best sums.now) × (result < length sums.now) }
 {
     let mut best: usize = 0;
     let mut top = sums[0];
@@ -35,7 +35,7 @@ fn level_best(sums: &[i64]) -> usize
 
 // Whether a cell's sum is the given one.
 pub fn is_tied(sum: i64, top: i64) -> bool
-    ensures { result ≡ eqZ sum top }
+    ensures { result ≡ eq_z sum top }
 {
     sum == top
 }
@@ -44,7 +44,7 @@ pub fn is_tied(sum: i64, top: i64) -> bool
 // the second best so far, and no more is asked of them.
 fn level_around(sums: &[i64], cell: usize) -> LevelMax
     requires { (1 < length sums.now) × (cell < length sums.now) × Top sums.now cell }
-    ensures { result ≡ levelAround sums.now cell }
+    ensures { result ≡ level_around sums.now cell }
 {
     let top = sums[cell];
     let mut tied: usize = 0;
@@ -81,7 +81,7 @@ fn level_around(sums: &[i64], cell: usize) -> LevelMax
 // All that is asked of one table, in two walks: for the best cell, and for what is around it.
 pub fn level_max(sums: &[i64]) -> LevelMax
     requires { 1 < length sums.now }
-    ensures { result ≡ levelOf sums.now }
+    ensures { result ≡ level_of sums.now }
 {
     level_around(sums, level_best(sums))
 }

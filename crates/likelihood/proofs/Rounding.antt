@@ -1,4 +1,4 @@
--- Rounding to the nearest: `halfUp` on equal fractions, and what the shifts of `nearest` are.
+-- Rounding to the nearest: `half_up` on equal fractions, and what the shifts of `nearest` are.
 use mathlib.Core.Path.{◌≡◌, refl, sym, ap, subst, ◌∙◌}
 use mathlib.Core.Bool.{Bool, true, false}
 use mathlib.Core.Logic.{◌⊎◌, ⊎_elim}
@@ -11,31 +11,31 @@ use lib.Pow.{pow-add, pow_pos, pow-lt, shl_exact, high, split}
 use lib.Ieee.{nearest}
 use lib.Ieee.Nearest.{closest, div_same}
 use Rattle.laws.specs.Tests.{apart, compared}
-use Rattle.likelihood.specs.Likelihood.{halfUp}
+use Rattle.likelihood.specs.Likelihood.{half_up}
 use Rattle.likelihood.specs.Steps.{rounded}
 
 -- ---- a half upwards
 -- equal fractions round alike
-pub half-same : (a b c d : ℕ) → 0 < b → 0 < d → a * d ≡ c * b → halfUp a b ≡ halfUp c d
-unfolding halfUp
+pub half-same : (a b c d : ℕ) → 0 < b → 0 < d → a * d ≡ c * b → half_up a b ≡ half_up c d
+unfolding half_up
 half-same a b c d B D e = div_same (2 * a + b) (2 * b) (2 * c + d) (2 * d) (omega arith) (omega arith) (cross a b c d e)
   where
     cross : (a b c d : ℕ) → a * d ≡ c * b → (2 * a + b) * (2 * d) ≡ (2 * c + d) * (2 * b)
     cross a b c d e = omega arith
 
 -- a whole number
-pub half-whole : (n : ℕ) → halfUp n 1 ≡ n
-unfolding halfUp
+pub half-whole : (n : ℕ) → half_up n 1 ≡ n
+unfolding half_up
 half-whole n = omega arith
 
 -- less than a half
-pub half-zero : (a b : ℕ) → 0 < b → 2 * a < b → halfUp a b ≡ 0
-unfolding halfUp
+pub half-zero : (a b : ℕ) → 0 < b → 2 * a < b → half_up a b ≡ 0
+unfolding half_up
 half-zero a b B h = div-eq_of_lt (omega arith)
 
 -- over a power of two
-half_pow : (n k : ℕ) → halfUp n (2 ^ suc k) ≡ (n + 2 ^ k) / 2 ^ suc k
-unfolding halfUp
+half_pow : (n k : ℕ) → half_up n (2 ^ suc k) ≡ (n + 2 ^ k) / 2 ^ suc k
+unfolding half_up
 half_pow n k = div_same (2 * n + 2 ^ suc k) (2 * 2 ^ suc k) (n + 2 ^ k) (2 ^ suc k) (mul-pos (lit< tt) (pow_pos (suc k))) (pow_pos (suc k)) (cross (2 ^ suc k) (2 ^ k) (pow-succ' 2 k))
   where
     cross : (x y : ℕ) → x ≡ 2 * y → (2 * n + x) * x ≡ (n + y) * (2 * x)

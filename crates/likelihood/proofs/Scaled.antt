@@ -11,7 +11,7 @@ use lib.Ieee.Fits.{down_pos}
 use lib.Ieee.Bits.{cond_no}
 use lib.Ieee.Exact.{HasValue, odd_sign}
 use borrow.Author.Tests.{ne_eqb}
-use Rattle.likelihood.specs.Likelihood.{halfUp, signed, quantised}
+use Rattle.likelihood.specs.Likelihood.{half_up, signed, quantised}
 use Rattle.likelihood.specs.Steps.{Magnitude}
 use Rattle.likelihood.specs.LikelihoodLaws.{half_le}
 use Rattle.likelihood.proofs.Rounding.{half-same, half-whole, half-zero, two-powers}
@@ -23,15 +23,15 @@ lead (suc k) t = 2 ^ 23 + t
 
 -- the size, quantised, of the f32 with the exponent's field E and the digits t: lead E t units of 2 ^ (E - 1) times 2 ^ -149
 unfoldable scaled : ℕ → ℕ → ℕ
-unfolding halfUp
-scaled E t = halfUp (lead E t * 2 ^ (E - 1) * 2 ^ 24) (2 ^ 149)
+unfolding half_up
+scaled E t = half_up (lead E t * 2 ^ (E - 1) * 2 ^ 24) (2 ^ 149)
 
 -- ---- from the value to the fields
 -- a value that is a / l in size
-quant-of : (v : Float) (s : Bool) (a l : ℕ) → 0 < l → HasValue v s a l → quantised v ≡ signed s (halfUp (a * 2 ^ 24) l)
+quant-of : (v : Float) (s : Bool) (a l : ℕ) → 0 < l → HasValue v s a l → quantised v ≡ signed s (half_up (a * 2 ^ 24) l)
 unfolding quantised
 quant-of (fin t m e) s a l L v =
-    ap (λ (b : Bool). signed b (halfUp (m * up e * 2 ^ 24) (down e))) v.0
+    ap (λ (b : Bool). signed b (half_up (m * up e * 2 ^ 24) (down e))) v.0
     ∙ ap (signed s) (half-same (m * up e * 2 ^ 24) (down e) (a * 2 ^ 24) l (down_pos e) L (mul_right_comm (m * up e) (2 ^ 24) l ∙ ap (λ (x : ℕ). x * 2 ^ 24) v.1 ∙ mul_right_comm a (down e) (2 ^ 24)))
 
 -- a field that is not that of the infinities and NaN
@@ -59,7 +59,7 @@ three q i j k = rw (pow-add 2 (i + j) k, pow-add 2 i j) (move q (2 ^ i) (2 ^ j) 
 
 module _ (t : ℕ) (h : t < 8388608) where
   -- to the right: the digits over a power of two
-  right_is : (E : ℕ) → 102 ≤ E → E < 126 → scaled E t ≡ halfUp (8388608 + t) (2 ^ (126 - E))
+  right_is : (E : ℕ) → 102 ≤ E → E < 126 → scaled E t ≡ half_up (8388608 + t) (2 ^ (126 - E))
   unfolding scaled
   right_is zero a b = absurd (omega arith)
   right_is (suc k) a b =
@@ -109,10 +109,10 @@ module _ (t : ℕ) (h : t < 8388608) where
   pub made_nothing : (E : ℕ) → E < 102 → Magnitude E t 0
   made_nothing E g = made E 0 (omega arith) (nothing_is E g) (lit< tt)
 
-  pub made-right : (E : ℕ) → 102 ≤ E → E < 126 → Magnitude E t (halfUp (8388608 + t) (2 ^ (126 - E)))
-  made-right E a b = made E (halfUp (8388608 + t) (2 ^ (126 - E))) (omega arith) (right_is E a b) small
+  pub made-right : (E : ℕ) → 102 ≤ E → E < 126 → Magnitude E t (half_up (8388608 + t) (2 ^ (126 - E)))
+  made-right E a b = made E (half_up (8388608 + t) (2 ^ (126 - E))) (omega arith) (right_is E a b) small
     where
-      small : halfUp (8388608 + t) (2 ^ (126 - E)) < 2 ^ 41
+      small : half_up (8388608 + t) (2 ^ (126 - E)) < 2 ^ 41
       small = lt_of_le_of_lt (half_le (8388608 + t) (2 ^ (126 - E)) (2 ^ 24) (pow_pos (126 - E)) (omega (arith, pow_pos (126 - E)))) (lit< tt)
 
   pub made-left : (E : ℕ) → 126 ≤ E → E ≤ 143 → Magnitude E t ((8388608 + t) * 2 ^ (E - 126))

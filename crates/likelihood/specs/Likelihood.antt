@@ -10,8 +10,8 @@ unfoldable pub acceptable : Float → Bool
 acceptable x = le (fin true 1 (pos 16)) x && le x (fin false 1 (pos 16))
 
 -- num / den to the nearest whole number, a half upwards
-unfoldable pub halfUp : ℕ → ℕ → ℕ
-halfUp num den = (2 * num + den) / (2 * den)
+unfoldable pub half_up : ℕ → ℕ → ℕ
+half_up num den = (2 * num + den) / (2 * den)
 
 -- n with a sign: a size whose halves go up is a number whose halves go away from zero
 abbrev pub signed : Bool → ℕ → ℤ
@@ -20,8 +20,8 @@ signed false n = pos n
 
 -- 'Each likelihood times 2^24 becomes the nearest whole number, halves away from zero.' (For NaN and the infinities, which are refused, it says 0.)
 unfoldable pub quantised : Float → ℤ
-unfolding halfUp
-quantised (fin s m e) = signed s (halfUp (m * up e * 2 ^ 24) (down e))
+unfolding half_up
+quantised (fin s m e) = signed s (half_up (m * up e * 2 ^ 24) (down e))
 quantised nan = pos 0
 quantised (inf s) = pos 0
 

@@ -1,4 +1,4 @@
--- What follows from the definitions of Likelihood.antt: which floats are acceptable, that `halfUp` is the nearest, how large a quantised likelihood is, and that a
+-- What follows from the definitions of Likelihood.antt: which floats are acceptable, that `half_up` is the nearest, how large a quantised likelihood is, and that a
 -- sum returns to a number.
 use Rattle.std.specs.Prelude.{◌≡◌, refl, Bool, true, false, not, ◌&&◌, ◌||◌, ℕ, zero, suc, ◌+◌, ◌*◌, ◌-◌, ◌/◌, ◌%◌, ◌≤◌, ◌<◌, ◌^◌, T, leb, ltb, eqb, ℤ, pos, nat_abs, Float}
 use Rattle.std.proofs.Common.{sym, subst, ◌∙◌, true≢false, ⊎_elim, arith, le_trans, le_of_eq, le_antisymm, le_of_suc-le-suc, mul-one, one-mul, mul-le-mul_right, mul-pos, mod-lt, div-add-mod', div-lt_iff_lt-mul, le-div_iff_mul-le, lit<, lt-ltb, le-ltb, le-leb, leb-true, eq-eqb, eqb-true}
@@ -10,7 +10,7 @@ use Rattle.std.specs.Float.Ieee.Nearest.{closest}
 use Rattle.std.proofs.lemmas.Bool.{lt-leb}
 use Rattle.laws.specs.Tests.{by-test, apart, not_so, and_comm}
 use Rattle.laws.specs.Whole.{abs_neg}
-use Rattle.likelihood.specs.Likelihood.{acceptable, halfUp, signed, quantised, dequantised}
+use Rattle.likelihood.specs.Likelihood.{acceptable, half_up, signed, quantised, dequantised}
 
 -- ---- which floats are acceptable
 -- NaN and the infinities are not
@@ -89,16 +89,16 @@ acceptable-number x h = go x (acceptable-within x h)
     go (inf s) w = absurd w
     go (fin s m e) w = tt
 
--- ---- halfUp is the nearest: q = halfUp num den is the one whole number with num / den from q - 1/2, taken in, to q + 1/2, left out
-pub half-near : (num den : ℕ) → 0 < den → (2 * halfUp num den * den ≤ 2 * num + den) × (2 * num < 2 * halfUp num den * den + den)
-unfolding halfUp
+-- ---- half_up is the nearest: q = half_up num den is the one whole number with num / den from q - 1/2, taken in, to q + 1/2, left out
+pub half-near : (num den : ℕ) → 0 < den → (2 * half_up num den * den ≤ 2 * num + den) × (2 * num < 2 * half_up num den * den + den)
+unfolding half_up
 half-near num den h = go ((2 * num + den) / (2 * den)) ((2 * num + den) % (2 * den)) (div-add-mod' (2 * num + den) (2 * den)) (mod-lt (2 * num + den) (mul-pos (lit< tt) h))
   where
     go : (q r : ℕ) → q * (2 * den) + r ≡ 2 * num + den → r < 2 * den → (2 * q * den ≤ 2 * num + den) × (2 * num < 2 * q * den + den)
     go q r e l = (omega arith, omega arith)
 
-pub half-only : (num den q : ℕ) → 0 < den → 2 * q * den ≤ 2 * num + den → 2 * num < 2 * q * den + den → q ≡ halfUp num den
-unfolding halfUp
+pub half-only : (num den q : ℕ) → 0 < den → 2 * q * den ≤ 2 * num + den → 2 * num < 2 * q * den + den → q ≡ half_up num den
+unfolding half_up
 half-only num den q h a b =
     let d : 0 < 2 * den = mul-pos (lit< tt) h in
     le_antisymm
@@ -111,14 +111,14 @@ signed-size true n = abs_neg (pos n)
 signed-size false n = refl
 
 -- a fraction of at most B rounds to at most B
-pub half_le : (a d B : ℕ) → 0 < d → a ≤ B * d → halfUp a d ≤ B
-unfolding halfUp
+pub half_le : (a d B : ℕ) → 0 < d → a ≤ B * d → half_up a d ≤ B
+unfolding half_up
 half_le a d B p h = le_of_suc-le-suc ((div-lt_iff_lt-mul {k = 2 * d} {x = 2 * a + d} {y = suc B} (omega arith)).1 (omega arith))
 
 size-within : (x : Float) → Within x → nat_abs (quantised x) ≤ 2 ^ 40
 unfolding quantised
 size-within (fin s m e) h =
-    le_trans (le_of_eq (signed-size s (halfUp (m * up e * 2 ^ 24) (down e))))
+    le_trans (le_of_eq (signed-size s (half_up (m * up e * 2 ^ 24) (down e))))
     (half_le (m * up e * 2 ^ 24) (down e) (2 ^ 40) (down_pos e) (omega (arith, mul-le-mul_right (2 ^ 24) h)))
 
 pub quantised-size : (x : Float) → acceptable x ≡ true → nat_abs (quantised x) ≤ 2 ^ 40

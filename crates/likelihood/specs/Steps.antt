@@ -3,11 +3,11 @@ use Rattle.std.specs.Prelude.{◌≡◌, Bool, true, false, cond, ℕ, ◌+◌, 
 use Rattle.std.specs.Float.{binary32}
 use Rattle.std.specs.Float.Ieee.{round, of_fields, of_bits}
 use Rattle.std.specs.Float.Ieee.Nearest.{closest}
-use Rattle.likelihood.specs.Likelihood.{halfUp, signed, quantised}
+use Rattle.likelihood.specs.Likelihood.{half_up, signed, quantised}
 
 -- num / den to the nearest whole number: a half upwards, or to the even one
 abbrev pub rounded : Bool → ℕ → ℕ → ℕ
-rounded true num den = halfUp num den
+rounded true num den = half_up num den
 rounded false num den = closest num den
 
 -- r is the size of the quantised f32 whose exponent's field is E and whose digits below the leading one are t, whichever its sign.

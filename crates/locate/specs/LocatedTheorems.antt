@@ -8,12 +8,12 @@ use Rattle.refusals.specs.declared.Admission.{Admission}
 use Rattle.refusals.specs.declared.Admission.TheVariants as admission
 use Rattle.hard.specs.Placings.{MostOther, Sole}
 use Rattle.hard.specs.PlacingsLaws.{sole-only}
-use Rattle.hard.specs.SelectTheorems.{hitsAtKey}
+use Rattle.hard.specs.SelectTheorems.{hits_at_key}
 use Rattle.locate_answer.specs.declared.Located.{Located}
 use Rattle.locate_answer.specs.declared.LocateAnswer.{LocateAnswer}
 use Rattle.locate_answer.specs.declared.LocateAnswer.TheVariants.{Found, Refused}
-use Rattle.locate_admission.specs.LocateAdmission.{locateAdmission}
-use Rattle.locate.specs.Located.{FirstOther, originsOf, squareAt, FoundAs, RefusedAs, LocatedAs, AfterChecks, LocateDone}
+use Rattle.locate_admission.specs.LocateAdmission.{locate_admission}
+use Rattle.locate.specs.Located.{FirstOther, origins_of, square_at, FoundAs, RefusedAs, LocatedAs, AfterChecks, LocateDone}
 
 -- ---- the first of the others is one placing, with one number of hits
 module _ (n none : ℕ) (hit : ℕ → ℕ → ℕ) (p k q j r q' j' r' : ℕ) (A : FirstOther n none hit p k q j r) (A' : FirstOther n none hit p k q' j' r') where
@@ -36,11 +36,11 @@ most_other n none edges limit hit p k q j r A = record { reached = (q, j, A.list
 module _ (B : Board) (E : EdgeList) (ts : List ℕ) (limit : Float) where
   found-one : (l m : Located) → FoundAs B E ts limit l → FoundAs B E ts limit m → l ≡ m
   found-one l m X Y =
-      let o = sole-only (length ts) (originsOf B) (size E) limit (hitsAtKey B E ts) X.listed X.key Y.listed Y.key X.sole Y.sole in
-      let Z : FirstOther (length ts) (originsOf B) (hitsAtKey B E ts) Y.listed Y.key X.other-listed X.other_key l.runner_up_hits = rw (o.0, o.1) at X.others in
-      let h = other-hits (length ts) (originsOf B) (hitsAtKey B E ts) Y.listed Y.key X.other-listed X.other_key l.runner_up_hits Y.other-listed Y.other_key m.runner_up_hits Z Y.others in
-      let w = other-one (length ts) (originsOf B) (hitsAtKey B E ts) Y.listed Y.key X.other-listed X.other_key l.runner_up_hits Y.other-listed Y.other_key m.runner_up_hits Z Y.others in
-      same (X.square ∙ ap₂ (squareAt B ts) o.0 o.1 ∙ sym Y.square) (X.hits ∙ ap₂ (hitsAtKey B E ts) o.0 o.1 ∙ sym Y.hits) (X.runner-up ∙ ap₂ (squareAt B ts) w.0 w.1 ∙ sym Y.runner-up) h
+      let o = sole-only (length ts) (origins_of B) (size E) limit (hits_at_key B E ts) X.listed X.key Y.listed Y.key X.sole Y.sole in
+      let Z : FirstOther (length ts) (origins_of B) (hits_at_key B E ts) Y.listed Y.key X.other_listed X.other_key l.runner_up_hits = rw (o.0, o.1) at X.others in
+      let h = other-hits (length ts) (origins_of B) (hits_at_key B E ts) Y.listed Y.key X.other_listed X.other_key l.runner_up_hits Y.other_listed Y.other_key m.runner_up_hits Z Y.others in
+      let w = other-one (length ts) (origins_of B) (hits_at_key B E ts) Y.listed Y.key X.other_listed X.other_key l.runner_up_hits Y.other_listed Y.other_key m.runner_up_hits Z Y.others in
+      same (X.square ∙ ap₂ (square_at B ts) o.0 o.1 ∙ sym Y.square) (X.hits ∙ ap₂ (hits_at_key B E ts) o.0 o.1 ∙ sym Y.hits) (X.runner-up ∙ ap₂ (square_at B ts) w.0 w.1 ∙ sym Y.runner-up) h
     where
       same : l.square ≡ m.square → l.hits ≡ m.hits → l.runner_up ≡ m.runner_up → l.runner_up_hits ≡ m.runner_up_hits → l ≡ m
       same a b c d = λ i. record { square = a i; hits = b i; runner_up = c i; runner_up_hits = d i }
@@ -51,7 +51,7 @@ module _ (B : Board) (E : EdgeList) (ts : List ℕ) (limit : Float) where
   refused-one r s (inr a) (inl b) = let w = a.1 in clash (b.1 w.0 w.1 w.2 w.3) w.4
   refused-one r s (inr a) (inr b) = a.0 ∙ sym b.0
 
-  pub never_both : (r : Refusal) (p k : ℕ) → RefusedAs B E ts limit r → Sole (length ts) (originsOf B) (size E) limit (hitsAtKey B E ts) p k → ⊥
+  pub never_both : (r : Refusal) (p k : ℕ) → RefusedAs B E ts limit r → Sole (length ts) (origins_of B) (size E) limit (hits_at_key B E ts) p k → ⊥
   never_both r p k (inl a) Z = clash (a.1 p k Z.listed Z.key) Z.allowed
   never_both r p k (inr a) Z = a.2 p k Z
 
@@ -68,7 +68,7 @@ module _ (B : Board) (E : EdgeList) (ts : List ℕ) (limit : Float) where
 
   -- ANY TWO ANSWERS THAT THE CONTRACT OF `locate` ALLOWS ARE EQUAL
   pub locate-unique : (a b : LocateAnswer) → LocateDone B E ts limit a → LocateDone B E ts limit b → a ≡ b
-  locate-unique a b X Y = go (locateAdmission E ts B limit) X.done Y.done
+  locate-unique a b X Y = go (locate_admission E ts B limit) X.done Y.done
     where
       go : (x : Admission) → AfterChecks B E ts limit x a → AfterChecks B E ts limit x b → a ≡ b
       go (admission.Refused r) d e = d ∙ sym e

@@ -1,7 +1,7 @@
 // Whether a call with one list and no room is taken on: the early refusals 2 to 5, 7 to 9, 16 and 17, the first in their order, or accepted.
 ghost use Rattle.std.specs.Prelude.{◌≡◌};
 ghost use Rattle.board.specs.Hits.{edges, tables};
-ghost use Rattle.locate_admission.specs.LocateAdmission.{locateAdmission};
+ghost use Rattle.locate_admission.specs.LocateAdmission.{locate_admission};
 
 use admission::refusal::tables_bad;
 use findings::{list_admission, settings_admission};
@@ -19,7 +19,7 @@ pub fn locate_admission(
     v: &[u8],
     error_limit: f32,
 ) -> Admission
-    ensures { result ≡ locateAdmission
+    ensures { result ≡ locate_admission
         (edges rows.now cols.now orientations.now bits.now confidences.now)
         transforms.now (tables h.now v.now) error_limit }
 {

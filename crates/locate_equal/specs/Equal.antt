@@ -7,8 +7,8 @@ use Rattle.refusals.specs.declared.Place.{Place}
 use Rattle.refusals.specs.declared.Place.TheVariants.{Nowhere, At}
 use Rattle.refusals.specs.declared.ListName.TheVariants as list
 use Rattle.refusals.specs.declared.Admission.TheVariants as admission
-use Rattle.admission.specs.Calls.{hardCall}
-use Rattle.admission.specs.Refusals.{roomShort, hardAdmission}
+use Rattle.admission.specs.Calls.{hard_call}
+use Rattle.admission.specs.Refusals.{room_short, hard_admission}
 use Rattle.hard.specs.Select.{SelectReady}
 use Rattle.decide.specs.declared.Outcome.{Outcome}
 use Rattle.decide.specs.declared.Outcome.TheVariants as tables
@@ -18,13 +18,13 @@ use Rattle.locate_answer.specs.declared.LocateAnswer.{LocateAnswer}
 use Rattle.locate_answer.specs.declared.LocateAnswer.TheVariants.{Found, Refused}
 
 -- a place in the only list of a call, as a place in the logical list of a call with two
-abbrev pub logicalPlace : Place → Place
-logicalPlace Nowhere = Nowhere
-logicalPlace (At e) = At (record { list = list.Logical; position = e.position })
+abbrev pub logical_place : Place → Place
+logical_place Nowhere = Nowhere
+logical_place (At e) = At (record { list = list.Logical; position = e.position })
 
 -- the same of a refusal: its number, and the position of its edge, stay
-abbrev pub asLogical : Refusal → Refusal
-asLogical r = record { number = r.number; place = logicalPlace r.place }
+abbrev pub as_logical : Refusal → Refusal
+as_logical r = record { number = r.number; place = logical_place r.place }
 
 -- the same answer: the same refusal, or the same placing (transform, row, column), hits and runner-up hits
 abbrev pub Same : List ℕ → Outcome → LocateAnswer → Type 0
@@ -35,8 +35,8 @@ Same ts (tables.Decided w runner-up) a =
 -- THE TWO ENGINES ANSWER THE SAME, in whatever room is long enough: where the hard call's checks refuse, with the same number and the same edge; else as selection and gate decide the list, which is then
 -- ready for them
 pub record SameAsTables (B : Board) (E : EdgeList) (ts : List ℕ) (limit : Float) (a : LocateAnswer) : Type 0 where
-  pub early : (c : List ℕ) (w : List Float) → roomShort (length B.h) (length c) (length w) ≡ false → (x : Refusal)
-      → hardAdmission (hardCall E E ts B limit) (length c) (length w) ≡ admission.Refused x → (r : Refusal) × (a ≡ Refused r) × (x ≡ asLogical r)
-  pub ready : (c : List ℕ) (w : List Float) → roomShort (length B.h) (length c) (length w) ≡ false → hardAdmission (hardCall E E ts B limit) (length c) (length w) ≡ admission.Accepted → SelectReady B E ts c w
-  pub late : (c : List ℕ) (w : List Float) → roomShort (length B.h) (length c) (length w) ≡ false → hardAdmission (hardCall E E ts B limit) (length c) (length w) ≡ admission.Accepted
+  pub early : (c : List ℕ) (w : List Float) → room_short (length B.h) (length c) (length w) ≡ false → (x : Refusal)
+      → hard_admission (hard_call E E ts B limit) (length c) (length w) ≡ admission.Refused x → (r : Refusal) × (a ≡ Refused r) × (x ≡ as_logical r)
+  pub ready : (c : List ℕ) (w : List Float) → room_short (length B.h) (length c) (length w) ≡ false → hard_admission (hard_call E E ts B limit) (length c) (length w) ≡ admission.Accepted → SelectReady B E ts c w
+  pub late : (c : List ℕ) (w : List Float) → room_short (length B.h) (length c) (length w) ≡ false → hard_admission (hard_call E E ts B limit) (length c) (length w) ≡ admission.Accepted
       → (c' : List ℕ) (w' : List Float) (r : Outcome) → DecideDone B E ts limit c c' w w' r → Same ts r a

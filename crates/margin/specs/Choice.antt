@@ -11,5 +11,5 @@ choice_of Free second = Nothing
 choice_of (Held a) Free = Nothing
 choice_of (Held a) (Held b) = Chosen a b
 
-unfoldable pub softChosen : SoftScan → SoftChoice
-softChosen s = choice_of s.first s.second
+unfoldable pub soft_chosen : SoftScan → SoftChoice
+soft_chosen s = choice_of s.first s.second

@@ -5,9 +5,9 @@ use Rattle.std.specs.Float.{binary32}
 use Rattle.margin.specs.declared.slots.SoftCandidate.{SoftCandidate}
 
 -- of the totals of first and second place, over so many edges
-abbrev pub softMargin : SoftCandidate → SoftCandidate → ℕ → Float
-softMargin first second edges = div binary32 (sub binary32 first.total second.total) (of_int binary32 (pos edges))
+abbrev pub soft_margin : SoftCandidate → SoftCandidate → ℕ → Float
+soft_margin first second edges = div binary32 (sub binary32 first.total second.total) (of_int binary32 (pos edges))
 
 -- "Below the soft margin"
-abbrev pub belowMargin : Float → Float → Bool
-belowMargin margin soft-margin = lt margin soft-margin
+abbrev pub below_margin : Float → Float → Bool
+below_margin margin soft-margin = lt margin soft-margin

@@ -1,6 +1,6 @@
 // What a selection keeps by value: the two best candidates of the transforms so far, with placing and total.
 ghost use Rattle.std.specs.Prelude.{◌≡◌};
-ghost use Rattle.margin.specs.Choice.{softChosen};
+ghost use Rattle.margin.specs.Choice.{soft_chosen};
 
 use board::edge::Placing;
 
@@ -38,7 +38,7 @@ pub enum SoftChoice {
 
 // What the scan comes to: both candidates, once there was a transform.
 pub fn finish(scan: SoftScan) -> SoftChoice
-    ensures { result ≡ softChosen scan }
+    ensures { result ≡ soft_chosen scan }
 {
     let a = scan.first;
     let b = scan.second;

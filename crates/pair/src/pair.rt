@@ -2,10 +2,10 @@
 ghost use Rattle.std.specs.Prelude.{◌≡◌, not, ◌&&◌, ◌*◌, ◌<◌, eqb, length};
 ghost use Rattle.laws.specs.Words.{origins};
 ghost use Rattle.best.specs.CellTables.{Period};
-ghost use Rattle.grid.specs.RowMajor.{lowest, rowMajor};
-ghost use Rattle.level.specs.Level.{tiedSum};
+ghost use Rattle.grid.specs.RowMajor.{lowest, row_major};
+ghost use Rattle.level.specs.Level.{tied_sum};
 ghost use Rattle.level.specs.Sums.{SumsOk};
-ghost use Rattle.pair.specs.Pair.{LevelsOk, filled, otherIn, otherPair, secondPair, twoOf};
+ghost use Rattle.pair.specs.Pair.{LevelsOk, filled, other_in, other_pair, second_pair, two_of};
 
 use grid::origin::{clears_row, key_of, lower_key};
 use laws::Periods;
@@ -21,7 +21,7 @@ pub struct TwoBest {
 // The least of start and the keys of the horizontal cell h with each vertical cell of that sum. Where start clears the row of h, no vertical cell is looked at.
 fn lowest_tied_key(sums: &[i64], top: i64, h: usize, start: usize, periods: Periods) -> usize
     requires { Period periods.h × Period periods.v × (length sums.now ≡ 3 * periods.v) × (h < 3 * periods.h) }
-    ensures { result ≡ lowest (tiedSum sums.now top) ((origins periods.h periods.v).key h) start (length sums.now) }
+    ensures { result ≡ lowest (tied_sum sums.now top) ((origins periods.h periods.v).key h) start (length sums.now) }
 {
     if clears_row(start, h, periods) {
         return start;
@@ -40,7 +40,7 @@ fn lowest_tied_key(sums: &[i64], top: i64, h: usize, start: usize, periods: Peri
 // The row-major first origin over the pairs of a horizontal cell of sum ht and a vertical cell of sum vt.
 fn row_major_first_tied(hs: &[i64], ht: i64, vs: &[i64], vt: i64, periods: Periods) -> usize
     requires { Period periods.h × Period periods.v × (length hs.now ≡ 3 * periods.h) × (length vs.now ≡ 3 * periods.v) }
-    ensures { result ≡ rowMajor (origins periods.h periods.v) (length vs.now) (tiedSum hs.now ht) (tiedSum vs.now vt) (length hs.now) }
+    ensures { result ≡ row_major (origins periods.h periods.v) (length vs.now) (tied_sum hs.now ht) (tied_sum vs.now vt) (length hs.now) }
 {
     let mut best: usize = 3 * periods.h * (3 * periods.v);
     let mut h: usize = 0;
@@ -88,7 +88,7 @@ fn other_in(
     periods: Periods,
 ) -> usize
     requires { Period periods.h × Period periods.v × (length sums.now ≡ 3 * periods.v) × (h < 3 * periods.h) }
-    ensures { result ≡ otherIn (origins periods.h periods.v) (tiedSum sums.now top) h winner start (length sums.now) }
+    ensures { result ≡ other_in (origins periods.h periods.v) (tied_sum sums.now top) h winner start (length sums.now) }
 {
     let none = 3 * periods.h * (3 * periods.v);
     if start != none {
@@ -107,7 +107,7 @@ fn other_in(
 // The first pair of a horizontal cell of sum ht and a vertical cell of sum vt, by horizontal then vertical position, that is not the winner.
 fn other_pair(hs: &[i64], ht: i64, vs: &[i64], vt: i64, winner: usize, periods: Periods) -> usize
     requires { Period periods.h × Period periods.v × (length hs.now ≡ 3 * periods.h) × (length vs.now ≡ 3 * periods.v) }
-    ensures { result ≡ otherPair (origins periods.h periods.v) (length vs.now) (tiedSum hs.now ht) (tiedSum vs.now vt) winner (length hs.now) }
+    ensures { result ≡ other_pair (origins periods.h periods.v) (length vs.now) (tied_sum hs.now ht) (tied_sum vs.now vt) winner (length hs.now) }
 {
     let mut found: usize = 3 * periods.h * (3 * periods.v);
     let mut h: usize = 0;
@@ -123,7 +123,7 @@ fn other_pair(hs: &[i64], ht: i64, vs: &[i64], vt: i64, winner: usize, periods: 
 // The better of the two pairs with one second-best cell, horizontal on a tie.
 fn second_pair(a: LevelMax, b: LevelMax, periods: Periods) -> usize
     requires { Period periods.h × Period periods.v × LevelsOk periods.h periods.v a b }
-    ensures { result ≡ secondPair (origins periods.h periods.v) a b }
+    ensures { result ≡ second_pair (origins periods.h periods.v) a b }
 {
     let across = a.under + b.top;
     let down = a.top + b.under;
@@ -136,7 +136,7 @@ fn second_pair(a: LevelMax, b: LevelMax, periods: Periods) -> usize
 // The winner of a transform and its second. Where one pair is alone at the top, it is the pair of the best cells, and no table is walked again.
 pub fn two_best(hs: &[i64], vs: &[i64], periods: Periods) -> TwoBest
     requires { Period periods.h × Period periods.v × SumsOk periods.h periods.v hs.now vs.now }
-    ensures { result ≡ twoOf (origins periods.h periods.v) hs.now vs.now }
+    ensures { result ≡ two_of (origins periods.h periods.v) hs.now vs.now }
 {
     let a = level_max(hs);
     let b = level_max(vs);

@@ -29,24 +29,24 @@ pub record PartOk (part : Part) : Type 0 where
   pub across : SideOk part.col part.cols
 
 -- a start of 501 or more, or a number of 0, or of 502 or more
-unfoldable pub sideBad : ℕ → ℕ → Bool
-sideBad start number = ltb 500 start || (eqb number 0 || ltb 501 number)
+unfoldable pub side_bad : ℕ → ℕ → Bool
+side_bad start number = ltb 500 start || (eqb number 0 || ltb 501 number)
 
 -- either side
-unfoldable pub partBad : Part → Bool
-unfolding sideBad
-partBad part = sideBad part.row part.rows || sideBad part.col part.cols
+unfoldable pub part_bad : Part → Bool
+unfolding side_bad
+part_bad part = side_bad part.row part.rows || side_bad part.col part.cols
 
 -- ---- the numbers of a side in order, as two runs: what wrapped stands at 0, the rest at the start
-unfoldable pub runsOf : ℕ → ℕ → Runs
-runsOf start number =
+unfoldable pub runs_of : ℕ → ℕ → Runs
+runs_of start number =
     cond (leb (start + number) 501)
     (record { first = 0; from = start; to = start + number })
     (record { first = start + number - 501; from = start; to = 501 })
 
 -- x is in one of the two runs
-unfoldable pub inRuns : Runs → ℕ → Bool
-inRuns r x = ltb x r.first || (leb r.from x && ltb x r.to)
+unfoldable pub in_runs : Runs → ℕ → Bool
+in_runs r x = ltb x r.first || (leb r.from x && ltb x r.to)
 
 -- two runs of numbers below 501, one behind the other
 pub record RunsOk (r : Runs) : Type 0 where

@@ -1,6 +1,6 @@
 // C-20's part of a board: a rectangle of origins that starts at a row and a column, runs for a number of each, and wraps at 501.
 ghost use Rattle.std.specs.Prelude.{◌≡◌};
-ghost use Rattle.part.specs.Part.{sideBad, partBad, SideOk, runsOf};
+ghost use Rattle.part.specs.Part.{side_bad, part_bad, SideOk, runs_of};
 
 // The part that was printed: the row and the column at which its origins start, 0 to 500, and how many rows and columns of origins it has, 1 to 501.
 #[derive(Drop)]
@@ -21,7 +21,7 @@ pub struct Runs {
 
 // Whether a start or a number of rows or columns is out of range.
 fn side_bad(start: u32, number: u32) -> bool
-    ensures { result ≡ sideBad start number }
+    ensures { result ≡ side_bad start number }
 {
     if start > 500 {
         return true;
@@ -34,7 +34,7 @@ fn side_bad(start: u32, number: u32) -> bool
 
 // Whether a part's rows or columns are out of range. Nothing is added up, so no value wraps.
 pub fn part_bad(part: Part) -> bool
-    ensures { result ≡ partBad part }
+    ensures { result ≡ part_bad part }
 {
     if side_bad(part.row, part.rows) {
         return true;
@@ -45,7 +45,7 @@ pub fn part_bad(part: Part) -> bool
 // The runs of a side: one run where it ends by 501, else also what wrapped to 0.
 pub fn runs_of(start: u32, number: u32) -> Runs
     requires { SideOk start number }
-    ensures { result ≡ runsOf start number }
+    ensures { result ≡ runs_of start number }
 {
     let from = start as usize;
     let end = from + number as usize;

@@ -7,7 +7,7 @@ use Rattle.part.specs.declared.Part.{Part}
 use Rattle.part.specs.Part.{PartOk}
 
 -- hard decode's conditions of a flat board: "1 goes by the room for 167", 3,006 of each; "8 for any L but 167"; 9 for the error limit. Then "9 for a start or size out of range"
-unfoldable pub partEarly : HardCall → Part → ℕ → ℕ → List Condition
-partEarly call part counts units =
-    early (λ P. P call.logical × P call.physical) 1 call.transforms (λ L. L ≡ 167) call.board ((3006 ≤ counts) × (3006 ≤ units)) (Unit {0}) (Unit {0}) (Between 0 1 call.error-limit)
+unfoldable pub part_early : HardCall → Part → ℕ → ℕ → List Condition
+part_early call part counts units =
+    early (λ P. P call.logical × P call.physical) 1 call.transforms (λ L. L ≡ 167) call.board ((3006 ≤ counts) × (3006 ≤ units)) (Unit {0}) (Unit {0}) (Between 0 1 call.error_limit)
     ++ ((9, PartOk part) ∷ [])

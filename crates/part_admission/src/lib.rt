@@ -1,8 +1,8 @@
 // Whether a call over a part of a flat board is taken on (request C-20): the early refusals 1 to 5, 7 to 9, 16 and 17, the first in their order over both lists, or accepted.
 ghost use Rattle.std.specs.Prelude.{◌≡◌};
 ghost use Rattle.board.specs.Hits.{edges, tables};
-ghost use Rattle.admission.specs.Calls.{hardCall};
-ghost use Rattle.part_admission.specs.PartAdmission.{flatTablesBad, partSettingsBad, partAdmission};
+ghost use Rattle.admission.specs.Calls.{hard_call};
+ghost use Rattle.part_admission.specs.PartAdmission.{flat_tables_bad, part_settings_bad, part_admission};
 
 use admission::refusal::room_short;
 use findings::{list_admission, refused_if, settings_admission};
@@ -14,14 +14,14 @@ const FLAT_LENGTH: usize = 167;
 
 // Whether one of the two pattern tables is none of a flat board, where both have 167 entries.
 fn flat_tables_bad(h: &[u8], v: &[u8]) -> bool
-    ensures { result ≡ flatTablesBad (tables h.now v.now) }
+    ensures { result ≡ flat_tables_bad (tables h.now v.now) }
 {
     ranges::vertical_bad(h) || ranges::vertical_bad(v)
 }
 
 // Whether the error limit is no number from 0 to 1, or the part's start or size is out of range.
 fn settings_bad(error_limit: f32, part: Part) -> bool
-    ensures { result ≡ partSettingsBad error_limit part }
+    ensures { result ≡ part_settings_bad error_limit part }
 {
     if ranges::in_range(error_limit, 1.0f32) {
         return part::part_bad(part);
@@ -49,8 +49,8 @@ pub fn part_admission(
     counts: usize,
     units: usize,
 ) -> Admission
-    ensures { result ≡ partAdmission
-        (hardCall
+    ensures { result ≡ part_admission
+        (hard_call
         (edges lrows.now lcols.now lorientations.now lbits.now lconfidences.now)
         (edges prows.now pcols.now porientations.now pbits.now pconfidences.now)
         transforms.now (tables h.now v.now) error_limit) part counts units }

@@ -1,11 +1,11 @@
 // What an accepted call over a part answers (request C-20): the winners of both lists over the part by hits and then weight, judged by hits.
 ghost use Rattle.std.specs.Prelude.{◌≡◌, length};
 ghost use Rattle.board.specs.Hits.{edges, tables};
-ghost use Rattle.admission.specs.Calls.{hardCall};
+ghost use Rattle.admission.specs.Calls.{hard_call};
 ghost use Rattle.admission.specs.Accepted.{HardAccepted};
-ghost use Rattle.exact.specs.Select.{unitsTo};
+ghost use Rattle.exact.specs.Select.{units_to};
 ghost use Rattle.part.specs.Part.{PartOk};
-ghost use Rattle.part_core.specs.PartCore.{shownBeside, judgedPart, PartCoreDone};
+ghost use Rattle.part_core.specs.PartCore.{shown_beside, judged_part, PartCoreDone};
 ghost use Rattle.part_core.specs.PartReady.{NextListed, PartJudgeReady};
 
 use answer::Square;
@@ -20,7 +20,7 @@ use part_verdict::judge_part;
 // What is shown beside the winner: the runner-up with its square, whose transform stands at its list position, or that there is none.
 fn shown_beside(transforms: &[u8], next: PartNext) -> PartRunnerUp
     requires { NextListed transforms.now next }
-    ensures { result ≡ shownBeside transforms.now next }
+    ensures { result ≡ shown_beside transforms.now next }
 {
     match next {
         PartNext::NoneShown => PartRunnerUp::NoneShown,
@@ -46,7 +46,7 @@ fn judge_winners(
     p: ExactWinner,
 ) -> PartAnswer
     requires { PartJudgeReady (length rows.now) confidences.now transforms.now w next p }
-    ensures { result ≡ judgedPart (length rows.now) (unitsTo confidences.now (length confidences.now)) transforms.now w next p }
+    ensures { result ≡ judged_part (length rows.now) (units_to confidences.now (length confidences.now)) transforms.now w next p }
 {
     let total = unit_sum(confidences);
     let beside = shown_beside(transforms, next);
@@ -84,13 +84,13 @@ pub fn part_core<'a>(
     units: &mut [u64],
 ) -> PartAnswer
     requires hard_accepted { HardAccepted
-        (hardCall
+        (hard_call
         (edges lrows.now lcols.now lorientations.now lbits.now lconfidences.now)
         (edges prows.now pcols.now porientations.now pbits.now pconfidences.now)
         transforms.now (tables h.now v.now) error_limit) (length units.old) (length units.old) }
     requires h_len { (length h.now ≡ 167) × PartOk part }
     ensures { PartCoreDone
-        (hardCall
+        (hard_call
         (edges lrows.now lcols.now lorientations.now lbits.now lconfidences.now)
         (edges prows.now pcols.now porientations.now pbits.now pconfidences.now)
         transforms.now (tables h.now v.now) error_limit) part

@@ -2,14 +2,14 @@
 -- weights, edge by edge. No selection and no table occurs.
 use Rattle.std.specs.Prelude.{◌≡◌, true, false, List, ℕ, ◌+◌, ◌-◌, ◌<◌, length, Float}
 use Rattle.board.specs.declared.edge.Placing.{Placing}
-use Rattle.board.specs.Hits.{EdgeList, Board, size, hitsAt}
-use Rattle.scan.specs.Scan.{overLimit}
+use Rattle.board.specs.Hits.{EdgeList, Board, size, hits_at}
+use Rattle.scan.specs.Scan.{over_limit}
 use Rattle.admission.specs.Calls.{HardCall}
-use Rattle.figures.specs.Figures.{rateOf}
+use Rattle.figures.specs.Figures.{rate_of}
 use Rattle.demand.specs.Demand.{Same, Names}
 use Rattle.demand.specs.Late.{SameSquare}
-use Rattle.exact.specs.Winner.{weightAt}
-use Rattle.exact_core.specs.ExactCore.{totalUnits}
+use Rattle.exact.specs.Winner.{weight_at}
+use Rattle.exact_core.specs.ExactCore.{total_units}
 use Rattle.part.specs.declared.Part.{Part}
 use Rattle.part.specs.Part.{OnPart}
 use Rattle.part_select.specs.PartWinner.{IsPartWinner, IsPartNext}
@@ -25,18 +25,18 @@ pub record OnePlacing (ts : List ℕ) (part : Part) : Type 0 where
 
 -- a placing of the part is within the error limit
 abbrev pub WithinPart : Board → EdgeList → List ℕ → Part → Float → Placing → Type 0
-WithinPart B E ts part limit P = OnPart ts part P × (overLimit (size E) limit (hitsAt B E ts P) ≡ false)
+WithinPart B E ts part limit P = OnPart ts part P × (over_limit (size E) limit (hits_at B E ts P) ≡ false)
 
 -- none is
 abbrev pub NoneOfPartWithin : Board → EdgeList → List ℕ → Part → Float → Type 0
-NoneOfPartWithin B E ts part limit = (Q : Placing) → OnPart ts part Q → overLimit (size E) limit (hitsAt B E ts Q) ≡ true
+NoneOfPartWithin B E ts part limit = (Q : Placing) → OnPart ts part Q → over_limit (size E) limit (hits_at B E ts Q) ≡ true
 
 -- a placing of the part "is within the error limit, beats the hits of every other" of the part "by more than its own misses"; where there is no other, it beats 0 hits so
 pub record PartLeads (B : Board) (E : EdgeList) (ts : List ℕ) (part : Part) (limit : Float) (P : Placing) : Type 0 where
-  pub on-part : OnPart ts part P
-  pub within : overLimit (size E) limit (hitsAt B E ts P) ≡ false
-  pub ahead : (Q : Placing) → OnPart ts part Q → (Same Q P → ⊥) → hitsAt B E ts Q + (size E - hitsAt B E ts P) < hitsAt B E ts P
-  pub alone : OnePlacing ts part → 0 + (size E - hitsAt B E ts P) < hitsAt B E ts P
+  pub on_part : OnPart ts part P
+  pub within : over_limit (size E) limit (hits_at B E ts P) ≡ false
+  pub ahead : (Q : Placing) → OnPart ts part Q → (Same Q P → ⊥) → hits_at B E ts Q + (size E - hits_at B E ts P) < hits_at B E ts P
+  pub alone : OnePlacing ts part → 0 + (size E - hits_at B E ts P) < hits_at B E ts P
 
 -- none of the part leads
 abbrev pub NoneOfPartLeads : Board → EdgeList → List ℕ → Part → Float → Type 0
@@ -51,18 +51,18 @@ pub record PartWins (B : Board) (E : EdgeList) (ts : List ℕ) (part : Part) (P 
 -- what is shown beside the placing P: none in that one case, and else "a runner-up that is another placing" of the part "with hits no third exceeds", the earliest of those, with its hits and weight
 abbrev pub Beside : Board → EdgeList → List ℕ → Part → Placing → PartRunnerUp → Type 0
 Beside B E ts part P NoneShown = OnePlacing ts part
-Beside B E ts part P (Shown square hits weight) = (Q : Placing) × IsPartNext B E ts part P Q × Names ts Q square × (hits ≡ hitsAt B E ts Q) × (weight ≡ weightAt B E ts Q)
+Beside B E ts part P (Shown square hits weight) = (Q : Placing) × IsPartNext B E ts part P Q × Names ts Q square × (hits ≡ hits_at B E ts Q) × (weight ≡ weight_at B E ts Q)
 
 -- "one placing of the logical list" leads over the part "and agrees with the winner of the physical list" over the part; the answer gives that placing and what is shown beside it; hits, weights
 -- and rate are those of the placings and of the list, edge by edge
 pub record PartAnswered (call : HardCall) (part : Part) (d : PartDecoded) : Type 0 where
   pub square : Placing
-  pub leads : PartLeads call.board call.logical call.transforms part call.error-limit square
+  pub leads : PartLeads call.board call.logical call.transforms part call.error_limit square
   pub agrees : PartWins call.board call.physical call.transforms part square
   pub names : Names call.transforms square d.square
-  pub hits : d.hits ≡ hitsAt call.board call.logical call.transforms square
+  pub hits : d.hits ≡ hits_at call.board call.logical call.transforms square
   pub edges : d.edges ≡ size call.logical
-  pub weight : d.weight ≡ weightAt call.board call.logical call.transforms square
-  pub total : d.total ≡ totalUnits call.logical
-  pub rate : d.error_rate ≡ rateOf (size call.logical) (hitsAt call.board call.logical call.transforms square)
+  pub weight : d.weight ≡ weight_at call.board call.logical call.transforms square
+  pub total : d.total ≡ total_units call.logical
+  pub rate : d.error_rate ≡ rate_of (size call.logical) (hits_at call.board call.logical call.transforms square)
   pub beside : Beside call.board call.logical call.transforms part square d.runner_up

@@ -1,35 +1,35 @@
 -- C-20, placings in order: the winner has the greatest value (most hits, then weight), the earliest on a tie. The runner-up is the first of the others with most hits.
 use Rattle.std.specs.Prelude.{◌≡◌, Bool, true, cond, ◌&&◌, ℕ, zero, suc, ◌+◌, ◌≤◌, ◌<◌, eqb, ltb}
-use Rattle.values.specs.Values.{hitsOf}
+use Rattle.values.specs.Values.{hits_of}
 use Rattle.part_scan.specs.declared.kept.Offer.{Offer}
 use Rattle.part_scan.specs.declared.kept.PartKept.{PartKept}
 use Rattle.part_scan.specs.declared.kept.PartKept.TheVariants.{Nobody, One, Two}
 
 -- the hits of an offer
-abbrev pub hitsIn : Offer → ℕ
-hitsIn c = hitsOf c.value
+abbrev pub hits_in : Offer → ℕ
+hits_in c = hits_of c.value
 
 -- behind a new winner: the old winner w, unless r has as many hits and stands earlier
 unfoldable pub second_of : Offer → Offer → Offer
-second_of w r = cond (eqb (hitsIn w) (hitsIn r) && ltb r.number w.number) r w
+second_of w r = cond (eqb (hits_in w) (hits_in r) && ltb r.number w.number) r w
 
 -- after a c that is no winner: r, unless c has more hits
 unfoldable pub next_of : Offer → Offer → Offer
-next_of r c = cond (ltb (hitsIn r) (hitsIn c)) c r
+next_of r c = cond (ltb (hits_in r) (hits_in c)) c r
 
 -- the second placing, and each further one
-unfoldable pub offeredOne : Offer → Offer → PartKept
-offeredOne w c = cond (ltb w.value c.value) (Two c w) (Two w c)
+unfoldable pub offered_one : Offer → Offer → PartKept
+offered_one w c = cond (ltb w.value c.value) (Two c w) (Two w c)
 
-unfoldable pub offeredTwo : Offer → Offer → Offer → PartKept
+unfoldable pub offered_two : Offer → Offer → Offer → PartKept
 unfolding second_of next_of
-offeredTwo w r c = cond (ltb w.value c.value) (Two c (second_of w r)) (Two w (next_of r c))
+offered_two w r c = cond (ltb w.value c.value) (Two c (second_of w r)) (Two w (next_of r c))
 
 -- what is kept after c
 abbrev pub offered : PartKept → Offer → PartKept
 offered Nobody c = One c
-offered (One w) c = offeredOne w c
-offered (Two w r) c = offeredTwo w r c
+offered (One w) c = offered_one w c
+offered (Two w r) c = offered_two w r c
 
 -- ---- numbers in order: of the n numbers from a on, those inside are offered, each with its value
 unfoldable pub walked : (ℕ → Bool) → (ℕ → ℕ) → PartKept → ℕ → ℕ → PartKept
@@ -51,8 +51,8 @@ pub record RunsUp (inside : ℕ → Bool) (value : ℕ → ℕ) (n m : ℕ) (r :
   pub here : inside r.number ≡ true
   pub at : r.value ≡ value r.number
   pub other : r.number ≡ m → ⊥
-  pub most : (k : ℕ) → k < n → inside k ≡ true → (k ≡ m → ⊥) → hitsOf (value k) ≤ hitsIn r
-  pub first : (k : ℕ) → k < n → inside k ≡ true → (k ≡ m → ⊥) → hitsOf (value k) ≡ hitsIn r → r.number ≤ k
+  pub most : (k : ℕ) → k < n → inside k ≡ true → (k ≡ m → ⊥) → hits_of (value k) ≤ hits_in r
+  pub first : (k : ℕ) → k < n → inside k ≡ true → (k ≡ m → ⊥) → hits_of (value k) ≡ hits_in r → r.number ≤ k
 
 -- nobody where no number is inside; one where it is the only one; else the winner and the runner-up
 abbrev pub Leads : (ℕ → Bool) → (ℕ → ℕ) → ℕ → PartKept → Type 0

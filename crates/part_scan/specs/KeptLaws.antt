@@ -8,32 +8,32 @@ use Rattle.std.proofs.Math.Numerals.{add-one}
 use borrow.Author.Tests.{lt-ltb, le-ltb, eq-eqb, ne_eqb}
 use Rattle.part_scan.specs.declared.kept.Offer.{Offer}
 use Rattle.part_scan.specs.declared.kept.PartKept.{PartKept}
-use Rattle.part_scan.specs.Kept.{hitsIn, second_of, next_of, offered, walked}
+use Rattle.part_scan.specs.Kept.{hits_in, second_of, next_of, offered, walked}
 
 -- ---- the runner-up
 module _ (w r : Offer) where
   -- behind a new winner
-  pub second-early : (a b : ℕ) → a ≡ hitsIn w → b ≡ hitsIn r → a ≡ b → r.number < w.number → r ≡ second_of w r
+  pub second-early : (a b : ℕ) → a ≡ hits_in w → b ≡ hits_in r → a ≡ b → r.number < w.number → r ≡ second_of w r
   unfolding second_of
-  second-early a b x y e l = rw (eq-eqb (hitsIn w) (hitsIn r) (sym x ∙ e ∙ y), lt-ltb r.number w.number l)
+  second-early a b x y e l = rw (eq-eqb (hits_in w) (hits_in r) (sym x ∙ e ∙ y), lt-ltb r.number w.number l)
 
-  pub second-late : (a b : ℕ) → a ≡ hitsIn w → b ≡ hitsIn r → a ≡ b → w.number ≤ r.number → w ≡ second_of w r
+  pub second-late : (a b : ℕ) → a ≡ hits_in w → b ≡ hits_in r → a ≡ b → w.number ≤ r.number → w ≡ second_of w r
   unfolding second_of
-  second-late a b x y e l = rw (eq-eqb (hitsIn w) (hitsIn r) (sym x ∙ e ∙ y), le-ltb r.number w.number l)
+  second-late a b x y e l = rw (eq-eqb (hits_in w) (hits_in r) (sym x ∙ e ∙ y), le-ltb r.number w.number l)
 
-  pub second-fewer : (a b : ℕ) → a ≡ hitsIn w → b ≡ hitsIn r → (a ≡ b → ⊥) → w ≡ second_of w r
+  pub second-fewer : (a b : ℕ) → a ≡ hits_in w → b ≡ hits_in r → (a ≡ b → ⊥) → w ≡ second_of w r
   unfolding second_of
-  second-fewer a b x y d = rw (ne_eqb (hitsIn w) (hitsIn r) (λ e. d (x ∙ e ∙ sym y)))
+  second-fewer a b x y d = rw (ne_eqb (hits_in w) (hits_in r) (λ e. d (x ∙ e ∙ sym y)))
 
 -- after a placing that is no winner
 module _ (r c : Offer) where
-  pub next-new : (a b : ℕ) → a ≡ hitsIn r → b ≡ hitsIn c → a < b → c ≡ next_of r c
+  pub next-new : (a b : ℕ) → a ≡ hits_in r → b ≡ hits_in c → a < b → c ≡ next_of r c
   unfolding next_of
-  next-new a b x y l = let m : hitsIn r < hitsIn c = omega (arith, x, y) in rw (lt-ltb (hitsIn r) (hitsIn c) m)
+  next-new a b x y l = let m : hits_in r < hits_in c = omega (arith, x, y) in rw (lt-ltb (hits_in r) (hits_in c) m)
 
-  pub next-old : (a b : ℕ) → a ≡ hitsIn r → b ≡ hitsIn c → b ≤ a → r ≡ next_of r c
+  pub next-old : (a b : ℕ) → a ≡ hits_in r → b ≡ hits_in c → b ≤ a → r ≡ next_of r c
   unfolding next_of
-  next-old a b x y l = let m : hitsIn c ≤ hitsIn r = omega (arith, x, y) in rw (le-ltb (hitsIn r) (hitsIn c) m)
+  next-old a b x y l = let m : hits_in c ≤ hits_in r = omega (arith, x, y) in rw (le-ltb (hits_in r) (hits_in c) m)
 
 -- ---- walks
 -- one number of a walk

@@ -9,12 +9,12 @@ use native.Mathlib.Omega.{arith}
 use Rattle.std.proofs.Math.Dec.{eqb, ltb}
 use borrow.Author.Tests.{lt-ltb, le-ltb, ltb-true, ltb-false, eqb-true, eqb-false}
 use Rattle.laws.specs.Tests.{clash, compared, decided, split, and-true, and-false, not_so}
-use Rattle.values.specs.Values.{hitsOf}
+use Rattle.values.specs.Values.{hits_of}
 use Rattle.values.specs.ValuesLaws.{more-hits}
 use Rattle.part_scan.specs.declared.kept.Offer.{Offer}
 use Rattle.part_scan.specs.declared.kept.PartKept.{PartKept}
 use Rattle.part_scan.specs.declared.kept.PartKept.TheVariants.{Nobody, One, Two}
-use Rattle.part_scan.specs.Kept.{hitsIn, second_of, next_of, offeredOne, offeredTwo, offered, walked, Wins, RunsUp, Leads}
+use Rattle.part_scan.specs.Kept.{hits_in, second_of, next_of, offered_one, offered_two, offered, walked, Wins, RunsUp, Leads}
 
 module _ (inside : ℕ → Bool) (value : ℕ → ℕ) where
   -- ---- a number that is not inside changes nothing
@@ -96,12 +96,12 @@ module _ (inside : ℕ → Bool) (value : ℕ → ℕ) where
       here = t;
       at = refl;
       other = λ e. omega (arith, W.under);
-      most = λ k l i d. ⊎_elim (λ e. omega (arith, ap (λ (x : ℕ). hitsOf (value x)) e)) (λ m. absurd (d (only k m i))) (split k n l);
+      most = λ k l i d. ⊎_elim (λ e. omega (arith, ap (λ (x : ℕ). hits_of (value x)) e)) (λ m. absurd (d (only k m i))) (split k n l);
       first = λ k l i d v. ⊎_elim (λ e. omega arith) (λ m. absurd (d (only k m i))) (split k n l);
     }
 
     -- the old winner, behind a new one: where the old runner-up has fewer hits or stands later
-    winner-behind : (w r : Offer) → Wins inside value n w → RunsUp inside value n w.number r → (hitsIn w ≡ hitsIn r → w.number ≤ r.number) → RunsUp inside value (suc n) n w
+    winner-behind : (w r : Offer) → Wins inside value n w → RunsUp inside value n w.number r → (hits_in w ≡ hits_in r → w.number ≤ r.number) → RunsUp inside value (suc n) n w
     winner-behind w r W R later = record {
       under = omega (arith, W.under);
       here = W.here;
@@ -111,16 +111,16 @@ module _ (inside : ℕ → Bool) (value : ℕ → ℕ) where
       first = λ k l i d v. ⊎_elim (λ e. absurd (d e)) (λ m. early k m i v) (split k n l);
     }
       where
-        early : (k : ℕ) → k < n → inside k ≡ true → hitsOf (value k) ≡ hitsIn w → w.number ≤ k
+        early : (k : ℕ) → k < n → inside k ≡ true → hits_of (value k) ≡ hits_in w → w.number ≤ k
         early k m i v = ⊎_elim (λ e. omega (arith, e)) (λ d. behind (R.most k m i d) (more-hits r.value w.value (subst (λ (x : ℕ). x ≤ w.value) (sym R.at) (W.most r.number R.under R.here))) d) (decided k w.number)
           where
-            behind : hitsOf (value k) ≤ hitsIn r → hitsIn r ≤ hitsIn w → (k ≡ w.number → ⊥) → w.number ≤ k
+            behind : hits_of (value k) ≤ hits_in r → hits_in r ≤ hits_in w → (k ≡ w.number → ⊥) → w.number ≤ k
             behind a b d =
-                let e : hitsIn w ≡ hitsIn r = omega (arith, a, b, v) in
+                let e : hits_in w ≡ hits_in r = omega (arith, a, b, v) in
                 omega (arith, later e, R.first k m i d (v ∙ e))
 
     -- the old runner-up, behind a new winner: where it has as many hits as the old winner, and stands earlier
-    runner-behind : (w r : Offer) → Wins inside value n w → RunsUp inside value n w.number r → hitsIn w ≡ hitsIn r → r.number < w.number → RunsUp inside value (suc n) n r
+    runner-behind : (w r : Offer) → Wins inside value n w → RunsUp inside value n w.number r → hits_in w ≡ hits_in r → r.number < w.number → RunsUp inside value (suc n) n r
     runner-behind w r W R h b = record {
       under = omega (arith, R.under);
       here = R.here;
@@ -131,47 +131,47 @@ module _ (inside : ℕ → Bool) (value : ℕ → ℕ) where
     }
 
     -- the new number, which has more hits than the old runner-up, and does not win
-    new-next : (w r : Offer) → Wins inside value n w → RunsUp inside value n w.number r → hitsIn r < hitsOf (value n) → RunsUp inside value (suc n) w.number c
+    new-next : (w r : Offer) → Wins inside value n w → RunsUp inside value n w.number r → hits_in r < hits_of (value n) → RunsUp inside value (suc n) w.number c
     new-next w r W R g = record {
       under = omega arith;
       here = t;
       at = refl;
       other = λ e. omega (arith, W.under);
-      most = λ k l i d. ⊎_elim (λ e. omega (arith, ap (λ (x : ℕ). hitsOf (value x)) e)) (λ m. omega (arith, R.most k m i d, g)) (split k n l);
+      most = λ k l i d. ⊎_elim (λ e. omega (arith, ap (λ (x : ℕ). hits_of (value x)) e)) (λ m. omega (arith, R.most k m i d, g)) (split k n l);
       first = λ k l i d v. ⊎_elim (λ e. omega arith) (λ m. absurd (omega (arith, R.most k m i d, g, v))) (split k n l);
     }
 
     -- the old runner-up, where the new number has no more hits
-    old-next : (w r : Offer) → RunsUp inside value n w.number r → hitsOf (value n) ≤ hitsIn r → RunsUp inside value (suc n) w.number r
+    old-next : (w r : Offer) → RunsUp inside value n w.number r → hits_of (value n) ≤ hits_in r → RunsUp inside value (suc n) w.number r
     old-next w r R g = record {
       under = omega (arith, R.under);
       here = R.here;
       at = R.at;
       other = R.other;
-      most = λ k l i d. ⊎_elim (λ e. omega (arith, g, ap (λ (x : ℕ). hitsOf (value x)) e)) (λ m. R.most k m i d) (split k n l);
+      most = λ k l i d. ⊎_elim (λ e. omega (arith, g, ap (λ (x : ℕ). hits_of (value x)) e)) (λ m. R.most k m i d) (split k n l);
       first = λ k l i d v. ⊎_elim (λ e. omega (arith, R.under)) (λ m. R.first k m i d v) (split k n l);
     }
 
     -- ---- put together
     second-right : (w r : Offer) → Wins inside value n w → RunsUp inside value n w.number r → RunsUp inside value (suc n) n (second_of w r)
     unfolding second_of
-    second-right w r W R = go (eqb (hitsIn w) (hitsIn r)) (ltb r.number w.number) refl refl
+    second-right w r W R = go (eqb (hits_in w) (hits_in r)) (ltb r.number w.number) refl refl
       where
-        go : (a b : Bool) → eqb (hitsIn w) (hitsIn r) ≡ a → ltb r.number w.number ≡ b → RunsUp inside value (suc n) n (cond (a && b) r w)
-        go true true e d = runner-behind w r W R (eqb-true (hitsIn w) (hitsIn r) e) (ltb-true r.number w.number d)
+        go : (a b : Bool) → eqb (hits_in w) (hits_in r) ≡ a → ltb r.number w.number ≡ b → RunsUp inside value (suc n) n (cond (a && b) r w)
+        go true true e d = runner-behind w r W R (eqb-true (hits_in w) (hits_in r) e) (ltb-true r.number w.number d)
         go true false e d = winner-behind w r W R (λ h. ltb-false r.number w.number d)
-        go false b e d = winner-behind w r W R (λ h. absurd (eqb-false (hitsIn w) (hitsIn r) e h))
+        go false b e d = winner-behind w r W R (λ h. absurd (eqb-false (hits_in w) (hits_in r) e h))
 
     next-right : (w r : Offer) → Wins inside value n w → RunsUp inside value n w.number r → RunsUp inside value (suc n) w.number (next_of r c)
     unfolding next_of
-    next-right w r W R = go (ltb (hitsIn r) (hitsIn c)) refl
+    next-right w r W R = go (ltb (hits_in r) (hits_in c)) refl
       where
-        go : (a : Bool) → ltb (hitsIn r) (hitsIn c) ≡ a → RunsUp inside value (suc n) w.number (cond a c r)
-        go true e = new-next w r W R (ltb-true (hitsIn r) (hitsIn c) e)
-        go false e = old-next w r R (ltb-false (hitsIn r) (hitsIn c) e)
+        go : (a : Bool) → ltb (hits_in r) (hits_in c) ≡ a → RunsUp inside value (suc n) w.number (cond a c r)
+        go true e = new-next w r W R (ltb-true (hits_in r) (hits_in c) e)
+        go false e = old-next w r R (ltb-false (hits_in r) (hits_in c) e)
 
     offers : (S : PartKept) → Leads inside value n S → Leads inside value (suc n) (offered S c)
-    unfolding offeredOne offeredTwo
+    unfolding offered_one offered_two
     offers Nobody L = (first-wins L, λ k l i. ⊎_elim (λ e. e) (λ m. absurd (L k m i)) (split k n l))
     offers (One w) L = go (ltb w.value (value n)) refl
       where

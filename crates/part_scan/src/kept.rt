@@ -1,6 +1,6 @@
 // The winner and the runner-up of the placings so far, where each placing comes later than all before it.
 ghost use Rattle.std.specs.Prelude.{◌≡◌};
-ghost use Rattle.part_scan.specs.Kept.{second_of, next_of, offeredOne, offeredTwo, offered};
+ghost use Rattle.part_scan.specs.Kept.{second_of, next_of, offered_one, offered_two, offered};
 
 use values::table::hits_of;
 
@@ -43,7 +43,7 @@ fn next_of(r: Offer, c: Offer) -> Offer
 
 // The second placing: the winner is the one of greater value, the earlier one on a tie.
 fn offer_one(w: Offer, c: Offer) -> PartKept
-    ensures { result ≡ offeredOne w c }
+    ensures { result ≡ offered_one w c }
 {
     if w.value < c.value {
         return PartKept::Two(c, w);
@@ -53,7 +53,7 @@ fn offer_one(w: Offer, c: Offer) -> PartKept
 
 // A placing more, where there are a winner and a runner-up.
 fn offer_two(w: Offer, r: Offer, c: Offer) -> PartKept
-    ensures { result ≡ offeredTwo w r c }
+    ensures { result ≡ offered_two w r c }
 {
     if w.value < c.value {
         let s = second_of(w, r);

@@ -1,9 +1,9 @@
 // The origins of a part, offered in the order of row number and then column number. The classes of a column are counted on, and no remainder is taken for each.
 ghost use Rattle.std.specs.Prelude.{◌≡◌, ◌+◌, ◌*◌, ◌-◌, ◌%◌, ◌≤◌, ◌<◌};
-ghost use Rattle.part.specs.Part.{RunsOk, inRuns};
+ghost use Rattle.part.specs.Part.{RunsOk, in_runs};
 ghost use Rattle.laws.specs.Words.{all};
 ghost use Rattle.part_scan.specs.Kept.{walked};
-ghost use Rattle.part_scan.specs.Walk.{TablesReady, numberValue, firstNumber, inCols, inBoth};
+ghost use Rattle.part_scan.specs.Walk.{TablesReady, number_value, first_number, in_cols, in_both};
 
 use crate::kept::{Offer, PartKept, keep};
 use part::Runs;
@@ -31,7 +31,7 @@ fn offer_cols<'a>(
 ) -> PartKept
     requires tables_ready { TablesReady hs.now vs.now }
     requires listed_bound { (listed < 8) × (row < 501) × (from ≤ to) × (to ≤ 501) }
-    ensures { result ≡ walked all (numberValue hs.now vs.now) kept (firstNumber listed row + from) (to - from) }
+    ensures { result ≡ walked all (number_value hs.now vs.now) kept (first_number listed row + from) (to - from) }
 {
     let base = (listed * 501 + row) * 501;
     let h = row % 167 * 3;
@@ -63,7 +63,7 @@ fn offer_row<'a>(
 ) -> PartKept
     requires tables_ready { TablesReady hs.now vs.now }
     requires listed_bound { (listed < 8) × (row < 501) × RunsOk cols }
-    ensures { result ≡ walked (inCols cols) (numberValue hs.now vs.now) kept (firstNumber listed row) 501 }
+    ensures { result ≡ walked (in_cols cols) (number_value hs.now vs.now) kept (first_number listed row) 501 }
 {
     let one = offer_cols(kept, hs, vs, listed, row, 0, cols.first);
     offer_cols(one, hs, vs, listed, row, cols.from, cols.to)
@@ -81,7 +81,7 @@ fn offer_rows<'a>(
 ) -> PartKept
     requires tables_ready { TablesReady hs.now vs.now }
     requires listed_bound { (listed < 8) × RunsOk cols × (from ≤ to) × (to ≤ 501) }
-    ensures { result ≡ walked (inCols cols) (numberValue hs.now vs.now) kept (firstNumber listed from) ((to - from) * 501) }
+    ensures { result ≡ walked (in_cols cols) (number_value hs.now vs.now) kept (first_number listed from) ((to - from) * 501) }
 {
     let mut held = kept;
     let mut row: usize = from;
@@ -103,7 +103,7 @@ pub fn offer_origins<'a>(
 ) -> PartKept
     requires tables_ready { TablesReady hs.now vs.now }
     requires listed_bound { (listed < 8) × RunsOk rows × RunsOk cols }
-    ensures { result ≡ walked (inBoth rows cols) (numberValue hs.now vs.now) kept (firstNumber listed 0) 251001 }
+    ensures { result ≡ walked (in_both rows cols) (number_value hs.now vs.now) kept (first_number listed 0) 251001 }
 {
     let one = offer_rows(kept, hs, vs, listed, cols, 0, rows.first);
     offer_rows(one, hs, vs, listed, cols, rows.from, rows.to)

@@ -1,8 +1,8 @@
 // What the scan of a part comes to.
 ghost use Rattle.std.specs.Prelude.{◌≡◌};
-ghost use Rattle.refusals.specs.Numbers.{numbered, noneWithinLimit};
+ghost use Rattle.refusals.specs.Numbers.{numbered, none_within_limit};
 ghost use Rattle.part_select.specs.declared.kept.PartSelection.TheVariants.{Refused};
-ghost use Rattle.part_select.specs.Select.{OfferOk, winnerOf, finishedWith, partFinished, SoundPart};
+ghost use Rattle.part_select.specs.Select.{OfferOk, winner_of, finished_with, part_finished, SoundPart};
 
 use crate::kept::{PartNext, PartSelection};
 use board::edge::Placing;
@@ -14,7 +14,7 @@ use values::table::{hits_of, weight_of};
 
 // The refusal where no placing is within the limit.
 fn none_within() -> PartSelection
-    ensures { result ≡ Refused (numbered noneWithinLimit) }
+    ensures { result ≡ Refused (numbered none_within_limit) }
 {
     PartSelection::Refused(Refusal {
         number: refusals::NONE_WITHIN_LIMIT,
@@ -25,7 +25,7 @@ fn none_within() -> PartSelection
 // A kept placing with its hits, its weight and where it is, from its value and its number.
 fn winner_of(c: Offer, edges: u32) -> ExactWinner
     requires { OfferOk edges c }
-    ensures { result ≡ winnerOf c }
+    ensures { result ≡ winner_of c }
 {
     let hits = hits_of(c.value) as u32;
     let weight = weight_of(c.value);
@@ -45,7 +45,7 @@ fn winner_of(c: Offer, edges: u32) -> ExactWinner
 // Refused where the winner is over the limit, since no placing of the part has more hits; else the winner with what is shown beside it.
 fn finish_with(c: Offer, next: PartNext, edges: u32, error_limit: f32) -> PartSelection
     requires { OfferOk edges c }
-    ensures { result ≡ finishedWith edges error_limit c next }
+    ensures { result ≡ finished_with edges error_limit c next }
 {
     let winner = winner_of(c, edges);
     if over_limit(edges, winner.hits, error_limit) {
@@ -57,7 +57,7 @@ fn finish_with(c: Offer, next: PartNext, edges: u32, error_limit: f32) -> PartSe
 // What the scan of a part comes to.
 pub fn finish_part(kept: PartKept, edges: u32, error_limit: f32) -> PartSelection
     requires { SoundPart edges kept }
-    ensures { result ≡ partFinished edges error_limit kept }
+    ensures { result ≡ part_finished edges error_limit kept }
 {
     match kept {
         PartKept::Nobody => none_within(),

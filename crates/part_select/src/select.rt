@@ -4,8 +4,8 @@ ghost use Rattle.board.specs.Hits.{edges, tables};
 ghost use Rattle.exact.specs.SelectLaws.{ValueRoomReady};
 ghost use Rattle.part.specs.Part.{RunsOk};
 ghost use Rattle.part_scan.specs.Kept.{walked};
-ghost use Rattle.part_scan.specs.Walk.{firstNumber, inBoth};
-ghost use Rattle.part_select.specs.Select.{roomNumber, FlatReady, PartSelectReady, PartScanDone, PartDone};
+ghost use Rattle.part_scan.specs.Walk.{first_number, in_both};
+ghost use Rattle.part_select.specs.Select.{room_number, FlatReady, PartSelectReady, PartScanDone, PartDone};
 
 use crate::finish::finish_part;
 use crate::kept::PartSelection;
@@ -26,7 +26,7 @@ fn offer_room<'a>(
 ) -> PartKept
     requires value_room_ready { ValueRoomReady periods.h periods.v units.now × (periods.h ≡ 167) × (periods.v ≡ 167) }
     requires listed_bound { (listed < 8) × RunsOk down × RunsOk across }
-    ensures { result ≡ walked (inBoth down across) (roomNumber periods.h periods.v units.now) kept (firstNumber listed 0) 251001 }
+    ensures { result ≡ walked (in_both down across) (room_number periods.h periods.v units.now) kept (first_number listed 0) 251001 }
 {
     let a = 3 * periods.h;
     let e = a + 3 * periods.v;

@@ -3,7 +3,7 @@
 use Rattle.std.specs.Prelude.{cond, ℕ}
 use Rattle.refusals.specs.Numbers.{numbered}
 use Rattle.refusals.specs.Numbers as why
-use Rattle.figures.specs.Figures.{rateOf}
+use Rattle.figures.specs.Figures.{rate_of}
 use Rattle.figures.specs.Gate.{passed}
 use Rattle.exact_scan.specs.declared.kept.ExactWinner.{ExactWinner}
 use Rattle.verdict.specs.VerdictTheorems.{test}
@@ -14,30 +14,30 @@ use Rattle.part_answer.specs.declared.PartAnswer.{PartAnswer}
 use Rattle.part_answer.specs.declared.PartAnswer.TheVariants.{Found, Refused}
 
 -- a refusal by its number, and nothing else
-abbrev pub partRefusedBy : ℕ → PartAnswer
-partRefusedBy n = Refused (numbered n)
+abbrev pub part_refused_by : ℕ → PartAnswer
+part_refused_by n = Refused (numbered n)
 
 -- the hits of the runner-up, which count as 0 where none is shown
-abbrev pub hitsShown : PartRunnerUp → ℕ
-hitsShown NoneShown = 0
-hitsShown (Shown square hits weight) = hits
+abbrev pub hits_shown : PartRunnerUp → ℕ
+hits_shown NoneShown = 0
+hits_shown (Shown square hits weight) = hits
 
 -- what a found answer says of the winner w under the transform t, with what is shown beside it, where all edges weigh `total`
-unfoldable pub partDecodedOf : ℕ → ExactWinner → PartRunnerUp → ℕ → ℕ → PartDecoded
-partDecodedOf t w next edges total = record {
+unfoldable pub part_decoded_of : ℕ → ExactWinner → PartRunnerUp → ℕ → ℕ → PartDecoded
+part_decoded_of t w next edges total = record {
   square = record { transform = t; row = w.placing.row; col = w.placing.col };
   hits = w.hits;
   edges = edges;
   weight = w.weight;
   total = total;
-  error_rate = rateOf edges w.hits;
+  error_rate = rate_of edges w.hits;
   runner_up = next;
 }
 
 -- the logical winner w under the transform t and the physical winner p under the transform s: refused by 12 where their squares differ, then by 13 where the gate is not passed, else found
-unfoldable pub partJudged : ℕ → ExactWinner → PartRunnerUp → ℕ → ExactWinner → ℕ → ℕ → PartAnswer
-unfolding partDecodedOf
-partJudged t w next s p edges total =
+unfoldable pub part_judged : ℕ → ExactWinner → PartRunnerUp → ℕ → ExactWinner → ℕ → ℕ → PartAnswer
+unfolding part_decoded_of
+part_judged t w next s p edges total =
     cond (test t w.placing s p.placing)
-    (cond (passed edges w.hits (hitsShown next)) (Found (partDecodedOf t w next edges total)) (partRefusedBy why.notFarAhead))
-    (partRefusedBy why.listsDisagree)
+    (cond (passed edges w.hits (hits_shown next)) (Found (part_decoded_of t w next edges total)) (part_refused_by why.not_far_ahead))
+    (part_refused_by why.lists_disagree)

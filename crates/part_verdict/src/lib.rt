@@ -1,6 +1,6 @@
 // The verdict on the winners of a part (request C-20), by value: whether they agree, the gate, and the found answer put together.
 ghost use Rattle.std.specs.Prelude.{◌≡◌, ◌≤◌};
-ghost use Rattle.part_verdict.specs.PartVerdict.{hitsShown, partDecodedOf, partJudged};
+ghost use Rattle.part_verdict.specs.PartVerdict.{hits_shown, part_decoded_of, part_judged};
 
 use answer::Square;
 use exact_scan::kept::ExactWinner;
@@ -9,7 +9,7 @@ use refusals::{Place, Refusal};
 
 // The hits of the runner-up: 0 where none is shown.
 fn hits_shown(next: PartRunnerUp) -> u32
-    ensures { result ≡ hitsShown next }
+    ensures { result ≡ hits_shown next }
 {
     match next {
         PartRunnerUp::NoneShown => 0,
@@ -20,7 +20,7 @@ fn hits_shown(next: PartRunnerUp) -> u32
 // What a found answer says of the winner w under transform t, with what is shown beside it, where all edges weigh `total`.
 fn decoded_part(t: u8, w: ExactWinner, next: PartRunnerUp, edges: u32, total: u64) -> PartDecoded
     requires { (w.hits ≤ edges) × (edges ≤ 8192) }
-    ensures { result ≡ partDecodedOf t w next edges total }
+    ensures { result ≡ part_decoded_of t w next edges total }
 {
     let square = Square {
         transform: t,
@@ -50,7 +50,7 @@ pub fn judge_part(
     total: u64,
 ) -> PartAnswer
     requires { (w.hits ≤ edges) × (edges ≤ 8192) }
-    ensures { result ≡ partJudged t w next s p edges total }
+    ensures { result ≡ part_judged t w next s p edges total }
 {
     let behind = hits_shown(next);
     if t == s {

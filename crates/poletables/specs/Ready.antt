@@ -5,10 +5,10 @@ use Rattle.board.specs.Hits.{EdgeList, Board}
 use Rattle.likelihood.specs.Likelihood.{Likelihoods}
 use Rattle.tables.specs.Built.{TablesReady}
 use Rattle.sums.specs.SumsRoom.{SumsReady}
-use Rattle.admission.specs.Calls.{SoftCall, softCall}
+use Rattle.admission.specs.Calls.{SoftCall, soft_call}
 use Rattle.admission.specs.Accepted.{SoftAccepted}
 
-module _ (E : EdgeList) (X : Likelihoods) (t : ℕ) (B : Board) (limit margin : Float) (m n k : ℕ) (A : SoftAccepted (softCall E E X (t ∷ []) B limit margin) m n k) where
+module _ (E : EdgeList) (X : Likelihoods) (t : ℕ) (B : Board) (limit margin : Float) (m n k : ℕ) (A : SoftAccepted (soft_call E E X (t ∷ []) B limit margin) m n k) where
   pub tables-ready : (c : List ℕ) (w : List Float) → length c ≡ m → length w ≡ n → TablesReady B E t c w
   tables-ready c w e d = record { list = A.hard.physical; board = A.hard.board; transform = A.hard.transforms.small 0 (lit< tt); room = (rw e A.hard.room.0, rw d A.hard.room.1) }
 

@@ -1,6 +1,6 @@
 // Where a byte, a confidence, the transforms, a pattern table or a setting leaves its range. Each check takes every input; one of a column answers where: the first bad index, or the length.
 ghost use Rattle.std.specs.Prelude.{◌≡◌};
-ghost use Rattle.ranges.specs.Ranges.{in_range, firstBadByte, firstBadConfidence, transformsBad, poleLength, patternsBad, horizontalBad, verticalBad};
+ghost use Rattle.ranges.specs.Ranges.{in_range, first_bad_byte, first_bad_confidence, transforms_bad, pole_length, patterns_bad, horizontal_bad, vertical_bad};
 
 // How many transforms a call may list, and the last transform and pattern by number.
 const MAX_TRANSFORMS: usize = 8;
@@ -17,7 +17,7 @@ const GREATEST_LENGTH: usize = 500;
 
 // The first byte above top, or the length: orientations and bits (top 1), transform numbers and patterns (top 7).
 pub fn first_bad_byte(xs: &[u8], top: u8) -> usize
-    ensures { result ≡ firstBadByte top xs.now }
+    ensures { result ≡ first_bad_byte top xs.now }
 {
     let mut i = 0;
     while i < xs.len() {
@@ -38,7 +38,7 @@ pub fn in_range(x: f32, top: f32) -> bool
 
 // The first confidence that is no number from 0 to 1, or the length.
 pub fn first_bad_confidence(xs: &[f32]) -> usize
-    ensures { result ≡ firstBadConfidence xs.now }
+    ensures { result ≡ first_bad_confidence xs.now }
 {
     let mut i = 0;
     while i < xs.len() {
@@ -52,7 +52,7 @@ pub fn first_bad_confidence(xs: &[f32]) -> usize
 
 // Whether there are no transforms, more than eight, or one above 7.
 pub fn transforms_bad(transforms: &[u8]) -> bool
-    ensures { result ≡ transformsBad transforms.now }
+    ensures { result ≡ transforms_bad transforms.now }
 {
     let n = transforms.len();
     if n == 0 {
@@ -66,7 +66,7 @@ pub fn transforms_bad(transforms: &[u8]) -> bool
 
 // Whether a horizontal pattern table may have n entries: 4 to 500 of them and no multiple of 3. The flat board's has 167.
 pub fn pole_length(n: usize) -> bool
-    ensures { result ≡ poleLength n }
+    ensures { result ≡ pole_length n }
 {
     if n < LEAST_LENGTH {
         return false;
@@ -79,7 +79,7 @@ pub fn pole_length(n: usize) -> bool
 
 // Whether a pattern table has a length that it may not have, or an entry above 7.
 fn patterns_bad(may_be: bool, patterns: &[u8]) -> bool
-    ensures { result ≡ patternsBad may_be patterns.now }
+    ensures { result ≡ patterns_bad may_be patterns.now }
 {
     if may_be {
         return first_bad_byte(patterns, LAST) < patterns.len();
@@ -89,14 +89,14 @@ fn patterns_bad(may_be: bool, patterns: &[u8]) -> bool
 
 // Whether a horizontal pattern table has no pole's length, or an entry above 7.
 pub fn horizontal_bad(patterns: &[u8]) -> bool
-    ensures { result ≡ horizontalBad patterns.now }
+    ensures { result ≡ horizontal_bad patterns.now }
 {
     patterns_bad(pole_length(patterns.len()), patterns)
 }
 
 // Whether a vertical pattern table has not 167 entries, or one above 7.
 pub fn vertical_bad(patterns: &[u8]) -> bool
-    ensures { result ≡ verticalBad patterns.now }
+    ensures { result ≡ vertical_bad patterns.now }
 {
     patterns_bad(patterns.len() == FLAT_LENGTH, patterns)
 }

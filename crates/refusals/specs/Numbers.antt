@@ -5,80 +5,80 @@ use Rattle.refusals.specs.declared.ListName.{ListName}
 use Rattle.refusals.specs.declared.Place.TheVariants.{Nowhere, At}
 
 -- "room too short"
-abbrev pub roomTooShort : ℕ
-roomTooShort = 1
+abbrev pub room_too_short : ℕ
+room_too_short = 1
 
 -- "one list's slices differ in length"
-abbrev pub lengthsDiffer : ℕ
-lengthsDiffer = 2
+abbrev pub lengths_differ : ℕ
+lengths_differ = 2
 
 -- "a list empty (not for match statistics) or over 8,192"
-abbrev pub listSize : ℕ
-listSize = 3
+abbrev pub list_size : ℕ
+list_size = 3
 
 -- "coordinate .. outside its range", C-11: "4 now means coordinate only"
-abbrev pub badCoordinate : ℕ
-badCoordinate = 4
+abbrev pub bad_coordinate : ℕ
+bad_coordinate = 4
 
 -- C-11: "16 orientation and 17 bit come between 4 and 5 and leave the room untouched"
-abbrev pub badOrientation : ℕ
-badOrientation = 16
+abbrev pub bad_orientation : ℕ
+bad_orientation = 16
 
-abbrev pub badBit : ℕ
-badBit = 17
+abbrev pub bad_bit : ℕ
+bad_bit = 17
 
 -- "confidence NaN, below 0 or above 1"
-abbrev pub badConfidence : ℕ
-badConfidence = 5
+abbrev pub bad_confidence : ℕ
+bad_confidence = 5
 
 -- "a likelihood NaN, infinite or out of range (soft)"
-abbrev pub badLikelihood : ℕ
-badLikelihood = 6
+abbrev pub bad_likelihood : ℕ
+bad_likelihood = 6
 
 -- "transform count or number out of range"
-abbrev pub badTransform : ℕ
-badTransform = 7
+abbrev pub bad_transform : ℕ
+bad_transform = 7
 
 -- "pattern table length or byte wrong"
-abbrev pub badTable : ℕ
-badTable = 8
+abbrev pub bad_table : ℕ
+bad_table = 8
 
 -- "error limit, soft margin or given origin NaN or out of range"
-abbrev pub badSetting : ℕ
-badSetting = 9
+abbrev pub bad_setting : ℕ
+bad_setting = 9
 
 -- "total confidence is 0"
-abbrev pub noConfidence : ℕ
-noConfidence = 10
+abbrev pub no_confidence : ℕ
+no_confidence = 10
 
 -- "no listed transform's best hits are within the limit"
-abbrev pub noneWithinLimit : ℕ
-noneWithinLimit = 11
+abbrev pub none_within_limit : ℕ
+none_within_limit = 11
 
 -- "logical and physical winners differ"
-abbrev pub listsDisagree : ℕ
-listsDisagree = 12
+abbrev pub lists_disagree : ℕ
+lists_disagree = 12
 
 -- "gate not passed"
-abbrev pub notFarAhead : ℕ
-notFarAhead = 13
+abbrev pub not_far_ahead : ℕ
+not_far_ahead = 13
 
 -- "margin below the soft margin"
-abbrev pub softMargin : ℕ
-softMargin = 14
+abbrev pub soft_margin : ℕ
+soft_margin = 14
 
 -- "soft and hard winners differ"
-abbrev pub softHardDisagree : ℕ
-softHardDisagree = 15
+abbrev pub soft_hard_disagree : ℕ
+soft_hard_disagree = 15
 
 -- a refusal that is about no edge: its number, and no place
 abbrev pub numbered : ℕ → Refusal
 numbered n = record { number = n; place = Nowhere }
 
 -- C-11: "let each refusal about an edge field carry the list and the position of the first bad edge of that kind"
-abbrev pub edgeRefusal : ℕ → ListName → ℕ → Refusal
-edgeRefusal n list i = record { number = n; place = At (record { list = list; position = i }) }
+abbrev pub edge_refusal : ℕ → ListName → ℕ → Refusal
+edge_refusal n list i = record { number = n; place = At (record { list = list; position = i }) }
 
 -- an early refusal, before any work is done: 1 to 9, 16 or 17
 abbrev pub Early : ℕ → Type 0
-Early n = ((roomTooShort ≤ n) × (n ≤ badSetting)) ⊎ ((n ≡ badOrientation) ⊎ (n ≡ badBit))
+Early n = ((room_too_short ≤ n) × (n ≤ bad_setting)) ⊎ ((n ≡ bad_orientation) ⊎ (n ≡ bad_bit))

@@ -7,7 +7,7 @@ use Rattle.refusals.specs.Numbers as why
 
 -- the place of a number in the order of refusals: 1, 2, 3, 4, 16, 17, 5, 6, 7, 8, 9, and the others after them
 unfoldable pub ranked : ℕ → ℕ
-ranked n = cond (eqb n why.badOrientation) 5 (cond (eqb n why.badBit) 6 (cond (ltb why.badCoordinate n) (n + 2) n))
+ranked n = cond (eqb n why.bad_orientation) 5 (cond (eqb n why.bad_bit) 6 (cond (ltb why.bad_coordinate n) (n + 2) n))
 
 -- the refusal that comes first of two, and of two of one rank the first given; what is accepted gives way
 unfoldable pub earlier : Admission → Admission → Admission

@@ -12,23 +12,23 @@ use Rattle.refusals.specs.Numbers as why
 use Rattle.refusals.specs.Order.{ranked, earlier}
 
 module _ (n : ℕ) where
-  pub rank-orientation : n ≡ why.badOrientation → 5 ≡ ranked n
+  pub rank-orientation : n ≡ why.bad_orientation → 5 ≡ ranked n
   unfolding ranked
-  rank-orientation e = sym (rw (eq-eqb n why.badOrientation e))
+  rank-orientation e = sym (rw (eq-eqb n why.bad_orientation e))
 
-  module _ (o : n ≡ why.badOrientation → ⊥) where
-    pub rank-bit : n ≡ why.badBit → 6 ≡ ranked n
+  module _ (o : n ≡ why.bad_orientation → ⊥) where
+    pub rank-bit : n ≡ why.bad_bit → 6 ≡ ranked n
     unfolding ranked
-    rank-bit e = sym (rw (ne_eqb n why.badOrientation o, eq-eqb n why.badBit e))
+    rank-bit e = sym (rw (ne_eqb n why.bad_orientation o, eq-eqb n why.bad_bit e))
 
-    module _ (b : n ≡ why.badBit → ⊥) where
-      pub rank-after : why.badCoordinate < n → n + 2 ≡ ranked n
+    module _ (b : n ≡ why.bad_bit → ⊥) where
+      pub rank-after : why.bad_coordinate < n → n + 2 ≡ ranked n
       unfolding ranked
-      rank-after l = sym (rw (ne_eqb n why.badOrientation o, ne_eqb n why.badBit b, lt-ltb why.badCoordinate n l))
+      rank-after l = sym (rw (ne_eqb n why.bad_orientation o, ne_eqb n why.bad_bit b, lt-ltb why.bad_coordinate n l))
 
-      pub rank-before : n ≤ why.badCoordinate → n ≡ ranked n
+      pub rank-before : n ≤ why.bad_coordinate → n ≡ ranked n
       unfolding ranked
-      rank-before l = sym (rw (ne_eqb n why.badOrientation o, ne_eqb n why.badBit b, le-ltb why.badCoordinate n l))
+      rank-before l = sym (rw (ne_eqb n why.bad_orientation o, ne_eqb n why.bad_bit b, le-ltb why.bad_coordinate n l))
 
 pub left-accepted : (a b : Admission) → a ≡ Accepted → b ≡ earlier a b
 unfolding earlier

@@ -1,6 +1,6 @@
 // Refusals: why a call was refused, by name, and which of two refusals comes first.
 ghost use Rattle.std.specs.Prelude.{◌≡◌};
-ghost use Rattle.refusals.specs.Numbers.{numbered, edgeRefusal};
+ghost use Rattle.refusals.specs.Numbers.{numbered, edge_refusal};
 ghost use Rattle.refusals.specs.Order.{ranked, earlier};
 
 // The numbers of document 01's table and of the requests, under the names of the C header. Early refusals: what is wrong with the call itself.
@@ -86,7 +86,7 @@ pub fn numbered(number: u32) -> Refusal
 
 // A refusal that is about one edge.
 pub fn edge_refusal(number: u32, list: ListName, position: u32) -> Refusal
-    ensures { result ≡ edgeRefusal number list position }
+    ensures { result ≡ edge_refusal number list position }
 {
     Refusal {
         number,

@@ -9,7 +9,7 @@ use Rattle.laws.specs.Zone.{Zone}
 use Rattle.board.specs.Hits.{Board}
 use Rattle.board.specs.Domain.{BoardOk}
 use Rattle.board.specs.Sides.{is}
-use Rattle.room.specs.Room.{PeriodsOk, rowLength, cellsAt, cellsEnd, groupsAt, used, side_of, Stands, Laid}
+use Rattle.room.specs.Room.{PeriodsOk, row_length, cells_at, cells_end, groups_at, used, side_of, Stands, Laid}
 
 -- ---- the periods of an accepted board
 pub board-periods : (B : Board) → BoardOk B → PeriodsOk (record { h = length B.h; v = length B.v })
@@ -17,18 +17,18 @@ board-periods B ok = record { some = (omega (arith, ok.h.some), omega (arith, ok
 
 -- ---- the parts do not overlap
 module _ (P : Bool → ℕ) where
-  pub cells_in : (s : Bool) → cellsAt P s + 3 * P s ≤ cellsEnd P
+  pub cells_in : (s : Bool) → cells_at P s + 3 * P s ≤ cells_end P
   cells_in true = omega arith
   cells_in false = omega arith
 
-  pub groups-in : (m i : ℕ) → i < m → (s : Bool) → groupsAt P i s + P s * 6 ≤ used P m
-  groups-in m i h s = go s (le_trans (le_of_eq (sym (suc-mul i (rowLength (P true) (P false))))) (mul-le-mul_right (rowLength (P true) (P false)) h))
+  pub groups-in : (m i : ℕ) → i < m → (s : Bool) → groups_at P i s + P s * 6 ≤ used P m
+  groups-in m i h s = go s (le_trans (le_of_eq (sym (suc-mul i (row_length (P true) (P false))))) (mul-le-mul_right (row_length (P true) (P false)) h))
     where
-      go : (s : Bool) → i * rowLength (P true) (P false) + rowLength (P true) (P false) ≤ m * rowLength (P true) (P false) → groupsAt P i s + P s * 6 ≤ used P m
+      go : (s : Bool) → i * row_length (P true) (P false) + row_length (P true) (P false) ≤ m * row_length (P true) (P false) → groups_at P i s + P s * 6 ≤ used P m
       go true l = omega arith
       go false l = omega arith
 
-  pub groups-past : (i : ℕ) (s : Bool) → cellsEnd P ≤ groupsAt P i s
+  pub groups-past : (i : ℕ) (s : Bool) → cells_end P ≤ groups_at P i s
   groups-past i s = omega arith
 
   -- each side stands as it should
@@ -44,35 +44,35 @@ module _ {A : Type 0} (d : A) (P : Bool → ℕ) (m : ℕ) where
   pub laid-clear : (z : A) (a₀ a : List A) → Written d (λ k. z) a₀ a (used P m) → Laid d P m (λ s k. z) (λ i s k. z) a₀ a
   laid-clear z a₀ a u = record {
     len = u.len;
-    cells = λ s k h. u.front (cellsAt P s + k) (omega (arith, cells_in P s));
-    groups = λ i l s k h. u.front (groupsAt P i s + k) (omega (arith, groups-in P m i l s));
+    cells = λ s k h. u.front (cells_at P s + k) (omega (arith, cells_in P s));
+    groups = λ i l s k h. u.front (groups_at P i s + k) (omega (arith, groups-in P m i l s));
     surplus = u.back;
   }
 
   -- the rows of groups are written, as one zone
-  pub laid-groups : (C : Bool → ℕ → A) (G₀ G : ℕ → Bool → ℕ → A) (R : ℕ → A) (a₀ a b : List A) → Laid d P m C G₀ a₀ a → Zone d R (cellsEnd P) (m * rowLength (P true) (P false)) a b
-      → ((i : ℕ) → i < m → (s : Bool) (k : ℕ) → k < P s * 6 → R (i * rowLength (P true) (P false) + (cond s 0 (P true * 6) + k)) ≡ G i s k) → Laid d P m C G a₀ b
+  pub laid-groups : (C : Bool → ℕ → A) (G₀ G : ℕ → Bool → ℕ → A) (R : ℕ → A) (a₀ a b : List A) → Laid d P m C G₀ a₀ a → Zone d R (cells_end P) (m * row_length (P true) (P false)) a b
+      → ((i : ℕ) → i < m → (s : Bool) (k : ℕ) → k < P s * 6 → R (i * row_length (P true) (P false) + (cond s 0 (P true * 6) + k)) ≡ G i s k) → Laid d P m C G a₀ b
   laid-groups C G₀ G R a₀ a b l z row = record {
     len = z.len ∙ l.len;
-    cells = λ s k h. z.below (cellsAt P s + k) (omega (arith, cells_in P s)) ∙ l.cells s k h;
-    groups = λ i j s k h. ap (λ x. get_or b x d) (arrange i s k) ∙ z.inside (i * rowLength (P true) (P false) + (cond s 0 (P true * 6) + k)) (omega (arith, groups-in P m i j s)) ∙ row i j s k h;
+    cells = λ s k h. z.below (cells_at P s + k) (omega (arith, cells_in P s)) ∙ l.cells s k h;
+    groups = λ i j s k h. ap (λ x. get_or b x d) (arrange i s k) ∙ z.inside (i * row_length (P true) (P false) + (cond s 0 (P true * 6) + k)) (omega (arith, groups-in P m i j s)) ∙ row i j s k h;
     surplus = λ k h. z.above k h ∙ l.surplus k h;
   }
     where
-      arrange : (i : ℕ) (s : Bool) (k : ℕ) → groupsAt P i s + k ≡ cellsEnd P + (i * rowLength (P true) (P false) + (cond s 0 (P true * 6) + k))
+      arrange : (i : ℕ) (s : Bool) (k : ℕ) → groups_at P i s + k ≡ cells_end P + (i * row_length (P true) (P false) + (cond s 0 (P true * 6) + k))
       arrange i s k = omega arith
 
   -- the cells of one side are written
-  pub laid_cells : (s : Bool) (C : Bool → ℕ → A) (G : ℕ → Bool → ℕ → A) (Q : ℕ → A) (a₀ a b : List A) → Laid d P m C G a₀ a → Zone d Q (cellsAt P s) (3 * P s) a b
+  pub laid_cells : (s : Bool) (C : Bool → ℕ → A) (G : ℕ → Bool → ℕ → A) (Q : ℕ → A) (a₀ a b : List A) → Laid d P m C G a₀ a → Zone d Q (cells_at P s) (3 * P s) a b
       → Laid d P m (λ s' k. cond (is s s') (Q k) (C s' k)) G a₀ b
   laid_cells s C G Q a₀ a b l z = record {
     len = z.len ∙ l.len;
     cells = at-cell s z;
-    groups = λ i j s' k h. z.above (groupsAt P i s' + k) (omega (arith, cells_in P s, groups-past P i s')) ∙ l.groups i j s' k h;
+    groups = λ i j s' k h. z.above (groups_at P i s' + k) (omega (arith, cells_in P s, groups-past P i s')) ∙ l.groups i j s' k h;
     surplus = λ k h. z.above k (omega (arith, cells_in P s)) ∙ l.surplus k h;
   }
     where
-      at-cell : (s : Bool) → Zone d Q (cellsAt P s) (3 * P s) a b → (s' : Bool) (k : ℕ) → k < 3 * P s' → get_or b (cellsAt P s' + k) d ≡ cond (is s s') (Q k) (C s' k)
+      at-cell : (s : Bool) → Zone d Q (cells_at P s) (3 * P s) a b → (s' : Bool) (k : ℕ) → k < 3 * P s' → get_or b (cells_at P s' + k) d ≡ cond (is s s') (Q k) (C s' k)
       at-cell true z true k h = z.inside k h
       at-cell true z false k h = z.above (3 * P true + k) (omega arith) ∙ l.cells false k h
       at-cell false z true k h = z.below (0 + k) (omega arith) ∙ l.cells true k h
@@ -94,26 +94,26 @@ laid-cleared d P m C G z old new room l =
 -- ---- two rooms laid out alike hold the same, whatever they held before
 module _ {A : Type 0} (d : A) (P : Bool → ℕ) (m : ℕ) (C : Bool → ℕ → A) (G : ℕ → Bool → ℕ → A) (old old' a b : List A) (u : Laid d P m C G old a) (v : Laid d P m C G old' b) where
   abbrev row : ℕ
-  row = rowLength (P true) (P false)
+  row = row_length (P true) (P false)
 
   -- at place k, which is j places after the start p of a part
   moved : (p j k : ℕ) → p + j ≡ k → get_or a (p + j) d ≡ get_or b (p + j) d → get_or a k d ≡ get_or b k d
   moved p j k e h = ap (λ x. get_or a x d) (sym e) ∙ h ∙ ap (λ x. get_or b x d) e
 
-  in_cells : (s : Bool) (k : ℕ) → cellsAt P s ≤ k → k < cellsAt P s + 3 * P s → get_or a k d ≡ get_or b k d
+  in_cells : (s : Bool) (k : ℕ) → cells_at P s ≤ k → k < cells_at P s + 3 * P s → get_or a k d ≡ get_or b k d
   in_cells s k h l =
-      let j = k - cellsAt P s in
+      let j = k - cells_at P s in
       let i : j < 3 * P s = omega arith in
-      moved (cellsAt P s) j k (omega arith) (u.cells s j i ∙ sym (v.cells s j i))
+      moved (cells_at P s) j k (omega arith) (u.cells s j i ∙ sym (v.cells s j i))
 
-  in-groups : (i : ℕ) → i < m → (s : Bool) (k : ℕ) → groupsAt P i s ≤ k → k < groupsAt P i s + P s * 6 → get_or a k d ≡ get_or b k d
+  in-groups : (i : ℕ) → i < m → (s : Bool) (k : ℕ) → groups_at P i s ≤ k → k < groups_at P i s + P s * 6 → get_or a k d ≡ get_or b k d
   in-groups i n s k h l =
-      let j = k - groupsAt P i s in
+      let j = k - groups_at P i s in
       let q : j < P s * 6 = omega arith in
-      moved (groupsAt P i s) j k (omega arith) (u.groups i n s j q ∙ sym (v.groups i n s j q))
+      moved (groups_at P i s) j k (omega arith) (u.groups i n s j q ∙ sym (v.groups i n s j q))
 
   -- in row i of the groups, r places after its start
-  in_row : (i r k : ℕ) → i < m → r < row → k ≡ cellsEnd P + (i * row + r) → get_or a k d ≡ get_or b k d
+  in_row : (i r k : ℕ) → i < m → r < row → k ≡ cells_end P + (i * row + r) → get_or a k d ≡ get_or b k d
   in_row i r k h l e =
       ⊎_elim
       (λ x. in-groups i h true k (omega arith) (omega arith))
@@ -124,20 +124,20 @@ module _ {A : Type 0} (d : A) (P : Bool → ℕ) (m : ℕ) (C : Bool → ℕ →
   some-row j zero h = let z : m * 0 ≡ 0 = mul-zero m in absurd (omega arith)
   some-row j (suc n) h = omega arith
 
-  in_rows : (k : ℕ) → cellsEnd P ≤ k → k < used P m → get_or a k d ≡ get_or b k d
+  in_rows : (k : ℕ) → cells_end P ≤ k → k < used P m → get_or a k d ≡ get_or b k d
   in_rows k h l =
-      let j = k - cellsEnd P in
+      let j = k - cells_end P in
       let n : j < m * row = omega arith in
       let p : 0 < row = some-row j row n in
-      let e : k ≡ cellsEnd P + j = omega arith in
-      in_row (j / row) (j % row) k ((div-lt_iff_lt-mul p).1 n) (mod-lt j p) (e ∙ ap (λ x. cellsEnd P + x) (sym (div-add-mod' j row)))
+      let e : k ≡ cells_end P + j = omega arith in
+      in_row (j / row) (j % row) k ((div-lt_iff_lt-mul p).1 n) (mod-lt j p) (e ∙ ap (λ x. cells_end P + x) (sym (div-add-mod' j row)))
 
   -- the used part
   pub laid-used : (k : ℕ) → k < used P m → get_or a k d ≡ get_or b k d
   laid-used k h =
       ⊎_elim
       (λ l. in_cells true k (omega arith) (omega arith))
-      (λ l₁. ⊎_elim (λ l. in_cells false k (omega arith) (omega arith)) (λ l₂. in_rows k l₂ h) (compared k (cellsEnd P)))
+      (λ l₁. ⊎_elim (λ l. in_cells false k (omega arith) (omega arith)) (λ l₂. in_rows k l₂ h) (compared k (cells_end P)))
       (compared k (3 * P true))
 
   -- the whole, where the surplus was the same

@@ -1,6 +1,6 @@
 // Lent room: how the two sides of the tables stand in it, and how much of it is used, over both periods.
 ghost use Rattle.std.specs.Prelude.{◌≡◌, true, false, ◌≤◌};
-ghost use Rattle.room.specs.Room.{bySide, rowLength, used, tablesFor, sumsFor, side_of, PeriodsOk};
+ghost use Rattle.room.specs.Room.{by_side, row_length, used, tables_for, sums_for, side_of, PeriodsOk};
 
 use laws::Periods;
 
@@ -46,7 +46,7 @@ pub fn vertical(p: Periods) -> Side
 // How many places a row of the groups of both sides has.
 pub fn row_of_groups(p: Periods) -> usize
     requires { PeriodsOk p }
-    ensures { result ≡ rowLength p.h p.v }
+    ensures { result ≡ row_length p.h p.v }
 {
     (p.h + p.v) * 6
 }
@@ -54,7 +54,7 @@ pub fn row_of_groups(p: Periods) -> usize
 // How many places of the u32 and of the f32 room are used: the cells of both sides and one row of groups.
 pub fn used_by_tables(p: Periods) -> usize
     requires { PeriodsOk p }
-    ensures { result ≡ used (bySide p) 1 }
+    ensures { result ≡ used (by_side p) 1 }
 {
     3 * p.h + 3 * p.v + row_of_groups(p)
 }
@@ -62,7 +62,7 @@ pub fn used_by_tables(p: Periods) -> usize
 // How many places of the i64 room are used: the cells of both sides and two rows of groups.
 pub fn used_by_sums(p: Periods) -> usize
     requires { PeriodsOk p }
-    ensures { result ≡ used (bySide p) 2 }
+    ensures { result ≡ used (by_side p) 2 }
 {
     3 * p.h + 3 * p.v + 2 * row_of_groups(p)
 }
@@ -70,7 +70,7 @@ pub fn used_by_sums(p: Periods) -> usize
 // What a call must lend of the u32 and of the f32 room where its horizontal table has l patterns and its vertical one 167: 3,006 for the flat board.
 pub fn tables_for(l: usize) -> usize
     requires { l ≤ 500 }
-    ensures { result ≡ tablesFor l }
+    ensures { result ≡ tables_for l }
 {
     9 * l + 1503
 }
@@ -78,7 +78,7 @@ pub fn tables_for(l: usize) -> usize
 // What it must lend of the i64 room: 5,010 for the flat board.
 pub fn sums_for(l: usize) -> usize
     requires { l ≤ 500 }
-    ensures { result ≡ sumsFor l }
+    ensures { result ≡ sums_for l }
 {
     15 * l + 2505
 }

@@ -1,7 +1,7 @@
 -- Document 01, 'Hard selection': candidates, the runner-up and the choice; and the scan record, "HardScan by value with an array of eight summaries and a count".
 use Rattle.std.specs.Prelude.{Bool, true, false, cond, ◌&&◌, ◌||◌, List, ℕ, zero, suc, ◌+◌, ◌≤◌, ◌<◌, ltb, eqb, get_or, set, replicate, Float}
 use Rattle.std.specs.Float.Ieee.{lt}
-use Rattle.figures.specs.Figures.{rateOf}
+use Rattle.figures.specs.Figures.{rate_of}
 use Rattle.scan.specs.declared.scan.TransformSummary.{TransformSummary}
 use Rattle.scan.specs.declared.scan.HardScan.{HardScan}
 use Rattle.scan.specs.declared.scan.RunnerUp.{RunnerUp}
@@ -12,9 +12,9 @@ use Rattle.scan.specs.declared.scan.Choice.{Choice}
 use Rattle.scan.specs.declared.scan.Choice.TheVariants.{Nothing, Chosen}
 
 -- "rate over the limit": so many hits are not within it
-unfoldable pub overLimit : ℕ → Float → ℕ → Bool
-unfolding rateOf
-overLimit edges limit hits = lt limit (rateOf edges hits)
+unfoldable pub over_limit : ℕ → Float → ℕ → Bool
+unfolding rate_of
+over_limit edges limit hits = lt limit (rate_of edges hits)
 
 -- ---- candidates
 -- "A candidate replaces the kept one on more hits, or on equal hits and strictly greater score"
@@ -28,9 +28,9 @@ unfolding takes
 replaced kept c = cond (takes kept c.hits c.score) (One c) kept
 
 -- the same of a candidate that is rate-tested first
-unfoldable pub offeredWithin : ℕ → Float → Kept → Candidate → Kept
-unfolding overLimit replaced
-offeredWithin edges limit kept c = cond (overLimit edges limit c.hits) kept (replaced kept c)
+unfoldable pub offered_within : ℕ → Float → Kept → Candidate → Kept
+unfolding over_limit replaced
+offered_within edges limit kept c = cond (over_limit edges limit c.hits) kept (replaced kept c)
 
 -- so many hits are fewer than the kept candidate's
 unfoldable pub behind : Kept → ℕ → Bool
@@ -39,15 +39,15 @@ behind (One k) hits = ltb hits k.hits
 
 -- ---- the scan record
 -- what stands in a place of the array that holds no summary yet
-abbrev pub noRunnerUp : RunnerUp
-noRunnerUp = record { hits = 0; row = 0; col = 0; transform = 0 }
+abbrev pub no_runner_up : RunnerUp
+no_runner_up = record { hits = 0; row = 0; col = 0; transform = 0 }
 
-abbrev pub noSummary : TransformSummary
-noSummary = record { best = noRunnerUp; within = noRunnerUp }
+abbrev pub no_summary : TransformSummary
+no_summary = record { best = no_runner_up; within = no_runner_up }
 
 -- of no transforms
-unfoldable pub emptyScan : HardScan
-emptyScan = record { summaries = replicate 8 noSummary; count = 0; best = Nobody }
+unfoldable pub empty_scan : HardScan
+empty_scan = record { summaries = replicate 8 no_summary; count = 0; best = Nobody }
 
 -- one transform more, with its summary, and what is kept after it
 unfoldable pub pushed : HardScan → TransformSummary → Kept → HardScan
@@ -59,9 +59,9 @@ abbrev pub stepped : RunnerUp → TransformSummary → Bool → RunnerUp
 stepped r s own = cond own r (cond (ltb r.hits s.best.hits) s.best r)
 
 -- "Runner-up: inside the winner's transform, .. Then each other list position": of the winner at position w, over the first n positions
-unfoldable pub runnerUp : List TransformSummary → ℕ → ℕ → RunnerUp
-runnerUp ss w zero = (get_or ss w noSummary).within
-runnerUp ss w (suc i) = stepped (runnerUp ss w i) (get_or ss i noSummary) (eqb i w)
+unfoldable pub runner_up_of : List TransformSummary → ℕ → ℕ → RunnerUp
+runner_up_of ss w zero = (get_or ss w no_summary).within
+runner_up_of ss w (suc i) = stepped (runner_up_of ss w i) (get_or ss i no_summary) (eqb i w)
 
 -- ---- the choice
 -- a scan whose kept candidate stands at one of its positions
@@ -74,11 +74,11 @@ abbrev pub SoundScan : HardScan → Type 0
 SoundScan h = (h.count ≤ 8) × SoundKept h.best h.count
 
 -- nothing where no candidate was kept, or the kept one with its runner-up
-abbrev pub chosenBy : HardScan → Kept → Choice
-chosenBy h Nobody = Nothing
-chosenBy h (One c) = Chosen c (runnerUp h.summaries c.placing.listed h.count)
+abbrev pub chosen_by : HardScan → Kept → Choice
+chosen_by h Nobody = Nothing
+chosen_by h (One c) = Chosen c (runner_up_of h.summaries c.placing.listed h.count)
 
 -- what the scan comes to
 unfoldable pub chosen : HardScan → Choice
-unfolding runnerUp
-chosen h = chosenBy h h.best
+unfolding runner_up_of
+chosen h = chosen_by h h.best

@@ -1,7 +1,7 @@
 // The steps of the scan record: a candidate is offered, a transform is added, and at the end the winner and its runner-up are read off.
 ghost use Rattle.std.specs.Prelude.{◌≡◌, ◌≤◌, ◌<◌};
-ghost use Rattle.scan.specs.Scan.{overLimit, takes, replaced, offeredWithin, emptyScan, pushed, stepped, runnerUp, SoundScan, chosen};
-ghost use Rattle.scan.specs.Lead.{leadOf, ahead_of};
+ghost use Rattle.scan.specs.Scan.{over_limit, takes, replaced, offered_within, empty_scan, pushed, stepped, runner_up_of, SoundScan, chosen};
+ghost use Rattle.scan.specs.Lead.{lead_of, ahead_of};
 
 use crate::scan::{Asked, Candidate, Choice, HardScan, Kept, RunnerUp, TransformSummary};
 use best::lex::beats;
@@ -9,7 +9,7 @@ use best::lex::beats;
 // Whether so many hits are too few for the error limit.
 pub fn over_limit(edges: u32, hits: u32, error_limit: f32) -> bool
     requires { (hits ≤ edges) × (edges ≤ 8192) }
-    ensures { result ≡ overLimit edges error_limit hits }
+    ensures { result ≡ over_limit edges error_limit hits }
 {
     figures::rate(edges, hits) > error_limit
 }
@@ -24,7 +24,7 @@ pub struct Lead {
 
 // What the kept candidate sets to beat.
 pub fn lead_of(kept: Kept) -> Lead
-    ensures { result ≡ leadOf kept }
+    ensures { result ≡ lead_of kept }
 {
     match kept {
         Kept::Nobody => Lead {
@@ -70,7 +70,7 @@ pub fn offer(kept: Kept, c: Candidate) -> Kept
 // The kept candidate after one more was offered that is first tested against the error limit.
 pub fn offer_within(kept: Kept, c: Candidate, asked: Asked) -> Kept
     requires { (c.hits ≤ asked.edges) × (asked.edges ≤ 8192) }
-    ensures { result ≡ offeredWithin asked.edges asked.error_limit kept c }
+    ensures { result ≡ offered_within asked.edges asked.error_limit kept c }
 {
     if takes_over(kept, c.hits, c.score) {
         if over_limit(asked.edges, c.hits, asked.error_limit) {
@@ -83,7 +83,7 @@ pub fn offer_within(kept: Kept, c: Candidate, asked: Asked) -> Kept
 
 // A scan of no transforms.
 pub fn empty() -> HardScan
-    ensures { result ≡ emptyScan }
+    ensures { result ≡ empty_scan }
 {
     let r = RunnerUp {
         hits: 0,
@@ -134,7 +134,7 @@ fn step(r: RunnerUp, s: TransformSummary, own: bool) -> RunnerUp
 // The runner-up of the winner at a list position: inside its own transform, then over the other positions in order.
 pub fn runner_up(scan: HardScan, winner: usize) -> RunnerUp
     requires { (scan.count ≤ 8) × (winner < scan.count) }
-    ensures { result ≡ runnerUp scan.summaries winner scan.count }
+    ensures { result ≡ runner_up_of scan.summaries winner scan.count }
 {
     let n = scan.count;
     let w = scan.summaries[winner];

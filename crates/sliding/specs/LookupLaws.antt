@@ -4,13 +4,13 @@ use Rattle.std.proofs.Math.Path.{refl}
 use Rattle.std.proofs.Common.{ap, ap₂, ◌∙◌, mul_comm, arith}
 use Rattle.std.proofs.Math.IntN.{+ℤ_assoc, +ℤ_comm, -ℤ-+ℤ_cancel}
 use Rattle.std.specs.Int.Signed.{lt_z}
-use Rattle.laws.specs.Words.{eqZ, emod, count}
+use Rattle.laws.specs.Words.{eq_z, emod, count}
 use Rattle.laws.specs.DoubleCounting.{fold-ext}
 use Rattle.board.specs.declared.edge.EdgeLookup.{EdgeLookup}
-use Rattle.board.specs.Transform.{mat, mapped, lookupOfEnds, joined, lookupOf}
+use Rattle.board.specs.Transform.{mat, mapped, lookup_of_ends, joined, lookup_of}
 use Rattle.board.specs.Hits.{EdgeList, Board, size, look, predicted, hit, hits}
 use Rattle.board.specs.Domain.{BoardOk}
-use Rattle.sliding.specs.Sliding.{Slid, shiftedRows, shiftedCols, slidRow, slidCol}
+use Rattle.sliding.specs.Sliding.{Slid, shifted_rows, shifted_cols, slid_row, slid_col}
 use Rattle.sliding.specs.WholeLaws.{last-two, four, times-sum, eq-moved, lt-moved, emod-within}
 
 -- a lookup so many columns and rows further
@@ -35,24 +35,24 @@ one_of : (b : Bool) (x y : ℤ) (l m : EdgeLookup) → cond b (further x y l) (f
 one_of true x y l m = refl
 one_of false x y l m = refl
 
-ends-moved : (c r d s x y : ℤ) → lookupOfEnds (c +ℤ x) (r +ℤ y) (d +ℤ x) (s +ℤ y) ≡ further x y (lookupOfEnds c r d s)
-unfolding lookupOfEnds
+ends-moved : (c r d s x y : ℤ) → lookup_of_ends (c +ℤ x) (r +ℤ y) (d +ℤ x) (s +ℤ y) ≡ further x y (lookup_of_ends c r d s)
+unfolding lookup_of_ends
 ends-moved c r d s x y =
     rw (eq-moved r s y, lt-moved c d x, lt-moved r s y, either (lt_z c d) c d x, either (lt_z r s) r s y, either (lt_z r s) c d x, less_one r y, less_one (cond (lt_z r s) c d) x)
-    (one_of (eqZ r s) x y (record { orientation = 0; row = r -ℤ pos 1; col = cond (lt_z c d) c d }) (record { orientation = 1; row = cond (lt_z r s) r s; col = cond (lt_z r s) c d -ℤ pos 1 }))
+    (one_of (eq_z r s) x y (record { orientation = 0; row = r -ℤ pos 1; col = cond (lt_z c d) c d }) (record { orientation = 1; row = cond (lt_z r s) r s; col = cond (lt_z r s) c d -ℤ pos 1 }))
 
-joined-moved : (t : ℕ) (c r d s right down : ℤ) → joined t (c +ℤ right) (r +ℤ down) (d +ℤ right) (s +ℤ down) ≡ further (shiftedCols t down right) (shiftedRows t down right) (joined t c r d s)
+joined-moved : (t : ℕ) (c r d s right down : ℤ) → joined t (c +ℤ right) (r +ℤ down) (d +ℤ right) (s +ℤ down) ≡ further (shifted_cols t down right) (shifted_rows t down right) (joined t c r d s)
 unfolding joined
 joined-moved t c r d s right down =
     rw (mapped-sum t 0 c r right down, mapped-sum t 1 c r right down, mapped-sum t 0 d s right down, mapped-sum t 1 d s right down)
     (ends-moved (mapped t 0 c r) (mapped t 1 c r) (mapped t 0 d s) (mapped t 1 d s) (mapped t 0 right down) (mapped t 1 right down))
 
 -- AN EDGE THAT MOVES IS LOOKED UP SO MUCH FURTHER, as its transform maps the shift
-pub lookup-moved : (t : ℕ) (row col down right : ℤ) (o : ℕ) → lookupOf t (row +ℤ down) (col +ℤ right) o ≡ further (shiftedCols t down right) (shiftedRows t down right) (lookupOf t row col o)
-unfolding lookupOf
+pub lookup-moved : (t : ℕ) (row col down right : ℤ) (o : ℕ) → lookup_of t (row +ℤ down) (col +ℤ right) o ≡ further (shifted_cols t down right) (shifted_rows t down right) (lookup_of t row col o)
+unfolding lookup_of
 lookup-moved t row col down right o =
     rw (last-two col right (pos 1), last-two row down (pos 1), joined-moved t col row (col +ℤ pos 1) row right down, joined-moved t col row col (row +ℤ pos 1) right down)
-    (one_of (eqb o 0) (shiftedCols t down right) (shiftedRows t down right) (joined t col row (col +ℤ pos 1) row) (joined t col row col (row +ℤ pos 1)))
+    (one_of (eqb o 0) (shifted_cols t down right) (shifted_rows t down right) (joined t col row (col +ℤ pos 1) row) (joined t col row col (row +ℤ pos 1)))
 
 -- ---- at the origin that moves back
 -- (a + y) + (b - y), reduced, is a + b
@@ -74,36 +74,36 @@ module _ (B : Board) (board : BoardOk B) (t : ℕ) (down right : ℤ) where
   wide = omega (arith, board.v.some)
 
   -- the pattern of a row, and its bit
-  row-pattern : (a : ℤ) (r : ℕ) → emod (a +ℤ shiftedRows t down right +ℤ pos (slidRow B t down right r)) (length B.h) ≡ emod (a +ℤ pos r) (length B.h)
-  unfolding slidRow
-  row-pattern a r = back a (shiftedRows t down right) r 3 (length B.h) tall (omega (arith, tall))
+  row-pattern : (a : ℤ) (r : ℕ) → emod (a +ℤ shifted_rows t down right +ℤ pos (slid_row B t down right r)) (length B.h) ≡ emod (a +ℤ pos r) (length B.h)
+  unfolding slid_row
+  row-pattern a r = back a (shifted_rows t down right) r 3 (length B.h) tall (omega (arith, tall))
 
-  row-bit : (a : ℤ) (r : ℕ) → emod (a +ℤ shiftedRows t down right +ℤ pos (slidRow B t down right r)) 3 ≡ emod (a +ℤ pos r) 3
-  unfolding slidRow
-  row-bit a r = back-three a (shiftedRows t down right) r (length B.h) tall
+  row-bit : (a : ℤ) (r : ℕ) → emod (a +ℤ shifted_rows t down right +ℤ pos (slid_row B t down right r)) 3 ≡ emod (a +ℤ pos r) 3
+  unfolding slid_row
+  row-bit a r = back-three a (shifted_rows t down right) r (length B.h) tall
 
   -- and of a column
-  col-pattern : (a : ℤ) (c : ℕ) → emod (a +ℤ shiftedCols t down right +ℤ pos (slidCol B t down right c)) (length B.v) ≡ emod (a +ℤ pos c) (length B.v)
-  unfolding slidCol
-  col-pattern a c = back a (shiftedCols t down right) c 3 (length B.v) wide (omega (arith, wide))
+  col-pattern : (a : ℤ) (c : ℕ) → emod (a +ℤ shifted_cols t down right +ℤ pos (slid_col B t down right c)) (length B.v) ≡ emod (a +ℤ pos c) (length B.v)
+  unfolding slid_col
+  col-pattern a c = back a (shifted_cols t down right) c 3 (length B.v) wide (omega (arith, wide))
 
-  col-bit : (a : ℤ) (c : ℕ) → emod (a +ℤ shiftedCols t down right +ℤ pos (slidCol B t down right c)) 3 ≡ emod (a +ℤ pos c) 3
-  unfolding slidCol
-  col-bit a c = back-three a (shiftedCols t down right) c (length B.v) wide
+  col-bit : (a : ℤ) (c : ℕ) → emod (a +ℤ shifted_cols t down right +ℤ pos (slid_col B t down right c)) 3 ≡ emod (a +ℤ pos c) 3
+  unfolding slid_col
+  col-bit a c = back-three a (shifted_cols t down right) c (length B.v) wide
 
-  pub predicted-moved : (l : EdgeLookup) (r c : ℕ) → predicted B (further (shiftedCols t down right) (shiftedRows t down right) l) (slidRow B t down right r) (slidCol B t down right c) ≡ predicted B l r c
+  pub predicted-moved : (l : EdgeLookup) (r c : ℕ) → predicted B (further (shifted_cols t down right) (shifted_rows t down right) l) (slid_row B t down right r) (slid_col B t down right c) ≡ predicted B l r c
   unfolding predicted
   predicted-moved l r c = rw (row-pattern l.row r, row-bit l.row r, col-pattern l.col c, col-bit l.col c) refl
 
 -- HITS STAY: at the slid origin the slid list has the hits that the list has at the origin
-pub hits-stay : (B : Board) (board : BoardOk B) (E F : EdgeList) (down right : ℤ) → Slid down right E F → (t r c : ℕ) → hits B F t (slidRow B t down right r) (slidCol B t down right c) ≡ hits B E t r c
+pub hits-stay : (B : Board) (board : BoardOk B) (E F : EdgeList) (down right : ℤ) → Slid down right E F → (t r c : ℕ) → hits B F t (slid_row B t down right r) (slid_col B t down right c) ≡ hits B E t r c
 unfolding hits hit look
 hits-stay B board E F down right s t r c =
-    ap (λ (n : ℕ). count n (hit B F t (slidRow B t down right r) (slidCol B t down right c))) s.edges
-    ∙ fold-ext ◌+◌ 0 (size E) (hit B F t (slidRow B t down right r) (slidCol B t down right c)) (hit B E t r c) (λ i. 1) (λ i. 1) one (λ i l. refl)
+    ap (λ (n : ℕ). count n (hit B F t (slid_row B t down right r) (slid_col B t down right c))) s.edges
+    ∙ fold-ext ◌+◌ 0 (size E) (hit B F t (slid_row B t down right r) (slid_col B t down right c)) (hit B E t r c) (λ i. 1) (λ i. 1) one (λ i l. refl)
   where
-    looked : (i : ℕ) → i < size E → look F t i ≡ further (shiftedCols t down right) (shiftedRows t down right) (look E t i)
+    looked : (i : ℕ) → i < size E → look F t i ≡ further (shifted_cols t down right) (shifted_rows t down right) (look E t i)
     looked i l = rw (s.row i l, s.col i l, s.orientations) (lookup-moved t (get_or E.rows i (pos 0)) (get_or E.cols i (pos 0)) down right (get_or E.orientations i 0))
 
-    one : (i : ℕ) → i < size E → hit B F t (slidRow B t down right r) (slidCol B t down right c) i ≡ hit B E t r c i
+    one : (i : ℕ) → i < size E → hit B F t (slid_row B t down right r) (slid_col B t down right c) i ≡ hit B E t r c i
     one i l = rw (looked i l, predicted-moved B board t down right (look E t i) r c, s.bits) refl

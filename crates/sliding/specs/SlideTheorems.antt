@@ -12,7 +12,7 @@ use Rattle.board.specs.declared.edge.Placing.{Placing}
 use Rattle.board.specs.Hits.{EdgeList, Board, size}
 use Rattle.board.specs.Domain.{ListOk, BoardOk}
 use Rattle.figures.specs.Gate.{passed}
-use Rattle.figures.specs.Figures.{noConfidence}
+use Rattle.figures.specs.Figures.{no_confidence}
 use Rattle.scan.specs.declared.scan.Candidate.{Candidate}
 use Rattle.scan.specs.declared.scan.RunnerUp.{RunnerUp}
 use Rattle.hard.specs.declared.select.Selection.{Selection}
@@ -20,14 +20,14 @@ use Rattle.hard.specs.declared.select.Selection.TheVariants as sel
 use Rattle.hard.specs.Select.{selection}
 use Rattle.decide.specs.declared.Outcome.{Outcome}
 use Rattle.decide.specs.declared.Outcome.TheVariants.{Refused, Decided}
-use Rattle.decide.specs.Decide.{whenPassed, gated}
+use Rattle.decide.specs.Decide.{when_passed, gated}
 use Rattle.demand.specs.Winners.{runner-up-exists, winner-leads, winner-hits}
 use Rattle.demand.specs.OneSelection.{Ended, ended, NoneLeads, SomeWithinLimit}
-use Rattle.sliding.specs.Sliding.{Slid, shiftedRows, shiftedCols, slidRow, slidCol, slidPlacing, SlidTo}
+use Rattle.sliding.specs.Sliding.{Slid, shifted_rows, shifted_cols, slid_row, slid_col, slid_placing, SlidTo}
 use Rattle.sliding.specs.WholeLaws.{emod-within}
 use Rattle.sliding.specs.LookupLaws as look
 use Rattle.sliding.specs.PermutedLaws.{Permuted}
-use Rattle.sliding.specs.ByHits.{Told, refused, found, ByHits, no-confidence, none_within, none-leads, leads, ToldThere, told-there}
+use Rattle.sliding.specs.ByHits.{Told, refused, found, ByHits, no-confidence, none_within, none_leads, leads, ToldThere, told-there}
 
 -- ---- there and back
 round : (z w : ℤ) (n : ℕ) → 0 < n → emod (z +ℤ pos (emod w n)) n ≡ emod (z +ℤ w) n
@@ -47,13 +47,13 @@ comes r n y h =
 
 module _ (B : Board) (ts : List ℕ) (down right : ℤ) (board : BoardOk B) where
   abbrev slide : Placing → Placing
-  slide = slidPlacing B ts down right
+  slide = slid_placing B ts down right
 
   -- the way back
   abbrev pub unslide : Placing → Placing
   unslide P =
       let t = get_or ts P.listed 0 in
-      record { listed = P.listed; row = emod (pos P.row +ℤ shiftedRows t down right) (3 * length B.h); col = emod (pos P.col +ℤ shiftedCols t down right) (3 * length B.v) }
+      record { listed = P.listed; row = emod (pos P.row +ℤ shifted_rows t down right) (3 * length B.h); col = emod (pos P.col +ℤ shifted_cols t down right) (3 * length B.v) }
 
   tall : 0 < 3 * length B.h
   tall = omega (arith, board.h.some)
@@ -63,48 +63,48 @@ module _ (B : Board) (ts : List ℕ) (down right : ℤ) (board : BoardOk B) wher
 
   -- SLIDING PERMUTES THE PLACINGS AND KEEPS HITS
   pub slid-permuted : (E F : EdgeList) → Slid down right E F → Permuted B ts E F slide unslide
-  unfolding slidPlacing slidRow slidCol
+  unfolding slid_placing slid_row slid_col
   slid-permuted E F s = record {
     edges = s.edges;
     there = λ P o. record { in_list = o.in_list; row = emod-lt _ _ tall; col = emod-lt _ _ wide };
     back = λ P o. record { in_list = o.in_list; row = emod-lt _ _ tall; col = emod-lt _ _ wide };
-    back-there = λ P o. (refl, returns P.row (3 * length B.h) (shiftedRows (get_or ts P.listed 0) down right) o.row, returns P.col (3 * length B.v) (shiftedCols (get_or ts P.listed 0) down right) o.col);
-    there_back = λ P o. (refl, comes P.row (3 * length B.h) (shiftedRows (get_or ts P.listed 0) down right) o.row, comes P.col (3 * length B.v) (shiftedCols (get_or ts P.listed 0) down right) o.col);
+    back_there = λ P o. (refl, returns P.row (3 * length B.h) (shifted_rows (get_or ts P.listed 0) down right) o.row, returns P.col (3 * length B.v) (shifted_cols (get_or ts P.listed 0) down right) o.col);
+    there_back = λ P o. (refl, comes P.row (3 * length B.h) (shifted_rows (get_or ts P.listed 0) down right) o.row, comes P.col (3 * length B.v) (shifted_cols (get_or ts P.listed 0) down right) o.col);
     hits-stay = λ P o. look.hits-stay B board E F down right s (get_or ts P.listed 0) P.row P.col;
-    f-same = λ P Q e. rw (e.0, e.1, e.2) (refl, refl, refl);
-    g-same = λ P Q e. rw (e.0, e.1, e.2) (refl, refl, refl);
+    f_same = λ P Q e. rw (e.0, e.1, e.2) (refl, refl, refl);
+    g_same = λ P Q e. rw (e.0, e.1, e.2) (refl, refl, refl);
   }
 
 -- ---- hard selection and the gate
 -- an outcome as what it tells
-abbrev pub outcomeTold : Outcome → Told
-outcomeTold (Refused r) = refused r
-outcomeTold (Decided w runner-up) = found w.placing w.hits runner-up.hits
+abbrev pub outcome_told : Outcome → Told
+outcome_told (Refused r) = refused r
+outcome_told (Decided w runner-up) = found w.placing w.hits runner-up.hits
 
 module _ (B : Board) (E : EdgeList) (ts : List ℕ) (limit : Float) (board : BoardOk B) (list : ListOk E) (few : length ts ≤ 8) where
-  by-gate : (w : Candidate) (r : RunnerUp) (e : selection B E ts limit ≡ sel.Selected w r) → noConfidence E ≡ false → SomeWithinLimit B E ts limit
-      → (b : Bool) → passed (size E) w.hits r.hits ≡ b → (passed (size E) w.hits r.hits ≡ true) ⊎ NoneLeads B E ts limit → ByHits B E ts limit (noConfidence E) (outcomeTold (whenPassed b w r))
+  by-gate : (w : Candidate) (r : RunnerUp) (e : selection B E ts limit ≡ sel.Selected w r) → no_confidence E ≡ false → SomeWithinLimit B E ts limit
+      → (b : Bool) → passed (size E) w.hits r.hits ≡ b → (passed (size E) w.hits r.hits ≡ true) ⊎ NoneLeads B E ts limit → ByHits B E ts limit (no_confidence E) (outcome_told (when_passed b w r))
   by-gate w r e k s true g h = leads k w.placing w.hits r.hits (winner-leads B E ts limit board list few w r e g) (winner-hits B E ts limit board list few w r e g) (runner-up-exists B E ts limit board list few w r e)
   by-gate w r e k s false g (inl h) = clash h g
-  by-gate w r e k s false g (inr h) = none-leads k s h
+  by-gate w r e k s false g (inr h) = none_leads k s h
 
-  by-selection : (x : Selection) → selection B E ts limit ≡ x → Ended B E ts limit board list few x → ByHits B E ts limit (noConfidence E) (outcomeTold (gated (size E) x))
+  by-selection : (x : Selection) → selection B E ts limit ≡ x → Ended B E ts limit board list few x → ByHits B E ts limit (no_confidence E) (outcome_told (gated (size E) x))
   by-selection (sel.Refused r) e (inl h) = rw h.0 (no-confidence h.1)
   by-selection (sel.Refused r) e (inr h) = rw h.0 (none_within h.1 h.2)
   by-selection (sel.Selected w r) e h = by-gate w r e h.0 h.1 (passed (size E) w.hits r.hits) refl h.2
 
   -- hard selection and the gate judge by hits
-  pub decided-told : ByHits B E ts limit (noConfidence E) (outcomeTold (gated (size E) (selection B E ts limit)))
+  pub decided-told : ByHits B E ts limit (no_confidence E) (outcome_told (gated (size E) (selection B E ts limit)))
   decided-told = by-selection (selection B E ts limit) refl (ended B E ts limit board list few)
 
 module _ (B : Board) (ts : List ℕ) (down right : ℤ) (board : BoardOk B) (E F : EdgeList) (limit : Float) (list : ListOk E) (slid-list : ListOk F) (few : length ts ≤ 8) (s : Slid down right E F) where
-  confidence : noConfidence F ≡ noConfidence E
-  unfolding noConfidence
+  confidence : no_confidence F ≡ no_confidence E
+  unfolding no_confidence
   confidence = rw s.confidences refl
 
   -- what is told by two outcomes, in the words of C-21
-  in_words : (x y : Outcome) → ToldThere (slidPlacing B ts down right) (outcomeTold x) (outcomeTold y) → SlidTo B ts down right x y
-  unfolding slidPlacing
+  in_words : (x y : Outcome) → ToldThere (slid_placing B ts down right) (outcome_told x) (outcome_told y) → SlidTo B ts down right x y
+  unfolding slid_placing
   in_words (Refused one) (Refused other) t = t
   in_words (Refused one) (Decided w r) t = t
   in_words (Decided w r) (Refused other) t = t
@@ -114,7 +114,7 @@ module _ (B : Board) (ts : List ℕ) (down right : ℤ) (board : BoardOk B) (E F
   pub slides : SlidTo B ts down right (gated (size E) (selection B E ts limit)) (gated (size F) (selection B F ts limit))
   slides =
       in_words (gated (size E) (selection B E ts limit)) (gated (size F) (selection B F ts limit))
-      (told-there B ts E F (slidPlacing B ts down right) (unslide B ts down right board) (slid-permuted B ts down right board E F s) limit (noConfidence E)
-      (outcomeTold (gated (size E) (selection B E ts limit))) (outcomeTold (gated (size F) (selection B F ts limit)))
+      (told-there B ts E F (slid_placing B ts down right) (unslide B ts down right board) (slid-permuted B ts down right board E F s) limit (no_confidence E)
+      (outcome_told (gated (size E) (selection B E ts limit))) (outcome_told (gated (size F) (selection B F ts limit)))
       (decided-told B E ts limit board list few)
       (rw (sym confidence) (decided-told B F ts limit board slid-list few)))

@@ -17,26 +17,26 @@ pub record Slid (down right : ℤ) (before after : EdgeList) : Type 0 where
   pub confidences : after.confidences ≡ before.confidences
 
 -- "the transformed shift": what the matrix of transform t makes of it, as of a column and a row
-abbrev pub shiftedRows : ℕ → ℤ → ℤ → ℤ
-shiftedRows t down right = mapped t 1 right down
+abbrev pub shifted_rows : ℕ → ℤ → ℤ → ℤ
+shifted_rows t down right = mapped t 1 right down
 
-abbrev pub shiftedCols : ℕ → ℤ → ℤ → ℤ
-shiftedCols t down right = mapped t 0 right down
+abbrev pub shifted_cols : ℕ → ℤ → ℤ → ℤ
+shifted_cols t down right = mapped t 0 right down
 
 -- "the origin moves by the transformed shift, negated, modulo the board's rows and columns": a board has three rows to a horizontal pattern and three columns to a vertical one, and
 -- remainders are never negative
-unfoldable pub slidRow : Board → ℕ → ℤ → ℤ → ℕ → ℕ
-slidRow B t down right row = emod (pos row -ℤ shiftedRows t down right) (3 * length B.h)
+unfoldable pub slid_row : Board → ℕ → ℤ → ℤ → ℕ → ℕ
+slid_row B t down right row = emod (pos row -ℤ shifted_rows t down right) (3 * length B.h)
 
-unfoldable pub slidCol : Board → ℕ → ℤ → ℤ → ℕ → ℕ
-slidCol B t down right col = emod (pos col -ℤ shiftedCols t down right) (3 * length B.v)
+unfoldable pub slid_col : Board → ℕ → ℤ → ℤ → ℕ → ℕ
+slid_col B t down right col = emod (pos col -ℤ shifted_cols t down right) (3 * length B.v)
 
 -- the placing that faces the same squares when the picture is slid: the same place in the transform list, at the slid origin
-unfoldable pub slidPlacing : Board → List ℕ → ℤ → ℤ → Placing → Placing
-unfolding slidRow slidCol
-slidPlacing B ts down right P =
+unfoldable pub slid_placing : Board → List ℕ → ℤ → ℤ → Placing → Placing
+unfolding slid_row slid_col
+slid_placing B ts down right P =
     let t = get_or ts P.listed 0 in
-    record { listed = P.listed; row = slidRow B t down right P.row; col = slidCol B t down right P.col }
+    record { listed = P.listed; row = slid_row B t down right P.row; col = slid_col B t down right P.col }
 
 -- "the number of the refusal or the hits, runner-up hits and transform are the same", and the origin is the slid one; the runner-up's place is not included
 abbrev pub SlidTo : Board → List ℕ → ℤ → ℤ → Outcome → Outcome → Type 0
@@ -45,5 +45,5 @@ SlidTo B ts down right (Refused one) (Decided winner runner-up) = ⊥
 SlidTo B ts down right (Decided winner runner-up) (Refused other) = ⊥
 SlidTo B ts down right (Decided winner runner-up) (Decided other its-runner-up) =
     (other.hits ≡ winner.hits) × (its-runner-up.hits ≡ runner-up.hits) × (other.placing.listed ≡ winner.placing.listed)
-    × (other.placing.row ≡ slidRow B (get_or ts winner.placing.listed 0) down right winner.placing.row)
-    × (other.placing.col ≡ slidCol B (get_or ts winner.placing.listed 0) down right winner.placing.col)
+    × (other.placing.row ≡ slid_row B (get_or ts winner.placing.listed 0) down right winner.placing.row)
+    × (other.placing.col ≡ slid_col B (get_or ts winner.placing.listed 0) down right winner.placing.col)

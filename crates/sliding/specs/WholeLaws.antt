@@ -5,8 +5,8 @@ use Rattle.std.proofs.Math.Nat.{add-mul-mod_self_right}
 use Rattle.std.proofs.Math.IntN.{suc_ℤ, pred_ℤ, ℤ_ind, +ℤ_one, -ℤ_one, +ℤ_assoc, +ℤ_comm, +ℤ-neg_ℤ_cancel, zero-*ℤ, suc_ℤ-*ℤ, pred_ℤ-*ℤ, neg_ℤ-+ℤ}
 use Rattle.std.specs.Int.Signed.{lt_z}
 use Rattle.laws.specs.Tests.{clash}
-use Rattle.laws.specs.Words.{eqZ, emod}
-use Rattle.laws.specs.Whole.{abs-add, eqZ-true, eq-eqZ, ne-eqZ, raised, raised-add, lt-raised, le-raised, raised_lt, raised-le}
+use Rattle.laws.specs.Words.{eq_z, emod}
+use Rattle.laws.specs.Whole.{abs-add, eq_z-true, eq-eq_z, ne-eq_z, raised, raised-add, lt-raised, le-raised, raised_lt, raised-le}
 use Rattle.laws.specs.RemainderLaws.{emod-lt, emod-shift, lifted, emod-add, emod-class}
 
 -- ---- sums
@@ -40,15 +40,15 @@ times-sum m a b = ℤ_ind (λ z. z *ℤ (a +ℤ b) ≡ z *ℤ a +ℤ z *ℤ b) n
     less n h = subst (λ (z : ℤ). z *ℤ (a +ℤ b) ≡ z *ℤ a +ℤ z *ℤ b) (sym (-ℤ_one (neg_ℤ (pos n)))) (down (neg_ℤ (pos n)) h)
 
 -- ---- tests of two numbers that both move
-pub eq-moved : (a b x : ℤ) → eqZ (a +ℤ x) (b +ℤ x) ≡ eqZ a b
-eq-moved a b x = go (eqZ a b) refl
+pub eq-moved : (a b x : ℤ) → eq_z (a +ℤ x) (b +ℤ x) ≡ eq_z a b
+eq-moved a b x = go (eq_z a b) refl
   where
-    go : (t : Bool) → eqZ a b ≡ t → eqZ (a +ℤ x) (b +ℤ x) ≡ t
-    go true e = eq-eqZ (a +ℤ x) (b +ℤ x) (ap (λ (z : ℤ). z +ℤ x) (eqZ-true a b e))
-    go false e = ne-eqZ (a +ℤ x) (b +ℤ x) (λ q. apart (sym (+ℤ-neg_ℤ_cancel a x) ∙ ap (λ (z : ℤ). z -ℤ x) q ∙ +ℤ-neg_ℤ_cancel b x))
+    go : (t : Bool) → eq_z a b ≡ t → eq_z (a +ℤ x) (b +ℤ x) ≡ t
+    go true e = eq-eq_z (a +ℤ x) (b +ℤ x) (ap (λ (z : ℤ). z +ℤ x) (eq_z-true a b e))
+    go false e = ne-eq_z (a +ℤ x) (b +ℤ x) (λ q. apart (sym (+ℤ-neg_ℤ_cancel a x) ∙ ap (λ (z : ℤ). z -ℤ x) q ∙ +ℤ-neg_ℤ_cancel b x))
       where
         apart : a ≡ b → ⊥
-        apart q = clash (eq-eqZ a b q) e
+        apart q = clash (eq-eq_z a b q) e
 
 module _ (a b x : ℤ) where
   -- more than each of them, and than what they move by

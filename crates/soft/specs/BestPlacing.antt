@@ -19,19 +19,19 @@ pub record OwnBest (G : Grid) (s : ℕ → ℤ) (k : ℕ) : Type 0 where
 
 -- the cells of j come first, "by horizontal then vertical cell position", or are those of i
 abbrev pub NotAfter : Grid → ℕ → ℕ → Type 0
-NotAfter G j i = (G.hOf j < G.hOf i) ⊎ ((G.hOf j ≡ G.hOf i) × (G.vOf j ≤ G.vOf i))
+NotAfter G j i = (G.h_of j < G.h_of i) ⊎ ((G.h_of j ≡ G.h_of i) × (G.v_of j ≤ G.v_of i))
 
 -- j shares the vertical cell with k, and each origin but k that does so with a horizontal cell before j's has a smaller sum
 pub record Across (G : Grid) (s : ℕ → ℤ) (k j : ℕ) : Type 0 where
-  pub shared : G.vOf j ≡ G.vOf k
-  pub first : (i : ℕ) → i < G.none → (i ≡ k → ⊥) → G.vOf i ≡ G.vOf k → G.hOf i < G.hOf j → lt_z (s i) (s j) ≡ true
+  pub shared : G.v_of j ≡ G.v_of k
+  pub first : (i : ℕ) → i < G.none → (i ≡ k → ⊥) → G.v_of i ≡ G.v_of k → G.h_of i < G.h_of j → lt_z (s i) (s j) ≡ true
 
 -- j shares the horizontal cell with k, each origin but k that does so with a vertical cell before j's has a smaller sum, and so has each that shares the
 -- vertical cell with k: "horizontal on a tie"
 pub record Down (G : Grid) (s : ℕ → ℤ) (k j : ℕ) : Type 0 where
-  pub shared : G.hOf j ≡ G.hOf k
-  pub first : (i : ℕ) → i < G.none → (i ≡ k → ⊥) → G.hOf i ≡ G.hOf k → G.vOf i < G.vOf j → lt_z (s i) (s j) ≡ true
-  pub greater : (i : ℕ) → i < G.none → (i ≡ k → ⊥) → G.vOf i ≡ G.vOf k → lt_z (s i) (s j) ≡ true
+  pub shared : G.h_of j ≡ G.h_of k
+  pub first : (i : ℕ) → i < G.none → (i ≡ k → ⊥) → G.h_of i ≡ G.h_of k → G.v_of i < G.v_of j → lt_z (s i) (s j) ≡ true
+  pub greater : (i : ℕ) → i < G.none → (i ≡ k → ⊥) → G.v_of i ≡ G.v_of k → lt_z (s i) (s j) ≡ true
 
 -- j is second to k: another origin, and no origin but k has a greater whole sum
 pub record OwnSecond (G : Grid) (s : ℕ → ℤ) (k j : ℕ) : Type 0 where
@@ -65,8 +65,8 @@ module _ (G : Grid) (n : ℕ) (S : ℕ → ℕ → ℤ) where
 
 -- ---- the choice
 -- a placing with its total, by row and column on a board of 3 M columns
-abbrev pub candidateAt : ℕ → (ℕ → ℕ → ℤ) → ℕ → ℕ → SoftCandidate
-candidateAt M S p k = record { placing = record { listed = p; row = k / (3 * M); col = k % (3 * M) }; total = dequantised (S p k) }
+abbrev pub candidate_at : ℕ → (ℕ → ℕ → ℤ) → ℕ → ℕ → SoftCandidate
+candidate_at M S p k = record { placing = record { listed = p; row = k / (3 * M); col = k % (3 * M) }; total = dequantised (S p k) }
 
 -- the choice holds first place and second place, with their totals
 pub record BestTwo (L M n : ℕ) (S : ℕ → ℕ → ℤ) (choice : SoftChoice) : Type 0 where
@@ -74,6 +74,6 @@ pub record BestTwo (L M n : ℕ) (S : ℕ → ℕ → ℤ) (choice : SoftChoice)
   pub k : ℕ
   pub q : ℕ
   pub j : ℕ
-  pub chosen : choice ≡ Chosen (candidateAt M S p k) (candidateAt M S q j)
+  pub chosen : choice ≡ Chosen (candidate_at M S p k) (candidate_at M S q j)
   pub first : FirstPlace (origins L M) n S p k
   pub second : SecondPlace (origins L M) n S p k q j

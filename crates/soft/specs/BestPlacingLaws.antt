@@ -12,13 +12,13 @@ use Rattle.laws.specs.Words.{Grid, origins}
 use Rattle.likelihood.specs.Likelihood.{dequantised}
 use Rattle.best.specs.CellTables.{Period}
 use Rattle.level.specs.Sums.{SumTables, SumsOk, sum_at}
-use Rattle.pair.specs.Pair.{winnerOf, second_of}
-use Rattle.margin.specs.Choice.{choice_of, softChosen}
-use Rattle.soft.specs.Scan.{softCandidate, softOffered, softEmpty, softFolded, softSelected}
+use Rattle.pair.specs.Pair.{winner_of, second_of}
+use Rattle.margin.specs.Choice.{choice_of, soft_chosen}
+use Rattle.soft.specs.Scan.{soft_candidate, soft_offered, soft_empty, soft_folded, soft_selected}
 use Rattle.soft.specs.ScanLaws.{folded-with, soft-selected-count}
 use Rattle.soft.specs.SeparationLaws.{OnGrid, on-grid, sum-under}
 use Rattle.soft.specs.SecondLaws.{winner-own, second-own}
-use Rattle.soft.specs.BestPlacing.{OwnBest, Across, Down, OwnSecond, candidateAt, BestTwo}
+use Rattle.soft.specs.BestPlacing.{OwnBest, Across, Down, OwnSecond, candidate_at, BestTwo}
 use Rattle.soft.specs.SlotLaws.{above, SlotsIn, slots-two, slots-more}
 use Rattle.soft.specs.PlaceLaws.{offers-weak, places}
 use Rattle.margin.specs.declared.slots.SoftCandidate.{SoftCandidate}
@@ -30,9 +30,9 @@ use Rattle.margin.specs.declared.slots.SoftChoice.TheVariants.{Chosen}
 unfoldable pair_of : (ℕ → ℕ) → (ℕ → ℕ) → ℕ → ℕ
 pair_of W R m = cond (eqb (m % 2) 0) (W (m / 2)) (R (m / 2))
 
-unfoldable offerOf : ℕ → (ℕ → ℕ → ℤ) → (ℕ → ℕ) → (ℕ → ℕ) → ℕ → SoftCandidate
+unfoldable offer_of : ℕ → (ℕ → ℕ → ℤ) → (ℕ → ℕ) → (ℕ → ℕ) → ℕ → SoftCandidate
 unfolding pair_of
-offerOf M S W R m = candidateAt M S (m / 2) (pair_of W R m)
+offer_of M S W R m = candidate_at M S (m / 2) (pair_of W R m)
 
 even-half : (r : ℕ) → (2 * r) / 2 ≡ r
 even-half r = omega arith
@@ -47,73 +47,73 @@ odd-rest : (r : ℕ) → suc (2 * r) % 2 ≡ 1
 odd-rest r = omega arith
 
 module _ (M : ℕ) (S : ℕ → ℕ → ℤ) (W R : ℕ → ℕ) where
-  offer-even : (r : ℕ) → offerOf M S W R (2 * r) ≡ candidateAt M S r (W r)
-  unfolding offerOf pair_of
+  offer-even : (r : ℕ) → offer_of M S W R (2 * r) ≡ candidate_at M S r (W r)
+  unfolding offer_of pair_of
   offer-even r = rw (even-half r, even-rest r)
 
-  offer-odd : (r : ℕ) → offerOf M S W R (suc (2 * r)) ≡ candidateAt M S r (R r)
-  unfolding offerOf pair_of
+  offer-odd : (r : ℕ) → offer_of M S W R (suc (2 * r)) ≡ candidate_at M S r (R r)
+  unfolding offer_of pair_of
   offer-odd r = rw (odd-half r, odd-rest r)
 
 -- ---- the tables of n list positions
 module _ (L M : ℕ) (u : Period L) (v : Period M) (tab : ℕ → SumTables) (n : ℕ) (ok : (r : ℕ) → r < n → SumsOk L M (tab r).hs (tab r).vs) where
   -- the whole sum of a placing by its two cells, and the winner and the second of a position
-  abbrev pub tableSum : ℕ → ℕ → ℤ
-  tableSum r k = sum_at (origins L M) (tab r).hs (tab r).vs k
+  abbrev pub table_sum : ℕ → ℕ → ℤ
+  table_sum r k = sum_at (origins L M) (tab r).hs (tab r).vs k
 
   abbrev W : ℕ → ℕ
-  W r = winnerOf (origins L M) (tab r).hs (tab r).vs
+  W r = winner_of (origins L M) (tab r).hs (tab r).vs
 
   abbrev R : ℕ → ℕ
   R r = second_of (origins L M) (tab r).hs (tab r).vs
 
   abbrev off : ℕ → SoftCandidate
-  off = offerOf M tableSum W R
+  off = offer_of M table_sum W R
 
   board : (r : ℕ) → r < n → OnGrid (origins L M) (tab r).hs (tab r).vs
   board r l = on-grid L M u v (tab r).hs (tab r).vs (ok r l)
 
   weak : Weak (2 * n) (above off)
-  weak = offers-weak M (origins L M) n tableSum W R (λ r l. winner-own (board r l)) (λ r l. second-own (board r l)) (λ r k l m. sum-under (board r l) k) off (offer-even M tableSum W R) (offer-odd M tableSum W R)
+  weak = offers-weak M (origins L M) n table_sum W R (λ r l. winner-own (board r l)) (λ r l. second-own (board r l)) (λ r k l m. sum-under (board r l) k) off (offer-even M table_sum W R) (offer-odd M table_sum W R)
 
   -- ---- the scan
   -- a candidate is a placing with its total
-  candidate-is : (r k : ℕ) → softCandidate L M (tab r) r k ≡ candidateAt M tableSum r k
-  unfolding softCandidate
+  candidate-is : (r k : ℕ) → soft_candidate L M (tab r) r k ≡ candidate_at M table_sum r k
+  unfolding soft_candidate
   candidate-is r k = refl
 
-  folded-slots : (s : SoftScan) (r : ℕ) → s.count ≡ r → (m : ℕ) → SlotsIn off m (softOffered (softOffered s (off (2 * r))) (off (suc (2 * r)))) → SlotsIn off m (softFolded L M (tab r) s)
+  folded-slots : (s : SoftScan) (r : ℕ) → s.count ≡ r → (m : ℕ) → SlotsIn off m (soft_offered (soft_offered s (off (2 * r))) (off (suc (2 * r)))) → SlotsIn off m (soft_folded L M (tab r) s)
   folded-slots s r e m h =
       subst (λ (x : SoftScan). SlotsIn off m x)
       (sym (folded-with L M (tab r) s (off (2 * r)) (off (suc (2 * r)))
-      (ap (λ (c : ℕ). softCandidate L M (tab r) c (W r)) e ∙ candidate-is r (W r) ∙ sym (offer-even M tableSum W R r))
-      (ap (λ (c : ℕ). softCandidate L M (tab r) c (R r)) e ∙ candidate-is r (R r) ∙ sym (offer-odd M tableSum W R r))))
+      (ap (λ (c : ℕ). soft_candidate L M (tab r) c (W r)) e ∙ candidate-is r (W r) ∙ sym (offer-even M table_sum W R r))
+      (ap (λ (c : ℕ). soft_candidate L M (tab r) c (R r)) e ∙ candidate-is r (R r) ∙ sym (offer-odd M table_sum W R r))))
       h
 
-  scan-slots : (m : ℕ) → m < n → SlotsIn off (2 * suc m) (softSelected L M tab (suc m))
-  unfolding softSelected softEmpty
-  scan-slots zero l = folded-slots softEmpty 0 refl 2 (slots-two off (2 * n) weak (omega arith))
+  scan-slots : (m : ℕ) → m < n → SlotsIn off (2 * suc m) (soft_selected L M tab (suc m))
+  unfolding soft_selected soft_empty
+  scan-slots zero l = folded-slots soft_empty 0 refl 2 (slots-two off (2 * n) weak (omega arith))
   scan-slots (suc m) l =
-      let s = softSelected L M tab (suc m) in
+      let s = soft_selected L M tab (suc m) in
       let e : suc (suc (2 * suc m)) ≡ 2 * suc (suc m) = omega arith in
       let one = slots-more off (2 * n) weak (2 * suc m) (omega arith) s (scan-slots m (omega arith)) in
-      let both = slots-more off (2 * n) weak (suc (2 * suc m)) (omega arith) (softOffered s (off (2 * suc m))) one in
+      let both = slots-more off (2 * n) weak (suc (2 * suc m)) (omega arith) (soft_offered s (off (2 * suc m))) one in
       folded-slots s (suc m) (soft-selected-count L M tab (suc m)) (2 * suc (suc m))
-      (subst (λ (x : ℕ). SlotsIn off x (softOffered (softOffered s (off (2 * suc m))) (off (suc (2 * suc m))))) e both)
+      (subst (λ (x : ℕ). SlotsIn off x (soft_offered (soft_offered s (off (2 * suc m))) (off (suc (2 * suc m))))) e both)
 
   -- after at least one transform
-  full : 0 < n → SlotsIn off (2 * n) (softSelected L M tab n)
+  full : 0 < n → SlotsIn off (2 * n) (soft_selected L M tab n)
   full l =
       let e : suc (n - 1) ≡ n = omega arith in
-      subst (λ (x : ℕ). SlotsIn off (2 * x) (softSelected L M tab x)) e (scan-slots (n - 1) (omega arith))
+      subst (λ (x : ℕ). SlotsIn off (2 * x) (soft_selected L M tab x)) e (scan-slots (n - 1) (omega arith))
 
   -- the choice holds the first and the second of all placings, by the sums of their cells
-  pub table-best : 0 < n → BestTwo L M n tableSum (softChosen (softSelected L M tab n))
-  unfolding softChosen
+  pub table-best : 0 < n → BestTwo L M n table_sum (soft_chosen (soft_selected L M tab n))
+  unfolding soft_chosen
   table-best l =
-      let s = softSelected L M tab n in
-      let P = places M (origins L M) n tableSum W R (λ r l. winner-own (board r l)) (λ r l. second-own (board r l)) (λ r k l m. sum-under (board r l) k) off (offer-even M tableSum W R) (offer-odd M tableSum W R) s.first s.second (full l) in
-      record { p = P.p; k = P.k; q = P.q; j = P.j; chosen = ap₂ choice_of P.x-held P.y-held; first = P.first; second = P.second }
+      let s = soft_selected L M tab n in
+      let P = places M (origins L M) n table_sum W R (λ r l. winner-own (board r l)) (λ r l. second-own (board r l)) (λ r k l m. sum-under (board r l) k) off (offer-even M table_sum W R) (offer-odd M table_sum W R) s.first s.second (full l) in
+      record { p = P.p; k = P.k; q = P.q; j = P.j; chosen = ap₂ choice_of P.x_held P.y_held; first = P.first; second = P.second }
 
 -- ---- the same sums, said another way
 module _ (G : Grid) (s t : ℕ → ℤ) (e : (i : ℕ) → i < G.none → t i ≡ s i) where
@@ -144,7 +144,7 @@ module _ (L M n : ℕ) (S T : ℕ → ℕ → ℤ) (e : (r k : ℕ) → r < n �
   total-same : (r k : ℕ) → r < n → k < 3 * L * (3 * M) → dequantised (T r k) ≡ dequantised (S r k)
   total-same r k l m = ap dequantised (e r k l m)
 
-  candidate-same : (r k : ℕ) → r < n → k < 3 * L * (3 * M) → candidateAt M S r k ≡ candidateAt M T r k
+  candidate-same : (r k : ℕ) → r < n → k < 3 * L * (3 * M) → candidate_at M S r k ≡ candidate_at M T r k
   candidate-same r k l m = rw (e r k l m)
 
   -- two ways of counting that agree have the same first and second
@@ -180,5 +180,5 @@ module _ (L M n : ℕ) (S T : ℕ → ℕ → ℤ) (e : (r k : ℕ) → r < n �
 -- ---- the theorem: whatever the whole sums are counted by, where the tables hold them the choice is the best two placings
 pub soft-best : (L M : ℕ) → Period L → Period M → (tab : ℕ → SumTables) (n : ℕ) → 0 < n → ((r : ℕ) → r < n → SumsOk L M (tab r).hs (tab r).vs)
     → (S : ℕ → ℕ → ℤ) → ((r k : ℕ) → r < n → k < 3 * L * (3 * M) → S r k ≡ sum_at (origins L M) (tab r).hs (tab r).vs k)
-    → BestTwo L M n S (softChosen (softSelected L M tab n))
-soft-best L M u v tab n l ok S e = best-two-same L M n (λ r k. sum_at (origins L M) (tab r).hs (tab r).vs k) S e (softChosen (softSelected L M tab n)) (table-best L M u v tab n ok l)
+    → BestTwo L M n S (soft_chosen (soft_selected L M tab n))
+soft-best L M u v tab n l ok S e = best-two-same L M n (λ r k. sum_at (origins L M) (tab r).hs (tab r).vs k) S e (soft_chosen (soft_selected L M tab n)) (table-best L M u v tab n ok l)

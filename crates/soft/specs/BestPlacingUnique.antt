@@ -8,7 +8,7 @@ use Rattle.laws.specs.GridLaws.{Laws}
 use Rattle.best.specs.CellTables.{Period}
 use Rattle.grid.specs.BoardGrid.{grid}
 use Rattle.soft.specs.TotalOrderLaws.{not-less, less-through}
-use Rattle.soft.specs.BestPlacing.{OwnBest, NotAfter, Across, Down, OwnSecond, FirstPlace, SecondPlace, candidateAt, BestTwo}
+use Rattle.soft.specs.BestPlacing.{OwnBest, NotAfter, Across, Down, OwnSecond, FirstPlace, SecondPlace, candidate_at, BestTwo}
 use Rattle.margin.specs.declared.slots.SoftChoice.{SoftChoice}
 use Rattle.margin.specs.declared.slots.SoftChoice.TheVariants.{Chosen}
 
@@ -22,14 +22,14 @@ own-only G s k j A B =
 
 module _ (G : Grid) (hn vn : ℕ) (E : Laws G hn vn) (s : ℕ → ℤ) (k : ℕ) where
   -- two origins of the same cells are one
-  same-cells : (i j : ℕ) → i < G.none → j < G.none → G.hOf i ≡ G.hOf j → G.vOf i ≡ G.vOf j → i ≡ j
+  same-cells : (i j : ℕ) → i < G.none → j < G.none → G.h_of i ≡ G.h_of j → G.v_of i ≡ G.v_of j → i ≡ j
   same-cells i j l m h v = sym (E.back i l) ∙ ap₂ G.key h v ∙ E.back j m
 
   same_place : (i j : ℕ) → i < G.none → j < G.none → NotAfter G i j → NotAfter G j i → i ≡ j
   same_place i j l m (inl a) (inl b) = absurd (omega arith)
   same_place i j l m (inl a) (inr b) = absurd (omega (arith, b.0))
   same_place i j l m (inr a) (inl b) = absurd (omega (arith, a.0))
-  same_place i j l m (inr a) (inr b) = let e : G.vOf i ≡ G.vOf j = omega (arith, a.1, b.1) in same-cells i j l m a.0 e
+  same_place i j l m (inr a) (inr b) = let e : G.v_of i ≡ G.v_of j = omega (arith, a.1, b.1) in same-cells i j l m a.0 e
 
   module _ (i j : ℕ) (A : OwnSecond G s k i) (B : OwnSecond G s k j) where
     no_less : lt_z (s i) (s j) ≡ false
@@ -42,13 +42,13 @@ module _ (G : Grid) (hn vn : ℕ) (E : Laws G hn vn) (s : ℕ → ℤ) (k : ℕ)
     both-across a b =
         ⊎_elim (λ e. same-cells i j A.key B.key e (a.shared ∙ sym b.shared))
         (⊎_elim (λ l. clash (b.first i A.key A.other a.shared l) no_less) (λ l. clash (a.first j B.key B.other b.shared l) no-less-back))
-        (apart (G.hOf i) (G.hOf j))
+        (apart (G.h_of i) (G.h_of j))
 
     both-down : Down G s k i → Down G s k j → i ≡ j
     both-down a b =
         ⊎_elim (λ e. same-cells i j A.key B.key (a.shared ∙ sym b.shared) e)
         (⊎_elim (λ l. clash (b.first i A.key A.other a.shared l) no_less) (λ l. clash (a.first j B.key B.other b.shared l) no-less-back))
-        (apart (G.vOf i) (G.vOf j))
+        (apart (G.v_of i) (G.v_of j))
 
     both-alone : Across G s k i ⊎ Down G s k i → Across G s k j ⊎ Down G s k j → i ≡ j
     both-alone (inl a) (inl b) = both-across a b
@@ -91,7 +91,7 @@ pub best-two-only : (L M n : ℕ) → Period L → Period M → (S : ℕ → ℕ
 best-two-only L M n u v S a b A B =
     let f = first-only (origins L M) n S A.p A.k B.p B.k A.first B.first in
     let s = second-only (origins L M) n S (3 * L) (3 * M) (grid L M u v) B.p B.k A.q A.j B.q B.j (moved f.0 f.1) B.second in
-    A.chosen ∙ ap₂ Chosen (ap₂ (candidateAt M S) f.0 f.1) (ap₂ (candidateAt M S) s.0 s.1) ∙ sym B.chosen
+    A.chosen ∙ ap₂ Chosen (ap₂ (candidate_at M S) f.0 f.1) (ap₂ (candidate_at M S) s.0 s.1) ∙ sym B.chosen
   where
     moved : A.p ≡ B.p → A.k ≡ B.k → SecondPlace (origins L M) n S B.p B.k A.q A.j
     moved e d = subst (λ (x : ℕ). SecondPlace (origins L M) n S x B.k A.q A.j) e (subst (λ (x : ℕ). SecondPlace (origins L M) n S A.p x A.q A.j) d A.second)

@@ -8,7 +8,7 @@ use Rattle.laws.specs.Best.{Weak}
 use Rattle.laws.specs.Words.{Grid}
 use Rattle.likelihood.specs.Likelihood.{dequantised}
 use Rattle.soft.specs.TotalOrderLaws.{Small, total_mono, total-less-not, total-not-less, total-less-through}
-use Rattle.soft.specs.BestPlacing.{OwnBest, OwnSecond, FirstPlace, SecondPlace, candidateAt}
+use Rattle.soft.specs.BestPlacing.{OwnBest, OwnSecond, FirstPlace, SecondPlace, candidate_at}
 use Rattle.soft.specs.SlotLaws.{above, Slots}
 use Rattle.margin.specs.declared.slots.SoftCandidate.{SoftCandidate}
 use Rattle.margin.specs.declared.slots.Slot.{Slot}
@@ -20,8 +20,8 @@ pub record Places (M : ℕ) (G : Grid) (n : ℕ) (S : ℕ → ℕ → ℤ) (x y 
   pub k : ℕ
   pub q : ℕ
   pub j : ℕ
-  pub x-held : x ≡ Held (candidateAt M S p k)
-  pub y-held : y ≡ Held (candidateAt M S q j)
+  pub x_held : x ≡ Held (candidate_at M S p k)
+  pub y_held : y ≡ Held (candidate_at M S q j)
   pub first : FirstPlace G n S p k
   pub second : SecondPlace G n S p k q j
 
@@ -32,7 +32,7 @@ parity m = ⊎_elim (λ e. inr (m / 2, omega arith)) (λ l. inl (m / 2, omega ar
 -- position r has the winner W r and the second R r, offered one after the other
 module _ (M : ℕ) (G : Grid) (n : ℕ) (S : ℕ → ℕ → ℤ) (W R : ℕ → ℕ)
     (own : (r : ℕ) → r < n → OwnBest G (S r) (W r)) (run : (r : ℕ) → r < n → OwnSecond G (S r) (W r) (R r)) (small : (r k : ℕ) → r < n → k < G.none → Small (S r k))
-    (off : ℕ → SoftCandidate) (even : (r : ℕ) → off (2 * r) ≡ candidateAt M S r (W r)) (odd : (r : ℕ) → off (suc (2 * r)) ≡ candidateAt M S r (R r)) where
+    (off : ℕ → SoftCandidate) (even : (r : ℕ) → off (2 * r) ≡ candidate_at M S r (W r)) (odd : (r : ℕ) → off (suc (2 * r)) ≡ candidate_at M S r (R r)) where
   w-small : (r : ℕ) → r < n → Small (S r (W r))
   w-small r l = small r (W r) l (own r l).key
 
@@ -75,7 +75,7 @@ module _ (M : ℕ) (G : Grid) (n : ℕ) (S : ℕ → ℕ → ℤ) (W R : ℕ →
   module _ (x y : Slot) (F : Slots off (2 * n) x y) where
     -- ---- first place is held by a winner
     first-even : (r : ℕ) × (F.f ≡ 2 * r)
-    first-even = ⊎_elim (λ o. o) (λ o. let l : o.0 < n = omega (arith, F.f-in, o.1) in clash (late o.0 o.1) (under-winner o.0 (R o.0) l (run o.0 l).key)) (parity F.f)
+    first-even = ⊎_elim (λ o. o) (λ o. let l : o.0 < n = omega (arith, F.f_in, o.1) in clash (late o.0 o.1) (under-winner o.0 (R o.0) l (run o.0 l).key)) (parity F.f)
       where
         late : (r : ℕ) → F.f ≡ suc (2 * r) → lt (dequantised (S r (W r))) (dequantised (S r (R r))) ≡ true
         late r e = sym (ap₂ lt (even-total r) (ap (λ (m : ℕ). (off m).total) e ∙ odd-total r)) ∙ F.early (2 * r) (omega arith)
@@ -84,7 +84,7 @@ module _ (M : ℕ) (G : Grid) (n : ℕ) (S : ℕ → ℕ → ℤ) (W R : ℕ →
     P = first-even.0
 
     P-in : P < n
-    P-in = omega (arith, F.f-in, first-even.1)
+    P-in = omega (arith, F.f_in, first-even.1)
 
     first-total : (off F.f).total ≡ dequantised (S P (W P))
     first-total = ap (λ (m : ℕ). (off m).total) first-even.1 ∙ even-total P
@@ -116,8 +116,8 @@ module _ (M : ℕ) (G : Grid) (n : ℕ) (S : ℕ → ℕ → ℤ) (W R : ℕ →
 
       not-over : (r i : ℕ) → r < n → i < G.none → ((r ≡ P) × (i ≡ W P) → ⊥) → lt (dequantised (S q j)) (dequantised (S r i)) ≡ false
       not-over r i l m ne = ⊎_elim
-          (λ e. rw e (sym (ap₂ lt held (even-total r)) ∙ F.second-top (2 * r) (omega arith) (even-other r i e ne)))
-          (λ d. total-not-less (S q j) (S r (R r)) (S r i) s-small (r_small r l) (small r i l m) (sym (ap₂ lt held (odd-total r)) ∙ F.second-top (suc (2 * r)) (omega arith) (odd-other r)) (under-second r i l m d))
+          (λ e. rw e (sym (ap₂ lt held (even-total r)) ∙ F.second_top (2 * r) (omega arith) (even-other r i e ne)))
+          (λ d. total-not-less (S q j) (S r (R r)) (S r i) s-small (r_small r l) (small r i l m) (sym (ap₂ lt held (odd-total r)) ∙ F.second_top (suc (2 * r)) (omega arith) (odd-other r)) (under-second r i l m d))
           (decided i (W r))
 
       under : (r i : ℕ) → r < q → i < G.none → ((r ≡ P) × (i ≡ W P) → ⊥) → lt (dequantised (S r i)) (dequantised (S q j)) ≡ true
@@ -134,7 +134,7 @@ module _ (M : ℕ) (G : Grid) (n : ℕ) (S : ℕ → ℕ → ℤ) (W R : ℕ →
     -- by the winner of another position
     by-winner : (r : ℕ) → F.g ≡ 2 * r → SecondPlace G n S P (W P) r (W r)
     by-winner r e =
-        let l : r < n = omega (arith, F.g-in) in
+        let l : r < n = omega (arith, F.g_in) in
         second-place r (W r) l (own r l).key (ap (λ (m : ℕ). (off m).total) e ∙ even-total r) (omega arith)
         (λ z. not_first z.0) (λ n. own r l) (λ z. absurd (not_first z))
       where
@@ -144,7 +144,7 @@ module _ (M : ℕ) (G : Grid) (n : ℕ) (S : ℕ → ℕ → ℤ) (W R : ℕ →
     -- or by the second of the first's
     by-second : (r : ℕ) → F.g ≡ suc (2 * r) → SecondPlace G n S P (W P) r (R r)
     by-second r e =
-        let l : r < n = omega (arith, F.g-in) in
+        let l : r < n = omega (arith, F.g_in) in
         second-place r (R r) l (run r l).key (ap (λ (m : ℕ). (off m).total) e ∙ odd-total r) (omega arith)
         (λ z. (run r l).other (z.1 ∙ ap W (sym z.0))) (λ z. clash (winner-less z) (under-winner r (R r) l (run r l).key)) (λ z. subst (λ (k : ℕ). OwnSecond G (S r) k (R r)) (ap W z) (run r l))
       where
@@ -154,7 +154,7 @@ module _ (M : ℕ) (G : Grid) (n : ℕ) (S : ℕ → ℕ → ℤ) (W R : ℕ →
             ∙ F.second-early (2 * r) (omega arith) (λ d. let c : r ≡ P = omega (arith, first-even.1) in z c)
 
     -- ---- both
-    x-is : x ≡ Held (candidateAt M S P (W P))
+    x-is : x ≡ Held (candidate_at M S P (W P))
     x-is = F.first ∙ ap (λ (m : ℕ). Held (off m)) first-even.1 ∙ ap Held (even P)
 
     pub places : Places M G n S x y
@@ -164,8 +164,8 @@ module _ (M : ℕ) (G : Grid) (n : ℕ) (S : ℕ → ℕ → ℤ) (W R : ℕ →
           k = W P;
           q = o.0;
           j = W o.0;
-          x-held = x-is;
-          y-held = F.second ∙ ap (λ (m : ℕ). Held (off m)) o.1 ∙ ap Held (even o.0);
+          x_held = x-is;
+          y_held = F.second ∙ ap (λ (m : ℕ). Held (off m)) o.1 ∙ ap Held (even o.0);
           first = first-place;
           second = by-winner o.0 o.1;
         })
@@ -174,8 +174,8 @@ module _ (M : ℕ) (G : Grid) (n : ℕ) (S : ℕ → ℕ → ℤ) (W R : ℕ →
           k = W P;
           q = o.0;
           j = R o.0;
-          x-held = x-is;
-          y-held = F.second ∙ ap (λ (m : ℕ). Held (off m)) o.1 ∙ ap Held (odd o.0);
+          x_held = x-is;
+          y_held = F.second ∙ ap (λ (m : ℕ). Held (off m)) o.1 ∙ ap Held (odd o.0);
           first = first-place;
           second = by-second o.0 o.1;
         })

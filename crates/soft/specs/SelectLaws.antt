@@ -9,7 +9,7 @@ use Rattle.std.proofs.Math.ListN.{get_or, length}
 use Rattle.laws.specs.Part.{view}
 use Rattle.laws.specs.Cleared.{SameBeyond}
 use Rattle.board.specs.Hits.{EdgeList, Board}
-use Rattle.board.specs.Sides.{periodOf}
+use Rattle.board.specs.Sides.{period_of}
 use Rattle.board.specs.DomainLaws.{edges-ok}
 use Rattle.board.specs.Domain.{ListOk, BoardOk}
 use Rattle.room.specs.Room.{used}
@@ -19,27 +19,27 @@ use Rattle.sums.specs.SumsTheorems.{length-sums, sums-small, read-sums, sums-aga
 use Rattle.best.specs.CellTables.{Period}
 use Rattle.grid.specs.BoardGrid.{period-h, period-v}
 use Rattle.level.specs.Sums.{SumTables, sums, SumsOk}
-use Rattle.soft.specs.Scan.{softEmpty, softFolded}
+use Rattle.soft.specs.Scan.{soft_empty, soft_folded}
 use Rattle.soft.specs.ScanLaws.{soft-selected-none, soft-selected-more, soft-selected-count}
 use Rattle.soft.specs.BestPlacing.{BestTwo}
 use Rattle.soft.specs.BestPlacingLaws.{soft-best}
 use Rattle.margin.specs.declared.slots.SoftScan.{SoftScan}
-use Rattle.soft.specs.Select.{sumTables, softScanOf, softSelection, SoftReady, SumRoom, SoftScanned}
+use Rattle.soft.specs.Select.{sum_tables, soft_scan_of, soft_selection, SoftReady, SumRoom, SoftScanned}
 
 -- the two tables in a room: horizontal cells, then vertical cells
-unfoldable pub roomSums : ℕ → ℕ → List ℤ → SumTables
-roomSums L M a = sums (view 0 (3 * L) a) (view (3 * L) (3 * M) a)
+unfoldable pub room_sums : ℕ → ℕ → List ℤ → SumTables
+room_sums L M a = sums (view 0 (3 * L) a) (view (3 * L) (3 * M) a)
 
 -- a room whose cells can be folded into the scan: both periods in range, all cells there, and their sums in range
 pub record SumsRoomReady (L M : ℕ) (a : List ℤ) : Type 0 where
   pub h : Period L
   pub v : Period M
   pub room : 3 * L + 3 * M ≤ length a
-  pub sums : SumsOk L M (roomSums L M a).hs (roomSums L M a).vs
+  pub sums : SumsOk L M (room_sums L M a).hs (room_sums L M a).vs
 
 -- the sums of a transform are as the fold asks
-pub sums-ok : (B : Board) (E : EdgeList) (X : Likelihoods) (t : ℕ) → ListOk E → LikelihoodsOk E X → SumsOk (periodOf B true) (periodOf B false) (sumTables B E X t).hs (sumTables B E X t).vs
-unfolding sumTables
+pub sums-ok : (B : Board) (E : EdgeList) (X : Likelihoods) (t : ℕ) → ListOk E → LikelihoodsOk E X → SumsOk (period_of B true) (period_of B false) (sum_tables B E X t).hs (sum_tables B E X t).vs
+unfolding sum_tables
 sums-ok B E X t list ok = record { hlen = length-sums B E X t true; vlen = length-sums B E X t false; bounded = sums-small B E X t list ok }
 
 module _ (B : Board) (E : EdgeList) (X : Likelihoods) (ts : List ℕ) (a : List ℤ) (R : SoftReady B E X ts a) where
@@ -49,7 +49,7 @@ module _ (B : Board) (E : EdgeList) (X : Likelihoods) (ts : List ℕ) (a : List 
   room-length (suc p) a' d = d.len
 
   -- whatever was built, the surplus is what it was
-  pub room-beyond : (n : ℕ) (a' : List ℤ) → SumRoom B E X ts n a a' → SameBeyond (pos 0) (used (periodOf B) 2) a a'
+  pub room-beyond : (n : ℕ) (a' : List ℤ) → SumRoom B E X ts n a a' → SameBeyond (pos 0) (used (period_of B) 2) a a'
   unfolding SumRoom
   room-beyond zero a' d = record { len = ap length d; same = λ k h. ap (λ (l : List ℤ). get_or l k (pos 0)) d }
   room-beyond (suc p) a' d = record { len = d.len; same = d.surplus }
@@ -63,35 +63,35 @@ module _ (B : Board) (E : EdgeList) (X : Likelihoods) (ts : List ℕ) (a : List 
   room-more zero a' a'' d b = subst (λ (x : List ℤ). SumsBuilt B E X (get_or ts 0 0) x a'') d b
   room-more (suc p) a' a'' d b = rw add-one (sums-again B E E X X (get_or ts p 0) (get_or ts (suc p) 0) a a' a'' d b)
 
-  pub built-sums : (t : ℕ) (a' a'' : List ℤ) → SumsReady B E X t a' → SumsBuilt B E X t a' a'' → roomSums (periodOf B true) (periodOf B false) a'' ≡ sumTables B E X t
-  unfolding roomSums sumTables
+  pub built-sums : (t : ℕ) (a' a'' : List ℤ) → SumsReady B E X t a' → SumsBuilt B E X t a' a'' → room_sums (period_of B true) (period_of B false) a'' ≡ sum_tables B E X t
+  unfolding room_sums sum_tables
   built-sums t a' a'' ready b = ap₂ sums (read-sums B E X t a' a'' ready b true) (read-sums B E X t a' a'' ready b false)
 
-  pub room-ready : (t : ℕ) (a' a'' : List ℤ) → SumsReady B E X t a' → SumsBuilt B E X t a' a'' → SumsRoomReady (periodOf B true) (periodOf B false) a''
+  pub room-ready : (t : ℕ) (a' a'' : List ℤ) → SumsReady B E X t a' → SumsBuilt B E X t a' a'' → SumsRoomReady (period_of B true) (period_of B false) a''
   room-ready t a' a'' ready b = record {
     h = period-h B R.board;
     v = period-v B R.board;
     room = omega (arith, ready.room, b.len);
-    sums = subst (λ (Y : SumTables). SumsOk (periodOf B true) (periodOf B false) Y.hs Y.vs) (sym (built-sums t a' a'' ready b)) (sums-ok B E X t R.list R.likelihoods);
+    sums = subst (λ (Y : SumTables). SumsOk (period_of B true) (period_of B false) Y.hs Y.vs) (sym (built-sums t a' a'' ready b)) (sums-ok B E X t R.list R.likelihoods);
   }
 
   -- ---- the scan
-  pub scan-none : SoftScanned B E X ts 0 a a softEmpty
-  unfolding SumRoom softScanOf
-  scan-none = record { answer = sym (soft-selected-none (periodOf B true) (periodOf B false) (λ p. sumTables B E X (get_or ts p 0))); room = refl }
+  pub scan-none : SoftScanned B E X ts 0 a a soft_empty
+  unfolding SumRoom soft_scan_of
+  scan-none = record { answer = sym (soft-selected-none (period_of B true) (period_of B false) (λ p. sum_tables B E X (get_or ts p 0))); room = refl }
 
   pub scan-count : (n : ℕ) (a' : List ℤ) (r : SoftScan) → SoftScanned B E X ts n a a' r → r.count ≡ n
-  unfolding softScanOf
-  scan-count n a' r d = ap (λ (s : SoftScan). s.count) d.answer ∙ soft-selected-count (periodOf B true) (periodOf B false) (λ p. sumTables B E X (get_or ts p 0)) n
+  unfolding soft_scan_of
+  scan-count n a' r d = ap (λ (s : SoftScan). s.count) d.answer ∙ soft-selected-count (period_of B true) (period_of B false) (λ p. sum_tables B E X (get_or ts p 0)) n
 
   pub scan-more : (n : ℕ) (a' a'' : List ℤ) (r r' : SoftScan) → n < length ts → SoftScanned B E X ts n a a' r → SumsBuilt B E X (get_or ts n 0) a' a''
-      → r' ≡ softFolded (periodOf B true) (periodOf B false) (roomSums (periodOf B true) (periodOf B false) a'') r → SoftScanned B E X ts (n + 1) a a'' r'
-  unfolding softScanOf
+      → r' ≡ soft_folded (period_of B true) (period_of B false) (room_sums (period_of B true) (period_of B false) a'') r → SoftScanned B E X ts (n + 1) a a'' r'
+  unfolding soft_scan_of
   scan-more n a' a'' r r' h d b e = record {
     answer =
         e
-        ∙ ap (λ (Y : SumTables). softFolded (periodOf B true) (periodOf B false) Y r) (built-sums (get_or ts n 0) a' a'' (room_next n a' d.room h) b)
-        ∙ soft-selected-more (periodOf B true) (periodOf B false) (λ p. sumTables B E X (get_or ts p 0)) n r d.answer;
+        ∙ ap (λ (Y : SumTables). soft_folded (period_of B true) (period_of B false) Y r) (built-sums (get_or ts n 0) a' a'' (room_next n a' d.room h) b)
+        ∙ soft-selected-more (period_of B true) (period_of B false) (λ p. sum_tables B E X (get_or ts p 0)) n r d.answer;
     room = room-more n a' a'' d.room b;
   }
 
@@ -106,13 +106,13 @@ scanned-unique B E X ts n a b c r s p q = (p.answer ∙ sym q.answer, rooms n p.
 
 -- ---- edge by edge
 -- the likelihood sum of the origin with the key k under the transform at list position p
-abbrev pub scoreAtKey : Board → EdgeList → Likelihoods → List ℕ → ℕ → ℕ → ℤ
-scoreAtKey B E X ts p k = score B E X (get_or ts p 0) (k / (3 * periodOf B false)) (k % (3 * periodOf B false))
+abbrev pub score_at_key : Board → EdgeList → Likelihoods → List ℕ → ℕ → ℕ → ℤ
+score_at_key B E X ts p k = score B E X (get_or ts p 0) (k / (3 * period_of B false)) (k % (3 * period_of B false))
 
 -- WHAT SOFT SELECTION KEEPS, EDGE BY EDGE: both best placings by their likelihood sums over the edges (BestPlacing.antt says what that is)
 pub soft-best-edges : (B : Board) (E : EdgeList) (X : Likelihoods) (ts : List ℕ) → BoardOk B → ListOk E → LikelihoodsOk E X → 0 < length ts
-    → BestTwo (periodOf B true) (periodOf B false) (length ts) (scoreAtKey B E X ts) (softSelection B E X ts)
-unfolding softScanOf sumTables
+    → BestTwo (period_of B true) (period_of B false) (length ts) (score_at_key B E X ts) (soft_selection B E X ts)
+unfolding soft_scan_of sum_tables
 soft-best-edges B E X ts board list ok some =
-    soft-best (periodOf B true) (periodOf B false) (period-h B board) (period-v B board) (λ p. sumTables B E X (get_or ts p 0)) (length ts) some (λ p h. sums-ok B E X (get_or ts p 0) list ok)
-    (scoreAtKey B E X ts) (λ p k h l. key-sum B E X (get_or ts p 0) board k)
+    soft-best (period_of B true) (period_of B false) (period-h B board) (period-v B board) (λ p. sum_tables B E X (get_or ts p 0)) (length ts) some (λ p h. sums-ok B E X (get_or ts p 0) list ok)
+    (score_at_key B E X ts) (λ p k h l. key-sum B E X (get_or ts p 0) board k)

@@ -6,7 +6,7 @@ use Rattle.std.proofs.Math.Logic.{inl, inr, ⊎_elim}
 use Rattle.std.specs.Float.Ieee.{lt}
 use Rattle.laws.specs.Tests.{split}
 use Rattle.laws.specs.Best.{Weak, irrefl}
-use Rattle.soft.specs.Scan.{yields, softOffered, softEmpty}
+use Rattle.soft.specs.Scan.{yields, soft_offered, soft_empty}
 use Rattle.soft.specs.ScanLaws.{offer-first, offer-second, offer-none}
 use Rattle.margin.specs.declared.slots.SoftCandidate.{SoftCandidate}
 use Rattle.margin.specs.declared.slots.SoftScan.{SoftScan}
@@ -21,14 +21,14 @@ above off i j = lt (off j).total (off i).total
 pub record Slots (off : ℕ → SoftCandidate) (n : ℕ) (x y : Slot) : Type 0 where
   pub f : ℕ
   pub g : ℕ
-  pub f-in : f < n
-  pub g-in : g < n
+  pub f_in : f < n
+  pub g_in : g < n
   pub two : g ≡ f → ⊥
   pub first : x ≡ Held (off f)
   pub second : y ≡ Held (off g)
   pub top : (j : ℕ) → j < n → above off j f ≡ false
   pub early : (j : ℕ) → j < f → above off f j ≡ true
-  pub second-top : (j : ℕ) → j < n → (j ≡ f → ⊥) → above off j g ≡ false
+  pub second_top : (j : ℕ) → j < n → (j ≡ f → ⊥) → above off j g ≡ false
   pub second-early : (j : ℕ) → j < g → (j ≡ f → ⊥) → above off g j ≡ true
 
 -- the places of a scan
@@ -40,8 +40,8 @@ module _ (off : ℕ → SoftCandidate) (N : ℕ) (W : Weak N (above off)) where
   same = irrefl (above off) N W
 
   -- ---- the first two offers
-  pub slots-two : 2 ≤ N → SlotsIn off 2 (softOffered (softOffered softEmpty (off 0)) (off 1))
-  unfolding softOffered softEmpty yields
+  pub slots-two : 2 ≤ N → SlotsIn off 2 (soft_offered (soft_offered soft_empty (off 0)) (off 1))
+  unfolding soft_offered soft_empty yields
   slots-two le = go (lt (off 0).total (off 1).total) refl
     where
       zero-or-one : (j : ℕ) → j < 2 → (j ≡ 0) ⊎ (j ≡ 1)
@@ -52,27 +52,27 @@ module _ (off : ℕ → SoftCandidate) (N : ℕ) (W : Weak N (above off)) where
       go true e = record {
         f = 1;
         g = 0;
-        f-in = omega arith;
-        g-in = omega arith;
+        f_in = omega arith;
+        g_in = omega arith;
         two = λ z. omega arith;
         first = refl;
         second = refl;
         top = λ j h. ⊎_elim (λ z. rw z (W.asym 1 0 (omega arith) (omega arith) e)) (λ z. rw z (same 1 (omega arith))) (zero-or-one j h);
         early = λ j h. let z : j ≡ 0 = omega arith in rw z e;
-        second-top = λ j h ne. ⊎_elim (λ z. rw z (same 0 (omega arith))) (λ z. absurd (ne z)) (zero-or-one j h);
+        second_top = λ j h ne. ⊎_elim (λ z. rw z (same 0 (omega arith))) (λ z. absurd (ne z)) (zero-or-one j h);
         second-early = λ j h ne. absurd (omega arith);
       }
       go false e = record {
         f = 0;
         g = 1;
-        f-in = omega arith;
-        g-in = omega arith;
+        f_in = omega arith;
+        g_in = omega arith;
         two = λ z. omega arith;
         first = refl;
         second = refl;
         top = λ j h. ⊎_elim (λ z. rw z (same 0 (omega arith))) (λ z. rw z e) (zero-or-one j h);
         early = λ j h. absurd (omega arith);
-        second-top = λ j h ne. ⊎_elim (λ z. absurd (ne z)) (λ z. rw z (same 1 (omega arith))) (zero-or-one j h);
+        second_top = λ j h ne. ⊎_elim (λ z. absurd (ne z)) (λ z. rw z (same 1 (omega arith))) (zero-or-one j h);
         second-early = λ j h ne. let z : j ≡ 0 = omega arith in absurd (ne z);
       }
 
@@ -86,7 +86,7 @@ module _ (off : ℕ → SoftCandidate) (N : ℕ) (W : Weak N (above off)) where
     unfolding yields
     at_slot x i e = rw e
 
-    pub slots-more : SlotsIn off (suc n) (softOffered s (off n))
+    pub slots-more : SlotsIn off (suc n) (soft_offered s (off n))
     slots-more = go (above off n S.f) (above off n S.g) refl refl
       where
         first-yields : (t : Bool) → above off n S.f ≡ t → yields s.first (off n).total ≡ t
@@ -95,43 +95,43 @@ module _ (off : ℕ → SoftCandidate) (N : ℕ) (W : Weak N (above off)) where
         second-yields : (t : Bool) → above off n S.g ≡ t → yields s.second (off n).total ≡ t
         second-yields t e = at_slot s.second S.g S.second ∙ e
 
-        go : (t u : Bool) → above off n S.f ≡ t → above off n S.g ≡ u → SlotsIn off (suc n) (softOffered s (off n))
+        go : (t u : Bool) → above off n S.f ≡ t → above off n S.g ≡ u → SlotsIn off (suc n) (soft_offered s (off n))
         go true u e d = subst (λ (x : SoftScan). SlotsIn off (suc n) x) (offer-first s (off n) (first-yields true e)) (record {
           f = n;
           g = S.f;
-          f-in = omega arith;
-          g-in = omega (arith, S.f-in);
-          two = λ z. omega (arith, S.f-in);
+          f_in = omega arith;
+          g_in = omega (arith, S.f_in);
+          two = λ z. omega (arith, S.f_in);
           first = refl;
           second = S.first;
-          top = λ j h. ⊎_elim (λ z. rw z (same n hn)) (λ l. W.asym n j hn (omega arith) (over S.f j S.f-in l e (S.top j l))) (split j n h);
-          early = λ j h. over S.f j S.f-in h e (S.top j h);
-          second-top = λ j h ne. ⊎_elim (λ z. absurd (ne z)) (λ l. S.top j l) (split j n h);
+          top = λ j h. ⊎_elim (λ z. rw z (same n hn)) (λ l. W.asym n j hn (omega arith) (over S.f j S.f_in l e (S.top j l))) (split j n h);
+          early = λ j h. over S.f j S.f_in h e (S.top j h);
+          second_top = λ j h ne. ⊎_elim (λ z. absurd (ne z)) (λ l. S.top j l) (split j n h);
           second-early = λ j h ne. S.early j h;
         })
         go false true e d = subst (λ (x : SoftScan). SlotsIn off (suc n) x) (offer-second s (off n) (first-yields false e) (second-yields true d)) (record {
           f = S.f;
           g = n;
-          f-in = omega (arith, S.f-in);
-          g-in = omega arith;
-          two = λ z. omega (arith, S.f-in);
+          f_in = omega (arith, S.f_in);
+          g_in = omega arith;
+          two = λ z. omega (arith, S.f_in);
           first = S.first;
           second = refl;
           top = λ j h. ⊎_elim (λ z. rw z e) (λ l. S.top j l) (split j n h);
           early = S.early;
-          second-top = λ j h ne. ⊎_elim (λ z. rw z (same n hn)) (λ l. W.asym n j hn (omega arith) (over S.g j S.g-in l d (S.second-top j l ne))) (split j n h);
-          second-early = λ j h ne. over S.g j S.g-in h d (S.second-top j h ne);
+          second_top = λ j h ne. ⊎_elim (λ z. rw z (same n hn)) (λ l. W.asym n j hn (omega arith) (over S.g j S.g_in l d (S.second_top j l ne))) (split j n h);
+          second-early = λ j h ne. over S.g j S.g_in h d (S.second_top j h ne);
         })
         go false false e d = subst (λ (x : SoftScan). SlotsIn off (suc n) x) (offer-none s (off n) (first-yields false e) (second-yields false d)) (record {
           f = S.f;
           g = S.g;
-          f-in = omega (arith, S.f-in);
-          g-in = omega (arith, S.g-in);
+          f_in = omega (arith, S.f_in);
+          g_in = omega (arith, S.g_in);
           two = S.two;
           first = S.first;
           second = S.second;
           top = λ j h. ⊎_elim (λ z. rw z e) (λ l. S.top j l) (split j n h);
           early = S.early;
-          second-top = λ j h ne. ⊎_elim (λ z. rw z d) (λ l. S.second-top j l ne) (split j n h);
+          second_top = λ j h ne. ⊎_elim (λ z. rw z d) (λ l. S.second_top j l ne) (split j n h);
           second-early = S.second-early;
         })

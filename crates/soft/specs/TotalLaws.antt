@@ -20,9 +20,9 @@ use Rattle.likelihood.specs.Likelihood.{signed, dequantised}
 use Rattle.likelihood.specs.SumLaws.{cell-size}
 use Rattle.sums.specs.Sums.{Likelihoods, LikelihoodsOk, gain, score}
 use Rattle.sums.specs.SumsLaws.{gain-small}
-use Rattle.margin.specs.Margin.{softMargin}
+use Rattle.margin.specs.Margin.{soft_margin}
 use Rattle.margin.specs.declared.slots.SoftCandidate.{SoftCandidate}
-use Rattle.soft.specs.TotalOrderLaws.{steps, stepsZ, steps-mono, valued, Small, total-order}
+use Rattle.soft.specs.TotalOrderLaws.{steps, steps_z, steps-mono, valued, Small, total-order}
 
 -- ---- one f32
 level : (a b : ℤ) → lt_z a b ≡ false → lt_z b a ≡ false → a ≡ b
@@ -55,8 +55,8 @@ module _ (s : Bool) (a b : ℕ) (p : a ≤ 2 ^ 53) (q : b ≤ 2 ^ 53) where
       unique binary32 (round binary32 s a (2 ^ 24)) (round binary32 s b (2 ^ 24)) s (steps a) (2 ^ 149) (pow_pos 149) (round-fits binary32 s a (2 ^ 24)) (round-fits binary32 s b (2 ^ 24))
       (valued a p s) (subst (λ (n : ℕ). HasValue (round binary32 s b (2 ^ 24)) s n (2 ^ 149)) (sym e) (valued b q s))
 
-same_total : (a b : ℤ) → Small a → Small b → stepsZ a ≡ stepsZ b → dequantised a ≡ dequantised b
-unfolding dequantised stepsZ
+same_total : (a b : ℤ) → Small a → Small b → steps_z a ≡ steps_z b → dequantised a ≡ dequantised b
+unfolding dequantised steps_z
 same_total (pos a) (pos b) p q e = same-round false a b p q (ap nat_abs e)
 same_total (pos a) (negsuc b) p q e = absurd (unlike-signs (steps a) (steps (suc b)) (steps-some b q) e)
 same_total (negsuc a) (pos b) p q e = absurd (unlike-signs (steps b) (steps (suc a)) (steps-some a p) (sym e))
@@ -65,7 +65,7 @@ same_total (negsuc a) (negsuc b) p q e =
 
 -- totals of which neither is greater are equal
 pub total-level : (a b : ℤ) → Small a → Small b → lt (dequantised a) (dequantised b) ≡ false → lt (dequantised b) (dequantised a) ≡ false → dequantised a ≡ dequantised b
-total-level a b x y p q = same_total a b x y (level (stepsZ a) (stepsZ b) (sym (total-order a b x y) ∙ p) (sym (total-order b a y x) ∙ q))
+total-level a b x y p q = same_total a b x y (level (steps_z a) (steps_z b) (sym (total-order a b x y) ∙ p) (sym (total-order b a y x) ∙ q))
 
 -- ---- how large
 -- the likelihood sum of a placing is at most 2^53 in size
@@ -98,7 +98,7 @@ module _ (edges : ℕ) (some : 0 < edges) (few : edges ≤ 8192) where
   per-edge-within x h = div-within x (of_int binary32 (pos edges)) (2 ^ 29) edges held-29 h some whole
 
   -- and the margin of two
-  pub margin-within : (first second : SoftCandidate) → Within first.total (2 ^ 29) → Within second.total (2 ^ 29) → Within (softMargin first second edges) (2 ^ 29 + 2 ^ 29)
+  pub margin-within : (first second : SoftCandidate) → Within first.total (2 ^ 29) → Within second.total (2 ^ 29) → Within (soft_margin first second edges) (2 ^ 29 + 2 ^ 29)
   margin-within first second h k =
       div-within (sub binary32 first.total second.total) (of_int binary32 (pos edges)) (2 ^ 29 + 2 ^ 29) edges held-30
       (sub_within first.total second.total (2 ^ 29) (2 ^ 29) held-30 h k) some whole

@@ -132,17 +132,17 @@ steps-mono m n l h =
     (valued m (le_trans l h) false) (valued n h false) (round_mono binary32 m (2 ^ 24) n (2 ^ 24) (lit< tt) (lit< tt) (mul-le-mul_right (2 ^ 24) l))
 
 -- the same with the sum's sign
-unfoldable pub stepsZ : ℤ → ℤ
-stepsZ (pos n) = signed false (steps n)
-stepsZ (negsuc n) = signed true (steps (suc n))
+unfoldable pub steps_z : ℤ → ℤ
+steps_z (pos n) = signed false (steps n)
+steps_z (negsuc n) = signed true (steps (suc n))
 
 -- a sum of at most 2^53 in size
 abbrev pub Small : ℤ → Type 0
 Small a = nat_abs a ≤ 2 ^ 53
 
 -- totals compare as their units do
-pub total-order : (a b : ℤ) → Small a → Small b → lt (dequantised a) (dequantised b) ≡ lt_z (stepsZ a) (stepsZ b)
-unfolding dequantised stepsZ
+pub total-order : (a b : ℤ) → Small a → Small b → lt (dequantised a) (dequantised b) ≡ lt_z (steps_z a) (steps_z b)
+unfolding dequantised steps_z
 total-order (pos a) (pos b) p q = lt-values (round binary32 false a (2 ^ 24)) (round binary32 false b (2 ^ 24)) false false (steps a) (steps b) (2 ^ 149) (pow_pos 149) (valued a p false) (valued b q false)
 total-order (pos a) (negsuc b) p q = lt-values (round binary32 false a (2 ^ 24)) (round binary32 true (suc b) (2 ^ 24)) false true (steps a) (steps (suc b)) (2 ^ 149) (pow_pos 149) (valued a p false) (valued (suc b) q true)
 total-order (negsuc a) (pos b) p q = lt-values (round binary32 true (suc a) (2 ^ 24)) (round binary32 false b (2 ^ 24)) true false (steps (suc a)) (steps b) (2 ^ 149) (pow_pos 149) (valued (suc a) p true) (valued b q false)
@@ -159,17 +159,17 @@ turned zero (suc v) h = refl
 turned (suc u) zero h = absurd (omega arith)
 turned (suc u) (suc v) h = le-ltb v u (omega arith)
 
-stepsZ-mono : (a b : ℤ) → Small a → Small b → lt_z a b ≡ false → lt_z (stepsZ a) (stepsZ b) ≡ false
-unfolding stepsZ
-stepsZ-mono (pos a) (pos b) p q h = le-ltb (steps a) (steps b) (steps-mono b a (ltb-false a b h) p)
-stepsZ-mono (pos a) (negsuc b) p q h = mixed (steps a) (steps (suc b))
-stepsZ-mono (negsuc a) (pos b) p q h = absurd (true≢false h)
-stepsZ-mono (negsuc a) (negsuc b) p q h = turned (steps (suc a)) (steps (suc b)) (steps-mono (suc a) (suc b) (omega (arith, ltb-false b a h)) q)
+steps_z-mono : (a b : ℤ) → Small a → Small b → lt_z a b ≡ false → lt_z (steps_z a) (steps_z b) ≡ false
+unfolding steps_z
+steps_z-mono (pos a) (pos b) p q h = le-ltb (steps a) (steps b) (steps-mono b a (ltb-false a b h) p)
+steps_z-mono (pos a) (negsuc b) p q h = mixed (steps a) (steps (suc b))
+steps_z-mono (negsuc a) (pos b) p q h = absurd (true≢false h)
+steps_z-mono (negsuc a) (negsuc b) p q h = turned (steps (suc a)) (steps (suc b)) (steps-mono (suc a) (suc b) (omega (arith, ltb-false b a h)) q)
 
 -- ---- the order of totals
 -- a total is no smaller where the sum is not
 pub total_mono : (a b : ℤ) → Small a → Small b → lt_z a b ≡ false → lt (dequantised a) (dequantised b) ≡ false
-total_mono a b p q h = total-order a b p q ∙ stepsZ-mono a b p q h
+total_mono a b p q h = total-order a b p q ∙ steps_z-mono a b p q h
 
 -- it is a weak order: of whole numbers first
 less-not : (a b : ℤ) → lt_z a b ≡ true → lt_z b a ≡ false
@@ -188,11 +188,11 @@ less-through a b c p q =
     raised_lt B a c (omega arith) (omega arith) (omega (arith, lt-raised B b c (omega arith) (omega arith) p, le-raised B b a (omega arith) (omega arith) q))
 
 pub total-less-not : (a b : ℤ) → Small a → Small b → lt (dequantised a) (dequantised b) ≡ true → lt (dequantised b) (dequantised a) ≡ false
-total-less-not a b x y p = total-order b a y x ∙ less-not (stepsZ a) (stepsZ b) (sym (total-order a b x y) ∙ p)
+total-less-not a b x y p = total-order b a y x ∙ less-not (steps_z a) (steps_z b) (sym (total-order a b x y) ∙ p)
 
 module _ (a b c : ℤ) (x : Small a) (y : Small b) (z : Small c) where
   pub total-not-less : lt (dequantised a) (dequantised b) ≡ false → lt (dequantised b) (dequantised c) ≡ false → lt (dequantised a) (dequantised c) ≡ false
-  total-not-less p q = total-order a c x z ∙ not-less (stepsZ a) (stepsZ b) (stepsZ c) (sym (total-order a b x y) ∙ p) (sym (total-order b c y z) ∙ q)
+  total-not-less p q = total-order a c x z ∙ not-less (steps_z a) (steps_z b) (steps_z c) (sym (total-order a b x y) ∙ p) (sym (total-order b c y z) ∙ q)
 
   pub total-less-through : lt (dequantised b) (dequantised c) ≡ true → lt (dequantised b) (dequantised a) ≡ false → lt (dequantised a) (dequantised c) ≡ true
-  total-less-through p q = total-order a c x z ∙ less-through (stepsZ a) (stepsZ b) (stepsZ c) (sym (total-order b c y z) ∙ p) (sym (total-order b a y x) ∙ q)
+  total-less-through p q = total-order a c x z ∙ less-through (steps_z a) (steps_z b) (steps_z c) (sym (total-order b c y z) ∙ p) (sym (total-order b a y x) ∙ q)

@@ -2,7 +2,7 @@
 ghost use Rattle.std.specs.Prelude.{◌≡◌, ◌≤◌, ◌<◌};
 ghost use Rattle.best.specs.CellTables.{Period};
 ghost use Rattle.level.specs.Sums.{SumsOk, sums};
-ghost use Rattle.soft.specs.Scan.{yields, softCandidate, softEmpty, softOffered, softFolded};
+ghost use Rattle.soft.specs.Scan.{yields, soft_candidate, soft_empty, soft_offered, soft_folded};
 
 use board::edge::Placing;
 use laws::Periods;
@@ -11,7 +11,7 @@ use pair::pair::two_best;
 
 // A scan of no transforms.
 pub fn empty() -> SoftScan
-    ensures { result ≡ softEmpty }
+    ensures { result ≡ soft_empty }
 {
     let first = Slot::Free;
     let second = Slot::Free;
@@ -34,7 +34,7 @@ fn takes(slot: Slot, total: f32) -> bool
 
 // The scan after one candidate more: strictly greater takes first place and moves the old first to second, else strictly greater than second takes second.
 fn offer(scan: SoftScan, c: SoftCandidate) -> SoftScan
-    ensures { result ≡ softOffered scan c }
+    ensures { result ≡ soft_offered scan c }
 {
     let first = scan.first;
     let second = scan.second;
@@ -67,7 +67,7 @@ fn candidate_of(
     periods: Periods,
 ) -> SoftCandidate
     requires { Period periods.h × Period periods.v × SumsOk periods.h periods.v hs.now vs.now × (key ≤ 2250000) }
-    ensures { result ≡ softCandidate periods.h periods.v (sums hs.now vs.now) listed key }
+    ensures { result ≡ soft_candidate periods.h periods.v (sums hs.now vs.now) listed key }
 {
     let row = key / (3 * periods.v);
     let col = key % (3 * periods.v);
@@ -89,7 +89,7 @@ fn candidate_of(
 pub fn fold_transform(scan: SoftScan, hs: &[i64], vs: &[i64], periods: Periods) -> SoftScan
     requires period { Period periods.h × Period periods.v × SumsOk periods.h periods.v hs.now vs.now }
     requires count_bound { scan.count < 8 }
-    ensures { result ≡ softFolded periods.h periods.v (sums hs.now vs.now) scan }
+    ensures { result ≡ soft_folded periods.h periods.v (sums hs.now vs.now) scan }
 {
     let listed = scan.count;
     let two = two_best(hs, vs, periods);

@@ -2,9 +2,9 @@
 ghost use Rattle.std.specs.Prelude.{◌≡◌, ◌<◌, length};
 ghost use Rattle.board.specs.Hits.{edges, tables};
 ghost use Rattle.sums.specs.Sums.{likelihoods};
-ghost use Rattle.soft.specs.Scan.{softFolded};
+ghost use Rattle.soft.specs.Scan.{soft_folded};
 ghost use Rattle.soft.specs.Select.{SoftReady, SoftScanned};
-ghost use Rattle.soft.specs.SelectLaws.{roomSums, SumsRoomReady};
+ghost use Rattle.soft.specs.SelectLaws.{room_sums, SumsRoomReady};
 
 use laws::Periods;
 use margin::slots::SoftScan;
@@ -13,7 +13,7 @@ use margin::slots::SoftScan;
 fn fold_room(scan: SoftScan, sums: &[i64], periods: Periods) -> SoftScan
     requires sums_room_ready { SumsRoomReady periods.h periods.v sums.now }
     requires count_bound { scan.count < 8 }
-    ensures { result ≡ softFolded periods.h periods.v (roomSums periods.h periods.v sums.now) scan }
+    ensures { result ≡ soft_folded periods.h periods.v (room_sums periods.h periods.v sums.now) scan }
 {
     let a = 3 * periods.h;
     let e = a + 3 * periods.v;

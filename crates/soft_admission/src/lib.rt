@@ -1,11 +1,11 @@
 // Whether a soft call is taken on: the early refusals 1 to 9, 16 and 17, the first in their order over both lists and the likelihoods, or accepted.
 ghost use Rattle.std.specs.Prelude.{◌≡◌, ◌||◌, not};
-ghost use Rattle.laws.specs.Words.{oneF};
+ghost use Rattle.laws.specs.Words.{one_f};
 ghost use Rattle.board.specs.Hits.{edges, tables};
 ghost use Rattle.likelihood.specs.Likelihood.{likelihoods};
-ghost use Rattle.ranges.specs.Ranges.{in_range, marginTop};
-ghost use Rattle.admission.specs.Calls.{softCall};
-ghost use Rattle.admission.specs.Refusals.{softRoomShort, softAdmission};
+ghost use Rattle.ranges.specs.Ranges.{in_range, margin_top};
+ghost use Rattle.admission.specs.Calls.{soft_call};
+ghost use Rattle.admission.specs.Refusals.{soft_room_short, soft_admission};
 
 use admission::refusal::{asked_length, room_short, tables_bad};
 use findings::{likelihood_admission, list_admission, refused_if, settings_admission};
@@ -13,7 +13,7 @@ use refusals::{Admission, ListName, first_of};
 
 // Whether the room of a soft call with l horizontal patterns is too short: there is room for sums besides.
 fn soft_room_short(l: usize, counts: usize, weights: usize, sums: usize) -> bool
-    ensures { result ≡ softRoomShort l counts weights sums }
+    ensures { result ≡ soft_room_short l counts weights sums }
 {
     if room_short(l, counts, weights) {
         return true;
@@ -23,7 +23,7 @@ fn soft_room_short(l: usize, counts: usize, weights: usize, sums: usize) -> bool
 
 // Whether the error limit or the soft margin is out of range.
 fn limits_bad(error_limit: f32, soft_margin: f32) -> bool
-    ensures { result ≡ not (in_range oneF error_limit) || not (in_range marginTop soft_margin) }
+    ensures { result ≡ not (in_range one_f error_limit) || not (in_range margin_top soft_margin) }
 {
     if ranges::in_range(error_limit, 1.0f32) {
         return !ranges::in_range(soft_margin, 65536.0f32);
@@ -54,8 +54,8 @@ pub fn soft_admission(
     weights: usize,
     sums: usize,
 ) -> Admission
-    ensures { result ≡ softAdmission
-        (softCall
+    ensures { result ≡ soft_admission
+        (soft_call
         (edges lrows.now lcols.now lorientations.now lbits.now lconfidences.now)
         (edges prows.now pcols.now porientations.now pbits.now pconfidences.now)
         (likelihoods matches.now mismatches.now)

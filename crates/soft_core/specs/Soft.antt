@@ -4,34 +4,34 @@ use Rattle.std.specs.Float.{nan}
 use Rattle.laws.specs.Cleared.{SameBeyond}
 use Rattle.board.specs.Hits.{size}
 use Rattle.refusals.specs.Numbers as why
-use Rattle.room.specs.Room.{tablesRoom, sumsRoom}
+use Rattle.room.specs.Room.{tables_room, sums_room}
 use Rattle.admission.specs.Calls.{HardCall, SoftCall}
-use Rattle.figures.specs.Figures.{noConfidence}
+use Rattle.figures.specs.Figures.{no_confidence}
 use Rattle.hard.specs.Select.{selection}
 use Rattle.margin.specs.declared.slots.SoftCandidate.{SoftCandidate}
 use Rattle.margin.specs.declared.slots.SoftChoice.{SoftChoice}
 use Rattle.margin.specs.declared.slots.SoftChoice.TheVariants.{Nothing, Chosen}
-use Rattle.margin.specs.Margin.{softMargin, belowMargin}
-use Rattle.soft.specs.Select.{softSelection, SumRoom}
+use Rattle.margin.specs.Margin.{soft_margin, below_margin}
+use Rattle.soft.specs.Select.{soft_selection, SumRoom}
 use Rattle.answer.specs.declared.SoftAnswer.{SoftAnswer}
-use Rattle.soft_verdict.specs.SoftVerdict.{softRefusedBy, bestOf}
-use Rattle.soft_logical.specs.Logical.{afterHard, softJudged, LogicalRooms}
+use Rattle.soft_verdict.specs.SoftVerdict.{soft_refused_by, best_of}
+use Rattle.soft_logical.specs.Logical.{after_hard, soft_judged, LogicalRooms}
 
 -- ---- the answer
 module _ (call : HardCall) where
   -- "Margin = (first - second) / edges. Below the soft margin: refused."
-  abbrev pub tooClose : Float → SoftCandidate → SoftCandidate → Bool
-  tooClose least first second = belowMargin (softMargin first second (size call.physical)) least
+  abbrev pub too_close : Float → SoftCandidate → SoftCandidate → Bool
+  too_close least first second = below_margin (soft_margin first second (size call.physical)) least
 
-  abbrev pub afterSoft : Float → SoftChoice → SoftAnswer
-  afterSoft least Nothing = softRefusedBy why.softMargin
-  afterSoft least (Chosen first second) =
-      cond (tooClose least first second) (softRefusedBy why.softMargin) (afterHard call (bestOf first second (size call.physical)) (selection call.board call.logical call.transforms call.error-limit))
+  abbrev pub after_soft : Float → SoftChoice → SoftAnswer
+  after_soft least Nothing = soft_refused_by why.soft_margin
+  after_soft least (Chosen first second) =
+      cond (too_close least first second) (soft_refused_by why.soft_margin) (after_hard call (best_of first second (size call.physical)) (selection call.board call.logical call.transforms call.error_limit))
 
 -- what an accepted soft call answers, with the soft margin `least`
-unfoldable pub softCore : SoftCall → SoftAnswer
-unfolding softJudged
-softCore call = cond (noConfidence call.hard.physical) (softRefusedBy why.noConfidence) (afterSoft call.hard call.soft-margin (softSelection call.hard.board call.hard.physical call.likelihoods call.hard.transforms))
+unfoldable pub soft_core : SoftCall → SoftAnswer
+unfolding soft_judged
+soft_core call = cond (no_confidence call.hard.physical) (soft_refused_by why.no_confidence) (after_soft call.hard call.soft-margin (soft_selection call.hard.board call.hard.physical call.likelihoods call.hard.transforms))
 
 -- ---- what the steps between leave
 -- one of two statements, by a test
@@ -42,19 +42,19 @@ By false A B = B
 -- past the margin the logical list's, else as they were
 unfoldable pub PastMargin : HardCall → Float → SoftChoice → SoftAnswer → List ℕ → List ℕ → List Float → List Float → Type 0
 PastMargin call least Nothing r c c' w w' = (c' ≡ c) × (w' ≡ w)
-PastMargin call least (Chosen first second) r c c' w w' = By (tooClose call least first second) ((c' ≡ c) × (w' ≡ w)) (LogicalRooms call (bestOf first second (size call.physical)) r c c' w w')
+PastMargin call least (Chosen first second) r c c' w w' = By (too_close call least first second) ((c' ≡ c) × (w' ≡ w)) (LogicalRooms call (best_of first second (size call.physical)) r c c' w w')
 
 -- all three: as they were where the physical list has no confidence, else with the sums of the last transform
 unfoldable pub CoreRooms : SoftCall → SoftAnswer → List ℕ → List ℕ → List Float → List Float → List ℤ → List ℤ → Type 0
 CoreRooms call r c c' w w' a a' =
-    By (noConfidence call.hard.physical) ((c' ≡ c) × (w' ≡ w) × (a' ≡ a))
-    (PastMargin call.hard call.soft-margin (softSelection call.hard.board call.hard.physical call.likelihoods call.hard.transforms) r c c' w w'
+    By (no_confidence call.hard.physical) ((c' ≡ c) × (w' ≡ w) × (a' ≡ a))
+    (PastMargin call.hard call.soft-margin (soft_selection call.hard.board call.hard.physical call.likelihoods call.hard.transforms) r c c' w w'
     × SumRoom call.hard.board call.hard.physical call.likelihoods call.hard.transforms (length call.hard.transforms) a a')
 
 -- the whole: all three are used
 pub record SoftCoreDone (call : SoftCall) (c c' : List ℕ) (w w' : List Float) (a a' : List ℤ) (r : SoftAnswer) : Type 0 where
-  pub answer : r ≡ softCore call
+  pub answer : r ≡ soft_core call
   pub rooms : CoreRooms call r c c' w w' a a'
-  pub counts : SameBeyond 0 (tablesRoom call.hard.board) c c'
-  pub weights : SameBeyond nan (tablesRoom call.hard.board) w w'
-  pub sums : SameBeyond (pos 0) (sumsRoom call.hard.board) a a'
+  pub counts : SameBeyond 0 (tables_room call.hard.board) c c'
+  pub weights : SameBeyond nan (tables_room call.hard.board) w w'
+  pub sums : SameBeyond (pos 0) (sums_room call.hard.board) a a'

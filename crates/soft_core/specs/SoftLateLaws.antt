@@ -8,13 +8,13 @@ use Rattle.board.specs.declared.edge.Placing.{Placing}
 use Rattle.board.specs.Hits.{size}
 use Rattle.admission.specs.Calls.{SoftCall}
 use Rattle.admission.specs.Accepted.{SoftAccepted}
-use Rattle.figures.specs.Figures.{noConfidence}
-use Rattle.margin.specs.Margin.{belowMargin}
+use Rattle.figures.specs.Figures.{no_confidence}
+use Rattle.margin.specs.Margin.{below_margin}
 use Rattle.sums.specs.Sums.{LikelihoodsOk}
 use Rattle.demand.specs.Late.{LogicalKept, SameSquare}
 use Rattle.demand.specs.OneSelection.{Winner}
-use Rattle.soft_core.specs.Soft.{softCore}
-use Rattle.soft_core.specs.SoftDemand.{total, marginOf, SecondByLikelihood}
+use Rattle.soft_core.specs.Soft.{soft_core}
+use Rattle.soft_core.specs.SoftDemand.{total, margin_of, SecondByLikelihood}
 use Rattle.soft_core.specs.SoftPlaces.{first-once, second-total}
 use Rattle.soft_core.specs.SoftLate.{OwnMargin, SoftWinnersDiffer, SoftNoneAhead, SoftLate}
 use Rattle.soft_core.specs.SoftTheorems.{places-exist}
@@ -28,14 +28,14 @@ module _ (call : SoftCall) (m n o : ℕ) (A : SoftAccepted call m n o) where
   other = R call m n o A
 
   abbrev under : Placing → Placing → Bool
-  under P S = belowMargin (marginOf call.hard.board call.hard.physical call.likelihoods call.hard.transforms P S) call.soft-margin
+  under P S = below_margin (margin_of call.hard.board call.hard.physical call.likelihoods call.hard.transforms P S) call.soft-margin
 
   ok : LikelihoodsOk call.hard.physical call.likelihoods
   ok = record { matches = A.matches; mismatches = A.mismatches; match = λ i l. (A.likely i l).0; mismatch = λ i l. (A.likely i l).1 }
 
   -- the margin of what soft selection keeps is that of its own best placing
-  own_of : {below : Bool} → noConfidence call.hard.physical ≡ false → under first other ≡ below → OwnMargin call below
-  own_of k e = record { physical-confidence = k; square = first; second = other; first = (places-exist call m n o A).0; second-best = (places-exist call m n o A).1; margin = e }
+  own_of : {below : Bool} → no_confidence call.hard.physical ≡ false → under first other ≡ below → OwnMargin call below
+  own_of k e = record { physical_confidence = k; square = first; second = other; first = (places-exist call m n o A).0; second-best = (places-exist call m n o A).1; margin = e }
 
   -- there is one such placing
   module _ {below : Bool} (own : OwnMargin call below) where
@@ -57,7 +57,7 @@ module _ (call : SoftCall) (m n o : ℕ) (A : SoftAccepted call m n o) where
 
   -- the winner of the logical list
   abbrev LogicalWin : Type 0
-  LogicalWin = Winner call.hard.board call.hard.logical call.hard.transforms call.hard.error-limit A.hard.board A.hard.logical A.hard.transforms.few
+  LogicalWin = Winner call.hard.board call.hard.logical call.hard.transforms call.hard.error_limit A.hard.board A.hard.logical A.hard.transforms.few
 
   abbrev kept : LogicalWin → LogicalKept call.hard
   kept w = record { winner = w.winner; runner-up = w.runner-up; chosen = w.selected }
@@ -92,7 +92,7 @@ module _ (call : SoftCall) (m n o : ℕ) (A : SoftAccepted call m n o) where
   differ_back d =
       let P = d.logical.winner.placing in
       record {
-        clear = (d.own.physical-confidence, under_of d.own);
+        clear = (d.own.physical_confidence, under_of d.own);
         logical = won d.logical;
         differ = not_so (test first P) (λ h. d.differ (same_of d.own.square P (ap (λ (x : Placing). test x P) (square-of d.own) ∙ h)));
       }
@@ -103,21 +103,21 @@ module _ (call : SoftCall) (m n o : ℕ) (A : SoftAccepted call m n o) where
     own = own_of d.clear.0 d.clear.1;
     logical = kept d.logical;
     agree = same_of first d.logical.winner.placing d.agree;
-    none-leads = d.none-lead;
+    none_leads = d.none_lead;
   }
 
   ahead-back : SoftNoneAhead call → SoftNotAhead call m n o A
   ahead-back d =
       let P = d.logical.winner.placing in
       record {
-        clear = (d.own.physical-confidence, under_of d.own);
+        clear = (d.own.physical_confidence, under_of d.own);
         logical = won d.logical;
         agree = sym (ap (λ (x : Placing). test x P) (square-of d.own)) ∙ test_of d.own.square P d.agree;
-        none-lead = d.none-leads;
+        none_lead = d.none_leads;
       }
 
   -- THE LATE REFUSALS OF SOFT DECODE, EXACTLY WHEN
-  pub soft-late-numbers : SoftLate call (softCore call)
+  pub soft-late-numbers : SoftLate call (soft_core call)
   soft-late-numbers =
       let s10 = soft-10 call m n o A in
       let s11 = soft-11 call m n o A in
@@ -127,13 +127,13 @@ module _ (call : SoftCall) (m n o : ℕ) (A : SoftAccepted call m n o) where
       record {
         ten = (
           (λ e. ⊎_elim (λ h. inl h) (λ h. inr (own_of h.0.0 h.0.1, h.1)) (s10.0 e)),
-          λ h. s10.1 (⊎_elim (λ k. inl k) (λ k. inr ((k.0.physical-confidence, under_of k.0), k.1)) h),
+          λ h. s10.1 (⊎_elim (λ k. inl k) (λ k. inr ((k.0.physical_confidence, under_of k.0), k.1)) h),
         );
         eleven = (
           (λ e. let h = s11.0 e in (own_of h.0.0 h.0.1, h.1, h.2)),
-          λ h. s11.1 ((h.0.physical-confidence, under_of h.0), h.1, h.2),
+          λ h. s11.1 ((h.0.physical_confidence, under_of h.0), h.1, h.2),
         );
         thirteen = ((λ e. ahead_of (s13.0 e)), λ d. s13.1 (ahead-back d));
-        fourteen = ((λ e. let h = s14.0 e in own_of h.0 h.1), λ d. s14.1 (d.physical-confidence, under_of d));
+        fourteen = ((λ e. let h = s14.0 e in own_of h.0 h.1), λ d. s14.1 (d.physical_confidence, under_of d));
         fifteen = ((λ e. differ_of (s15.0 e)), λ d. s15.1 (differ_back d));
       }

@@ -5,29 +5,29 @@ use Rattle.std.proofs.Common.{subst, ◌∙◌, arith}
 use Rattle.std.proofs.Math.Bool.{true, false}
 use Rattle.std.specs.Float.Ieee.{nan, eq}
 use Rattle.laws.specs.Tests.{clash}
-use Rattle.laws.specs.Words.{zeroF}
+use Rattle.laws.specs.Words.{zero_f}
 use Rattle.laws.specs.Cleared.{SameBeyond, beyond-refl}
 use Rattle.board.specs.Hits.{size}
-use Rattle.room.specs.Room.{tablesRoom, sumsRoom}
+use Rattle.room.specs.Room.{tables_room, sums_room}
 use Rattle.sums.specs.Sums.{LikelihoodsOk}
 use Rattle.refusals.specs.Numbers as why
 use Rattle.admission.specs.Calls.{HardCall, SoftCall}
 use Rattle.admission.specs.Accepted.{SoftAccepted}
-use Rattle.figures.specs.Figures.{totalConfidence, noConfidence}
+use Rattle.figures.specs.Figures.{total_confidence, no_confidence}
 use Rattle.hard.specs.Select.{selection}
 use Rattle.margin.specs.declared.slots.SoftCandidate.{SoftCandidate}
 use Rattle.margin.specs.declared.slots.SoftScan.{SoftScan}
 use Rattle.margin.specs.declared.slots.SoftChoice.{SoftChoice}
 use Rattle.margin.specs.declared.slots.SoftChoice.TheVariants.{Nothing, Chosen}
-use Rattle.margin.specs.Choice.{softChosen}
-use Rattle.margin.specs.Margin.{softMargin, belowMargin}
-use Rattle.soft.specs.Select.{softScanOf, softSelection, SoftReady, SoftScanned}
+use Rattle.margin.specs.Choice.{soft_chosen}
+use Rattle.margin.specs.Margin.{soft_margin, below_margin}
+use Rattle.soft.specs.Select.{soft_scan_of, soft_selection, SoftReady, SoftScanned}
 use Rattle.soft.specs.SelectLaws.{room-beyond, scanned-unique, soft-best-edges}
 use Rattle.answer.specs.declared.SoftAnswer.{SoftAnswer}
-use Rattle.soft_verdict.specs.SoftVerdict.{softRefusedBy, bestOf}
+use Rattle.soft_verdict.specs.SoftVerdict.{soft_refused_by, best_of}
 use Rattle.soft_logical.specs.LogicalLaws.{logical-same}
-use Rattle.soft_logical.specs.Logical.{afterHard, LogicalRooms, LogicalDone}
-use Rattle.soft_core.specs.Soft.{afterSoft, tooClose, softCore, By, PastMargin, CoreRooms, SoftCoreDone}
+use Rattle.soft_logical.specs.Logical.{after_hard, LogicalRooms, LogicalDone}
+use Rattle.soft_core.specs.Soft.{after_soft, too_close, soft_core, By, PastMargin, CoreRooms, SoftCoreDone}
 
 -- ---- a statement by a test
 by-true : (b : Bool) (A B : Type 0) → b ≡ true → A → By b A B
@@ -42,29 +42,29 @@ by-false false A B e x = x
 
 -- ---- the accepted call
 -- the list position that a choice holds in first place
-abbrev firstPlaceOf : SoftChoice → ℕ
-firstPlaceOf Nothing = 0
-firstPlaceOf (Chosen first second) = first.placing.listed
+abbrev first_place_of : SoftChoice → ℕ
+first_place_of Nothing = 0
+first_place_of (Chosen first second) = first.placing.listed
 
 -- and in second place
-abbrev secondPlaceOf : SoftChoice → ℕ
-secondPlaceOf Nothing = 0
-secondPlaceOf (Chosen first second) = second.placing.listed
+abbrev second_place_of : SoftChoice → ℕ
+second_place_of Nothing = 0
+second_place_of (Chosen first second) = second.placing.listed
 
 module _ (call : SoftCall) (m n o : ℕ) (A : SoftAccepted call m n o) where
   pub likelihoods-ok : LikelihoodsOk call.hard.physical call.likelihoods
   likelihoods-ok = record { matches = A.matches; mismatches = A.mismatches; match = λ i h. (A.likely i h).0; mismatch = λ i h. (A.likely i h).1 }
 
-  pub first-listed : (first second : SoftCandidate) → softSelection call.hard.board call.hard.physical call.likelihoods call.hard.transforms ≡ Chosen first second → first.placing.listed < length call.hard.transforms
+  pub first-listed : (first second : SoftCandidate) → soft_selection call.hard.board call.hard.physical call.likelihoods call.hard.transforms ≡ Chosen first second → first.placing.listed < length call.hard.transforms
   first-listed first second e =
       let b = soft-best-edges call.hard.board call.hard.physical call.likelihoods call.hard.transforms A.hard.board A.hard.physical likelihoods-ok A.hard.transforms.some in
-      let p : first.placing.listed ≡ b.p = ap firstPlaceOf (sym e ∙ b.chosen) in
+      let p : first.placing.listed ≡ b.p = ap first_place_of (sym e ∙ b.chosen) in
       omega (arith, b.first.listed)
 
-  pub second-listed : (first second : SoftCandidate) → softSelection call.hard.board call.hard.physical call.likelihoods call.hard.transforms ≡ Chosen first second → second.placing.listed < length call.hard.transforms
+  pub second-listed : (first second : SoftCandidate) → soft_selection call.hard.board call.hard.physical call.likelihoods call.hard.transforms ≡ Chosen first second → second.placing.listed < length call.hard.transforms
   second-listed first second e =
       let b = soft-best-edges call.hard.board call.hard.physical call.likelihoods call.hard.transforms A.hard.board A.hard.physical likelihoods-ok A.hard.transforms.some in
-      let p : second.placing.listed ≡ b.q = ap secondPlaceOf (sym e ∙ b.chosen) in
+      let p : second.placing.listed ≡ b.q = ap second_place_of (sym e ∙ b.chosen) in
       omega (arith, b.second.listed)
 
 module _ (call : SoftCall) (c : List ℕ) (w : List Float) (a : List ℤ) (A : SoftAccepted call (length c) (length w) (length a)) where
@@ -79,47 +79,47 @@ module _ (call : SoftCall) (c : List ℕ) (w : List Float) (a : List ℤ) (A : S
   }
 
   -- no confidence
-  pub core-none : (r : SoftAnswer) → eq (totalConfidence call.hard.physical) zeroF ≡ true → r ≡ softRefusedBy why.noConfidence → SoftCoreDone call c c w w a a r
-  unfolding softCore noConfidence CoreRooms
-  core-none r h e = record { answer = e ∙ sym (rw h); rooms = by-true _ _ _ h (refl, refl, refl); counts = beyond-refl 0 (tablesRoom call.hard.board) c; weights = beyond-refl nan (tablesRoom call.hard.board) w; sums = beyond-refl (pos 0) (sumsRoom call.hard.board) a }
+  pub core-none : (r : SoftAnswer) → eq (total_confidence call.hard.physical) zero_f ≡ true → r ≡ soft_refused_by why.no_confidence → SoftCoreDone call c c w w a a r
+  unfolding soft_core no_confidence CoreRooms
+  core-none r h e = record { answer = e ∙ sym (rw h); rooms = by-true _ _ _ h (refl, refl, refl); counts = beyond-refl 0 (tables_room call.hard.board) c; weights = beyond-refl nan (tables_room call.hard.board) w; sums = beyond-refl (pos 0) (sums_room call.hard.board) a }
 
-  module _ (h : eq (totalConfidence call.hard.physical) zeroF ≡ false) (a' : List ℤ) (s : SoftScan) (S : SoftScanned call.hard.board call.hard.physical call.likelihoods call.hard.transforms (length call.hard.transforms) a a' s) (x : SoftChoice) (g : x ≡ softChosen s) where
-    sums-beyond : SameBeyond (pos 0) (sumsRoom call.hard.board) a a'
+  module _ (h : eq (total_confidence call.hard.physical) zero_f ≡ false) (a' : List ℤ) (s : SoftScan) (S : SoftScanned call.hard.board call.hard.physical call.likelihoods call.hard.transforms (length call.hard.transforms) a a' s) (x : SoftChoice) (g : x ≡ soft_chosen s) where
+    sums-beyond : SameBeyond (pos 0) (sums_room call.hard.board) a a'
     sums-beyond = room-beyond call.hard.board call.hard.physical call.likelihoods call.hard.transforms a ready-soft (length call.hard.transforms) a' S.room
 
-    pub choice-told : x ≡ softSelection call.hard.board call.hard.physical call.likelihoods call.hard.transforms
-    choice-told = g ∙ ap softChosen S.answer
+    pub choice-told : x ≡ soft_selection call.hard.board call.hard.physical call.likelihoods call.hard.transforms
+    choice-told = g ∙ ap soft_chosen S.answer
 
-    core-answer : (y : SoftChoice) → x ≡ y → afterSoft call.hard call.soft-margin y ≡ softCore call
-    unfolding softCore noConfidence
-    core-answer y e = ap (afterSoft call.hard call.soft-margin) (sym e ∙ choice-told) ∙ sym (rw h)
+    core-answer : (y : SoftChoice) → x ≡ y → after_soft call.hard call.soft-margin y ≡ soft_core call
+    unfolding soft_core no_confidence
+    core-answer y e = ap (after_soft call.hard call.soft-margin) (sym e ∙ choice-told) ∙ sym (rw h)
 
     -- past the physical list's confidence: its sums are built, and the choice decides
     core-rooms : (y : SoftChoice) (c' : List ℕ) (w' : List Float) (r : SoftAnswer) → x ≡ y → PastMargin call.hard call.soft-margin y r c c' w w' → CoreRooms call r c c' w w' a a'
-    unfolding noConfidence CoreRooms
+    unfolding no_confidence CoreRooms
     core-rooms y c' w' r e p =
         by-false _ _ _ h (subst (λ (z : SoftChoice). PastMargin call.hard call.soft-margin z r c c' w w') (sym e ∙ choice-told) p, S.room)
 
     -- no two candidates
-    pub core-nothing : (r : SoftAnswer) → x ≡ Nothing → r ≡ softRefusedBy why.softMargin → SoftCoreDone call c c w w a a' r
+    pub core-nothing : (r : SoftAnswer) → x ≡ Nothing → r ≡ soft_refused_by why.soft_margin → SoftCoreDone call c c w w a a' r
     unfolding PastMargin
-    core-nothing r k e = record { answer = e ∙ core-answer Nothing k; rooms = core-rooms Nothing c w r k (refl, refl); counts = beyond-refl 0 (tablesRoom call.hard.board) c; weights = beyond-refl nan (tablesRoom call.hard.board) w; sums = sums-beyond }
+    core-nothing r k e = record { answer = e ∙ core-answer Nothing k; rooms = core-rooms Nothing c w r k (refl, refl); counts = beyond-refl 0 (tables_room call.hard.board) c; weights = beyond-refl nan (tables_room call.hard.board) w; sums = sums-beyond }
 
-    module _ (first second : SoftCandidate) (k : x ≡ Chosen first second) (m : Float) (f : m ≡ softMargin first second (size call.hard.physical)) where
+    module _ (first second : SoftCandidate) (k : x ≡ Chosen first second) (m : Float) (f : m ≡ soft_margin first second (size call.hard.physical)) where
       -- the margin is too small
-      pub core-below : (b : Bool) (r : SoftAnswer) → b ≡ belowMargin m call.soft-margin → b ≡ true → r ≡ softRefusedBy why.softMargin → SoftCoreDone call c c w w a a' r
+      pub core-below : (b : Bool) (r : SoftAnswer) → b ≡ below_margin m call.soft-margin → b ≡ true → r ≡ soft_refused_by why.soft_margin → SoftCoreDone call c c w w a a' r
       unfolding PastMargin
       core-below b r d t e =
-          let q : belowMargin (softMargin first second (size call.hard.physical)) call.soft-margin ≡ true = ap (λ (z : Float). belowMargin z call.soft-margin) (sym f) ∙ sym d ∙ t in
-          record { answer = e ∙ sym (rw q) ∙ core-answer (Chosen first second) k; rooms = core-rooms (Chosen first second) c w r k (by-true _ _ _ q (refl, refl)); counts = beyond-refl 0 (tablesRoom call.hard.board) c; weights = beyond-refl nan (tablesRoom call.hard.board) w; sums = sums-beyond }
+          let q : below_margin (soft_margin first second (size call.hard.physical)) call.soft-margin ≡ true = ap (λ (z : Float). below_margin z call.soft-margin) (sym f) ∙ sym d ∙ t in
+          record { answer = e ∙ sym (rw q) ∙ core-answer (Chosen first second) k; rooms = core-rooms (Chosen first second) c w r k (by-true _ _ _ q (refl, refl)); counts = beyond-refl 0 (tables_room call.hard.board) c; weights = beyond-refl nan (tables_room call.hard.board) w; sums = sums-beyond }
 
       -- else the logical list decides
-      pub core-logical : (b : Bool) (c' : List ℕ) (w' : List Float) (r : SoftAnswer) → b ≡ belowMargin m call.soft-margin → b ≡ false → LogicalDone call.hard (record { first = first; second = second; margin = m }) c c' w w' r → SoftCoreDone call c c' w w' a a' r
+      pub core-logical : (b : Bool) (c' : List ℕ) (w' : List Float) (r : SoftAnswer) → b ≡ below_margin m call.soft-margin → b ≡ false → LogicalDone call.hard (record { first = first; second = second; margin = m }) c c' w w' r → SoftCoreDone call c c' w w' a a' r
       unfolding PastMargin
       core-logical b c' w' r d t D =
-          let q : belowMargin (softMargin first second (size call.hard.physical)) call.soft-margin ≡ false = ap (λ (z : Float). belowMargin z call.soft-margin) (sym f) ∙ sym d ∙ t in
+          let q : below_margin (soft_margin first second (size call.hard.physical)) call.soft-margin ≡ false = ap (λ (z : Float). below_margin z call.soft-margin) (sym f) ∙ sym d ∙ t in
           record {
-            answer = D.answer ∙ ap (λ (z : Float). afterHard call.hard (record { first = first; second = second; margin = z }) (selection call.hard.board call.hard.logical call.hard.transforms call.hard.error-limit)) f ∙ sym (rw q) ∙ core-answer (Chosen first second) k;
+            answer = D.answer ∙ ap (λ (z : Float). after_hard call.hard (record { first = first; second = second; margin = z }) (selection call.hard.board call.hard.logical call.hard.transforms call.hard.error_limit)) f ∙ sym (rw q) ∙ core-answer (Chosen first second) k;
             rooms =
                 core-rooms (Chosen first second) c' w' r k
                 (by-false _ _ _ q (subst (λ (z : Float). LogicalRooms call.hard (record { first = first; second = second; margin = z }) r c c' w w') f D.rooms));
@@ -138,8 +138,8 @@ margin-same : (call : HardCall) (least : Float) (y : SoftChoice) (r : SoftAnswer
 unfolding PastMargin
 margin-same call least Nothing r c c' d' w w' x' p q = (p.0 ∙ sym q.0, p.1 ∙ sym q.1)
 margin-same call least (Chosen first second) r c c' d' w w' x' p q =
-    by-same (tooClose call least first second) _ _ _ _ _ (λ f g. (f.0 ∙ sym g.0, f.1 ∙ sym g.1))
-    (λ f g. logical-same call (bestOf first second (size call.physical)) r c c' d' w w' x' f g) p q
+    by-same (too_close call least first second) _ _ _ _ _ (λ f g. (f.0 ∙ sym g.0, f.1 ∙ sym g.1))
+    (λ f g. logical-same call (best_of first second (size call.physical)) r c c' d' w w' x' f g) p q
 
 pub core_unique : (call : SoftCall) (c c' d' : List ℕ) (w w' x' : List Float) (a a' b' : List ℤ) (r s : SoftAnswer) → SoftCoreDone call c c' w w' a a' r → SoftCoreDone call c d' w x' a b' s → (r ≡ s) × (c' ≡ d') × (w' ≡ x') × (a' ≡ b')
 unfolding CoreRooms
@@ -149,8 +149,8 @@ core_unique call c c' d' w w' x' a a' b' r s p q =
     let E = call.hard.physical in
     let X = call.likelihoods in
     let ts = call.hard.transforms in
-    let z = softScanOf B E X ts (length ts) in
-    by-same (noConfidence E) _ _ _ _ _ (λ f g. (e, f.0 ∙ sym g.0, f.1 ∙ sym g.1, f.2 ∙ sym g.2))
+    let z = soft_scan_of B E X ts (length ts) in
+    by-same (no_confidence E) _ _ _ _ _ (λ f g. (e, f.0 ∙ sym g.0, f.1 ∙ sym g.1, f.2 ∙ sym g.2))
     (λ f g.
-    let m = margin-same call.hard call.soft-margin (softSelection B E X ts) r c c' d' w w' x' f.0 (subst (λ (y : SoftAnswer). PastMargin call.hard call.soft-margin (softSelection B E X ts) y c d' w x') (sym e) g.0) in
+    let m = margin-same call.hard call.soft-margin (soft_selection B E X ts) r c c' d' w w' x' f.0 (subst (λ (y : SoftAnswer). PastMargin call.hard call.soft-margin (soft_selection B E X ts) y c d' w x') (sym e) g.0) in
     (e, m.0, m.1, (scanned-unique B E X ts (length ts) a a' b' z z (record { answer = refl; room = f.1 }) (record { answer = refl; room = g.1 })).1)) p.rooms q.rooms

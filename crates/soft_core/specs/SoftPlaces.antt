@@ -8,17 +8,17 @@ use Rattle.laws.specs.Tests.{apart}
 use Rattle.laws.specs.Words.{origins}
 use Rattle.board.specs.declared.edge.Placing.{Placing}
 use Rattle.board.specs.Hits.{EdgeList, Board}
-use Rattle.board.specs.Sides.{periodOf}
+use Rattle.board.specs.Sides.{period_of}
 use Rattle.board.specs.Domain.{BoardOk, ListOk}
 use Rattle.likelihood.specs.Likelihood.{dequantised}
 use Rattle.sums.specs.Sums.{Likelihoods, LikelihoodsOk, score}
 use Rattle.soft.specs.BestPlacing.{FirstPlace, SecondPlace}
 use Rattle.soft.specs.BestPlacingUnique.{first-only}
-use Rattle.soft.specs.SelectLaws.{scoreAtKey}
+use Rattle.soft.specs.SelectLaws.{score_at_key}
 use Rattle.soft.specs.TotalLaws.{total-level, score-small}
 use Rattle.demand.specs.Demand.{OnBoard, Same}
 use Rattle.demand.specs.DemandLaws.{key_of, placing, key_below, placing-on, row_back, col-back, same_key, key-same}
-use Rattle.soft_core.specs.SoftDemand.{wholeSum, total, FirstByLikelihood, SecondByLikelihood, BestByLikelihood}
+use Rattle.soft_core.specs.SoftDemand.{whole_sum, total, FirstByLikelihood, SecondByLikelihood, BestByLikelihood}
 
 -- ---- row by row, by one number: w columns
 row_before : (w r c row col : ℕ) → c < w → (r < row) ⊎ ((r ≡ row) × (c < col)) → r * w + c < row * w + col
@@ -34,16 +34,16 @@ before-row w i row col h l = ⊎_elim
 module _ (B : Board) (E : EdgeList) (X : Likelihoods) (ts : List ℕ) (board : BoardOk B) where
   -- first and second place by keys
   abbrev First : ℕ → ℕ → Type 0
-  First = FirstPlace (origins (periodOf B true) (periodOf B false)) (length ts) (scoreAtKey B E X ts)
+  First = FirstPlace (origins (period_of B true) (period_of B false)) (length ts) (score_at_key B E X ts)
 
   abbrev Second : ℕ → ℕ → ℕ → ℕ → Type 0
-  Second = SecondPlace (origins (periodOf B true) (periodOf B false)) (length ts) (scoreAtKey B E X ts)
+  Second = SecondPlace (origins (period_of B true) (period_of B false)) (length ts) (score_at_key B E X ts)
 
   -- the whole sum of a placing, by its key
-  sum-key : (Q : Placing) → OnBoard B ts Q → (p : ℕ) → Q.listed ≡ p → scoreAtKey B E X ts p (key_of B board Q) ≡ wholeSum B E X ts Q
+  sum-key : (Q : Placing) → OnBoard B ts Q → (p : ℕ) → Q.listed ≡ p → score_at_key B E X ts p (key_of B board Q) ≡ whole_sum B E X ts Q
   sum-key Q o p e = λ i. score B E X (get_or ts (sym e i) 0) (row_back B board ts Q o i) (col-back B board ts Q o i)
 
-  total-key : (Q : Placing) → OnBoard B ts Q → dequantised (scoreAtKey B E X ts Q.listed (key_of B board Q)) ≡ total B E X ts Q
+  total-key : (Q : Placing) → OnBoard B ts Q → dequantised (score_at_key B E X ts Q.listed (key_of B board Q)) ≡ total B E X ts Q
   total-key Q o = ap dequantised (sum-key Q o Q.listed refl)
 
   module _ (P : Placing) (o : OnBoard B ts P) where
@@ -51,17 +51,17 @@ module _ (B : Board) (E : EdgeList) (X : Likelihoods) (ts : List ℕ) (board : B
     first-by-rows : First P.listed (key_of B board P) → FirstByLikelihood B E X ts P
     first-by-rows A = record {
       on-board = o;
-      greatest-total = λ Q u. sym (ap₂ lt (total-key P o) (total-key Q u)) ∙ A.greatest Q.listed (key_of B board Q) u.in_list (key_below B board ts Q u);
-      largest-sum = λ Q u e. sym (ap₂ lt_z (sum-key P o P.listed refl) (sum-key Q u P.listed e)) ∙ A.own.largest (key_of B board Q) (key_below B board ts Q u);
-      row-major-first = λ Q u e b. sym (ap₂ lt_z (sum-key Q u P.listed e) (sum-key P o P.listed refl)) ∙ A.own.first (key_of B board Q) (row_before (3 * periodOf B false) Q.row Q.col P.row P.col u.col b);
-      earliest-listed = λ Q u l. sym (ap₂ lt (total-key Q u) (total-key P o)) ∙ A.earliest Q.listed (key_of B board Q) l (key_below B board ts Q u);
+      greatest_total = λ Q u. sym (ap₂ lt (total-key P o) (total-key Q u)) ∙ A.greatest Q.listed (key_of B board Q) u.in_list (key_below B board ts Q u);
+      largest_sum = λ Q u e. sym (ap₂ lt_z (sum-key P o P.listed refl) (sum-key Q u P.listed e)) ∙ A.own.largest (key_of B board Q) (key_below B board ts Q u);
+      row_major_first = λ Q u e b. sym (ap₂ lt_z (sum-key Q u P.listed e) (sum-key P o P.listed refl)) ∙ A.own.first (key_of B board Q) (row_before (3 * period_of B false) Q.row Q.col P.row P.col u.col b);
+      earliest_listed = λ Q u l. sym (ap₂ lt (total-key Q u) (total-key P o)) ∙ A.earliest Q.listed (key_of B board Q) l (key_below B board ts Q u);
     }
 
     second-by-rows : (Q : Placing) → OnBoard B ts Q → Second P.listed (key_of B board P) Q.listed (key_of B board Q) → SecondByLikelihood B E X ts P Q
     second-by-rows Q u A = record {
       on-board = u;
       other = λ s. A.other (same_key B board ts Q P s);
-      greatest-total = λ R v n. sym (ap₂ lt (total-key Q u) (total-key R v)) ∙ A.greatest R.listed (key_of B board R) v.in_list (key_below B board ts R v) (λ t. n (key-same B board ts R P v o t));
+      greatest_total = λ R v n. sym (ap₂ lt (total-key Q u) (total-key R v)) ∙ A.greatest R.listed (key_of B board R) v.in_list (key_below B board ts R v) (λ t. n (key-same B board ts R P v o t));
     }
 
   pub first-by-keys : (P : Placing) → FirstByLikelihood B E X ts P → First P.listed (key_of B board P)
@@ -74,28 +74,28 @@ module _ (B : Board) (E : EdgeList) (X : Likelihoods) (ts : List ℕ) (board : B
         listed = o.in_list;
         own = record {
           key = key_below B board ts P o;
-          largest = λ i l. ap (λ (z : ℤ). lt_z z (scoreAtKey B E X ts p i)) sum ∙ A.largest-sum (placing B board p i) (on p i o.in_list l) refl;
-          first = λ i l. ap (λ (z : ℤ). lt_z (scoreAtKey B E X ts p i) z) sum ∙ A.row-major-first (placing B board p i) (on p i o.in_list (below i l)) refl (before-row (3 * periodOf B false) i P.row P.col o.col l);
+          largest = λ i l. ap (λ (z : ℤ). lt_z z (score_at_key B E X ts p i)) sum ∙ A.largest_sum (placing B board p i) (on p i o.in_list l) refl;
+          first = λ i l. ap (λ (z : ℤ). lt_z (score_at_key B E X ts p i) z) sum ∙ A.row_major_first (placing B board p i) (on p i o.in_list (below i l)) refl (before-row (3 * period_of B false) i P.row P.col o.col l);
         };
-        greatest = λ r i l m. ap (λ (x : Float). lt x (dequantised (scoreAtKey B E X ts r i))) (total-key P o) ∙ A.greatest-total (placing B board r i) (on r i l m);
-        earliest = λ r i l m. ap (λ (x : Float). lt (dequantised (scoreAtKey B E X ts r i)) x) (total-key P o) ∙ A.earliest-listed (placing B board r i) (on r i (omega (arith, o.in_list)) m) l;
+        greatest = λ r i l m. ap (λ (x : Float). lt x (dequantised (score_at_key B E X ts r i))) (total-key P o) ∙ A.greatest_total (placing B board r i) (on r i l m);
+        earliest = λ r i l m. ap (λ (x : Float). lt (dequantised (score_at_key B E X ts r i)) x) (total-key P o) ∙ A.earliest_listed (placing B board r i) (on r i (omega (arith, o.in_list)) m) l;
       }
     where
-      below : (i : ℕ) → i < key_of B board P → i < 3 * periodOf B true * (3 * periodOf B false)
+      below : (i : ℕ) → i < key_of B board P → i < 3 * period_of B true * (3 * period_of B false)
       below i l = omega (arith, key_below B board ts P A.on-board)
 
   -- ONE PLACING HAS FIRST PLACE
   pub first-once : (P Q : Placing) → FirstByLikelihood B E X ts P → FirstByLikelihood B E X ts Q → Same P Q
   first-once P Q A C =
       key-same B board ts P Q A.on-board C.on-board
-      (first-only (origins (periodOf B true) (periodOf B false)) (length ts) (scoreAtKey B E X ts) P.listed (key_of B board P) Q.listed (key_of B board Q) (first-by-keys P A) (first-by-keys Q C))
+      (first-only (origins (period_of B true) (period_of B false)) (length ts) (score_at_key B E X ts) P.listed (key_of B board P) Q.listed (key_of B board Q) (first-by-keys P A) (first-by-keys Q C))
 
   -- THE TWO THAT SOFT SELECTION KEEPS have first and second place, and whoever has first place is the first of them
   pub best-by-rows : (P Q : Placing) → BestByLikelihood B E X ts P Q → FirstByLikelihood B E X ts P × SecondByLikelihood B E X ts P Q
-  best-by-rows P Q b = (first-by-rows P b.on-board b.first, second-by-rows P b.on-board Q b.second-on b.second)
+  best-by-rows P Q b = (first-by-rows P b.on-board b.first, second-by-rows P b.on-board Q b.second_on b.second)
 
   -- ALL THAT HAVE SECOND PLACE HAVE ONE TOTAL
   pub second-total : ListOk E → LikelihoodsOk E X → (P Q R : Placing) → SecondByLikelihood B E X ts P Q → SecondByLikelihood B E X ts P R → total B E X ts Q ≡ total B E X ts R
   second-total list ok P Q R A C =
-      total-level (wholeSum B E X ts Q) (wholeSum B E X ts R) (score-small B E X (get_or ts Q.listed 0) Q.row Q.col list ok) (score-small B E X (get_or ts R.listed 0) R.row R.col list ok)
-      (A.greatest-total R C.on-board C.other) (C.greatest-total Q A.on-board A.other)
+      total-level (whole_sum B E X ts Q) (whole_sum B E X ts R) (score-small B E X (get_or ts Q.listed 0) Q.row Q.col list ok) (score-small B E X (get_or ts R.listed 0) R.row R.col list ok)
+      (A.greatest_total R C.on-board C.other) (C.greatest_total Q A.on-board A.other)

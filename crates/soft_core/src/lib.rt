@@ -2,7 +2,7 @@
 ghost use Rattle.std.specs.Prelude.{◌≡◌, ◌≤◌, ◌<◌, length};
 ghost use Rattle.board.specs.Hits.{edges, tables};
 ghost use Rattle.likelihood.specs.Likelihood.{likelihoods};
-ghost use Rattle.admission.specs.Calls.{softCall};
+ghost use Rattle.admission.specs.Calls.{soft_call};
 ghost use Rattle.admission.specs.Accepted.{SoftAccepted};
 ghost use Rattle.soft_core.specs.Soft.{SoftCoreDone};
 
@@ -35,13 +35,13 @@ pub fn soft_core<'a>(
     sums: &mut [i64],
 ) -> SoftAnswer
     requires { SoftAccepted
-        (softCall
+        (soft_call
         (edges lrows.now lcols.now lorientations.now lbits.now lconfidences.now)
         (edges prows.now pcols.now porientations.now pbits.now pconfidences.now)
         (likelihoods matches.now mismatches.now)
         transforms.now (tables h.now v.now) error_limit soft_margin) (length counts.old) (length weights.old) (length sums.old) }
     ensures { SoftCoreDone
-        (softCall
+        (soft_call
         (edges lrows.now lcols.now lorientations.now lbits.now lconfidences.now)
         (edges prows.now pcols.now porientations.now pbits.now pconfidences.now)
         (likelihoods matches.now mismatches.now)

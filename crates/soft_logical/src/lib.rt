@@ -2,10 +2,10 @@
 ghost use Rattle.std.specs.Prelude.{◌≡◌, ◌≤◌, ◌<◌, length};
 ghost use Rattle.board.specs.Hits.{edges, tables};
 ghost use Rattle.tables.specs.Built.{TablesReady};
-ghost use Rattle.hard.specs.SelectLaws.{RoomReady, roomCells};
-ghost use Rattle.admission.specs.Calls.{hardCall};
+ghost use Rattle.hard.specs.SelectLaws.{RoomReady, room_cells};
+ghost use Rattle.admission.specs.Calls.{hard_call};
 ghost use Rattle.admission.specs.Accepted.{HardAccepted};
-ghost use Rattle.soft_logical.specs.Logical.{cellFit, FitDone, LogicalDone};
+ghost use Rattle.soft_logical.specs.Logical.{cell_fit, FitDone, LogicalDone};
 
 use answer::SoftAnswer;
 use figures::Fit;
@@ -17,7 +17,7 @@ use soft_verdict::{SoftBest, soft_decoded, soft_verdict};
 // The hits and the weight of one origin, read off the tables in the room.
 fn fit_at(counts: &[u32], weights: &[f32], periods: Periods, edges: u32, row: u32, col: u32) -> Fit
     requires { RoomReady periods.h periods.v edges counts.now weights.now }
-    ensures { result ≡ cellFit periods.h periods.v (roomCells periods.h periods.v counts.now weights.now) row col }
+    ensures { result ≡ cell_fit periods.h periods.v (room_cells periods.h periods.v counts.now weights.now) row col }
 {
     let r = row as usize;
     let c = col as usize;
@@ -95,13 +95,13 @@ pub fn soft_logical<'a>(
     weights: &mut [f32],
 ) -> SoftAnswer
     requires hard_accepted { HardAccepted
-        (hardCall
+        (hard_call
         (edges lrows.now lcols.now lorientations.now lbits.now lconfidences.now)
         (edges prows.now pcols.now porientations.now pbits.now pconfidences.now)
         transforms.now (tables h.now v.now) error_limit) (length counts.old) (length weights.old) }
     requires listed_in_bounds { (best.first.placing.listed < length transforms.now) × (best.second.placing.listed < length transforms.now) }
     ensures { LogicalDone
-        (hardCall
+        (hard_call
         (edges lrows.now lcols.now lorientations.now lbits.now lconfidences.now)
         (edges prows.now pcols.now porientations.now pbits.now pconfidences.now)
         transforms.now (tables h.now v.now) error_limit) best

@@ -8,37 +8,37 @@ use Rattle.refusals.specs.Numbers.{numbered}
 use Rattle.refusals.specs.Numbers as why
 use Rattle.scan.specs.declared.scan.Candidate.{Candidate}
 use Rattle.scan.specs.declared.scan.RunnerUp.{RunnerUp}
-use Rattle.figures.specs.Figures.{rateOf, meanOf}
+use Rattle.figures.specs.Figures.{rate_of, mean_of}
 use Rattle.figures.specs.Gate.{passed}
 use Rattle.figures.specs.declared.Fit.{Fit}
 use Rattle.margin.specs.declared.slots.SoftCandidate.{SoftCandidate}
-use Rattle.margin.specs.Margin.{softMargin}
+use Rattle.margin.specs.Margin.{soft_margin}
 use Rattle.answer.specs.declared.SoftDecoded.{SoftDecoded}
 use Rattle.answer.specs.declared.SoftAnswer.{SoftAnswer}
 use Rattle.answer.specs.declared.SoftAnswer.TheVariants.{Refused}
 use Rattle.soft_verdict.specs.declared.SoftBest.{SoftBest}
 
 -- a refusal by its number, and nothing else
-abbrev pub softRefusedBy : ℕ → SoftAnswer
-softRefusedBy n = Refused (numbered n)
+abbrev pub soft_refused_by : ℕ → SoftAnswer
+soft_refused_by n = Refused (numbered n)
 
 -- "Then hard selection on the logical list must give the same origin and matrix and pass the gate"
-unfoldable pub softVerdict : ℕ → SoftCandidate → ℕ → Candidate → RunnerUp → ℕ → Admission
-softVerdict t first s w runner edges =
+unfoldable pub soft_verdict : ℕ → SoftCandidate → ℕ → Candidate → RunnerUp → ℕ → Admission
+soft_verdict t first s w runner edges =
     cond (eqb t s && (eqb first.placing.row w.placing.row && eqb first.placing.col w.placing.col))
-    (cond (passed edges w.hits runner.hits) admission.Accepted (admission.Refused (numbered why.notFarAhead)))
-    (admission.Refused (numbered why.softHardDisagree))
+    (cond (passed edges w.hits runner.hits) admission.Accepted (admission.Refused (numbered why.not_far_ahead)))
+    (admission.Refused (numbered why.soft_hard_disagree))
 
 -- "the runner-up fields are replaced by the hard runner-up ..; the margin stays. Best score = f32 total, weighted score = that / edges; edges, hits, rate and mean confidence are
 -- the physical list's." C-12: "separate places for the hard runner-up's hits and the soft second-best total", with "its own transform and origin"
-unfoldable pub softDecodedOf : ℕ → ℕ → SoftBest → Fit → ℕ → RunnerUp → SoftDecoded
-softDecodedOf t u best fit edges hard = record {
+unfoldable pub soft_decoded_of : ℕ → ℕ → SoftBest → Fit → ℕ → RunnerUp → SoftDecoded
+soft_decoded_of t u best fit edges hard = record {
   square = record { transform = t; row = best.first.placing.row; col = best.first.placing.col };
   hits = fit.hits;
   edges = edges;
   weighted_score = div binary32 best.first.total (of_int binary32 (pos edges));
-  error_rate = rateOf edges fit.hits;
-  mean_confidence = meanOf fit.hits fit.weight;
+  error_rate = rate_of edges fit.hits;
+  mean_confidence = mean_of fit.hits fit.weight;
   best_score = best.first.total;
   second = record { transform = u; row = best.second.placing.row; col = best.second.placing.col };
   second_score = best.second.total;
@@ -48,5 +48,5 @@ softDecodedOf t u best fit edges hard = record {
 }
 
 -- the two best candidates of a list of so many edges, with their margin
-abbrev pub bestOf : SoftCandidate → SoftCandidate → ℕ → SoftBest
-bestOf first second edges = record { first = first; second = second; margin = softMargin first second edges }
+abbrev pub best_of : SoftCandidate → SoftCandidate → ℕ → SoftBest
+best_of first second edges = record { first = first; second = second; margin = soft_margin first second edges }

@@ -1,6 +1,6 @@
 // The verdict on the soft winner, by value: against the hard winner and the gate, and the found answer put together.
 ghost use Rattle.std.specs.Prelude.{◌≡◌, ◌≤◌, ◌<◌};
-ghost use Rattle.soft_verdict.specs.SoftVerdict.{softRefusedBy, softVerdict, softDecodedOf};
+ghost use Rattle.soft_verdict.specs.SoftVerdict.{soft_refused_by, soft_verdict, soft_decoded_of};
 
 use answer::{SoftAnswer, SoftDecoded, Square};
 use figures::Fit;
@@ -18,7 +18,7 @@ pub struct SoftBest {
 
 // A refusal of soft decode by its number.
 pub fn refuse_soft(number: u32) -> SoftAnswer
-    ensures { result ≡ softRefusedBy number }
+    ensures { result ≡ soft_refused_by number }
 {
     SoftAnswer::Refused(Refusal {
         number,
@@ -35,7 +35,7 @@ pub fn soft_verdict(
     runner: RunnerUp,
     edges: u32,
 ) -> Admission
-    ensures { result ≡ softVerdict t best.first s w runner edges }
+    ensures { result ≡ soft_verdict t best.first s w runner edges }
 {
     if t == s {
         if best.first.placing.row == w.placing.row {
@@ -67,7 +67,7 @@ pub fn soft_decoded(
     runner: RunnerUp,
 ) -> SoftDecoded
     requires { (fit.hits ≤ edges) × (edges ≤ 8192) }
-    ensures { result ≡ softDecodedOf t u best fit edges runner }
+    ensures { result ≡ soft_decoded_of t u best fit edges runner }
 {
     let square = Square {
         transform: t,

@@ -2,7 +2,7 @@
 ghost use Rattle.std.specs.Prelude.{◌≡◌, ◌≤◌, ◌<◌};
 ghost use Rattle.board.specs.Hits.{edges, tables};
 ghost use Rattle.admission.specs.Accepted.{StatsAccepted};
-ghost use Rattle.stats.specs.Stats.{added, hitsAndWeight, statsRate, statsAnswer};
+ghost use Rattle.stats.specs.Stats.{added, hits_and_weight, stats_rate, stats_answer};
 
 use answer::{MatchStats, Square, StatsAnswer};
 use figures::Fit;
@@ -36,7 +36,7 @@ fn count_hits<'a>(
     requires { StatsAccepted
         (edges rows.now cols.now orientations.now bits.now confidences.now)
         square.transform square.row square.col (tables h.now v.now) }
-    ensures { result ≡ hitsAndWeight
+    ensures { result ≡ hits_and_weight
         (edges rows.now cols.now orientations.now bits.now confidences.now)
         square.transform square.row square.col (tables h.now v.now) }
 {
@@ -55,7 +55,7 @@ fn count_hits<'a>(
 // Misses over edges, one f32 division; 1 for no edges.
 pub fn rate(edges: u32, hits: u32) -> f32
     requires { (hits ≤ edges) × (edges ≤ 8192) }
-    ensures { result ≡ statsRate edges hits }
+    ensures { result ≡ stats_rate edges hits }
 {
     if edges == 0 {
         return 1.0;
@@ -76,7 +76,7 @@ pub fn match_stats<'a>(
     h: &'a [u8],
     v: &'a [u8],
 ) -> StatsAnswer
-    ensures { result ≡ statsAnswer
+    ensures { result ≡ stats_answer
         (edges rows.now cols.now orientations.now bits.now confidences.now)
         transform row col (tables h.now v.now) }
 {

@@ -1,8 +1,8 @@
 // Whether match statistics are taken on: the early refusals 2 to 5, 7 to 9, 16 and 17, the first in their order, or accepted.
 ghost use Rattle.std.specs.Prelude.{◌≡◌};
 ghost use Rattle.board.specs.Hits.{edges, tables};
-ghost use Rattle.checks.specs.Checks.{originBad};
-ghost use Rattle.admission.specs.Refusals.{statsAdmission};
+ghost use Rattle.checks.specs.Checks.{origin_bad};
+ghost use Rattle.admission.specs.Refusals.{stats_admission};
 
 use admission::refusal::tables_bad;
 use findings::{list_admission, settings_admission};
@@ -10,7 +10,7 @@ use refusals::{Admission, ListName, first_of};
 
 // Whether a given origin is off a board with l horizontal patterns: it has 3 · l rows and 501 columns.
 pub fn origin_bad(l: usize, row: u32, col: u32) -> bool
-    ensures { result ≡ originBad l row col }
+    ensures { result ≡ origin_bad l row col }
 {
     if l <= row as usize / 3 {
         return true;
@@ -31,7 +31,7 @@ pub fn stats_admission(
     h: &[u8],
     v: &[u8],
 ) -> Admission
-    ensures { result ≡ statsAdmission
+    ensures { result ≡ stats_admission
         (edges rows.now cols.now orientations.now bits.now confidences.now)
         transform row col (tables h.now v.now) }
 {

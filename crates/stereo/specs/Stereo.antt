@@ -6,7 +6,7 @@ use Rattle.answer.specs.declared.Square.{Square}
 use Rattle.answer.specs.declared.Decoded.{Decoded}
 use Rattle.answer.specs.declared.Answer.{Answer}
 use Rattle.answer.specs.declared.Answer.TheVariants as answer
-use Rattle.answer_checks.specs.FoundBad.{foundBad, badFigures}
+use Rattle.answer_checks.specs.FoundBad.{found_bad, bad_figures}
 use Rattle.stereo.specs.declared.Camera.{Camera}
 use Rattle.stereo.specs.declared.Camera.TheVariants.{First, Second, Pair}
 use Rattle.stereo.specs.declared.Shift.{Shift}
@@ -28,20 +28,20 @@ shift_of a b = cond (leb (ahead a b) 250) (pos (ahead a b)) (pos (ahead a b) -�
 
 -- ---- the refusals
 -- "22 if either answer is a refusal, naming the camera, the first if both are"
-abbrev pub viewRefused : ℕ
-viewRefused = 22
+abbrev pub view_refused : ℕ
+view_refused = 22
 
 -- "then 23 for differing transforms"
-abbrev pub transformsDiffer : ℕ
-transformsDiffer = 23
+abbrev pub transforms_differ : ℕ
+transforms_differ = 23
 
 -- a number, and the camera that it is about
-abbrev pub refusedBy : ℕ → Camera → StereoAnswer
-refusedBy n c = Refused n c
+abbrev pub refused_by : ℕ → Camera → StereoAnswer
+refused_by n c = Refused n c
 
 -- "9 for an origin outside 0 to 500"
-unfoldable pub offBoard : Square → Bool
-offBoard s = ltb 500 s.row || ltb 500 s.col
+unfoldable pub off_board : Square → Bool
+off_board s = ltb 500 s.row || ltb 500 s.col
 
 -- an origin on the flat board
 pub record OnBoard (s : Square) : Type 0 where
@@ -50,9 +50,9 @@ pub record OnBoard (s : Square) : Type 0 where
 
 -- ---- the answer
 -- "It also totals the pair's hits and misses."
-unfoldable pub shiftFound : Decoded → Decoded → Shift
+unfoldable pub shift_found : Decoded → Decoded → Shift
 unfolding shift_of
-shiftFound d e = record {
+shift_found d e = record {
   rows = shift_of d.square.row e.square.row;
   cols = shift_of d.square.col e.square.col;
   hits = d.hits + e.hits;
@@ -60,19 +60,19 @@ shiftFound d e = record {
 }
 
 -- two found answers, the refusals in the request's order
-unfoldable pub bothFound : Decoded → Decoded → StereoAnswer
-unfolding shiftFound offBoard foundBad
-bothFound d e =
+unfoldable pub both_found : Decoded → Decoded → StereoAnswer
+unfolding shift_found off_board found_bad
+both_found d e =
     cond (eqb d.square.transform e.square.transform)
-    (cond (offBoard d.square) (refusedBy why.badSetting First)
-    (cond (offBoard e.square) (refusedBy why.badSetting Second)
-    (cond (foundBad d) (refusedBy badFigures First)
-    (cond (foundBad e) (refusedBy badFigures Second)
-    (Between (shiftFound d e))))))
-    (refusedBy transformsDiffer Pair)
+    (cond (off_board d.square) (refused_by why.bad_setting First)
+    (cond (off_board e.square) (refused_by why.bad_setting Second)
+    (cond (found_bad d) (refused_by bad_figures First)
+    (cond (found_bad e) (refused_by bad_figures Second)
+    (Between (shift_found d e))))))
+    (refused_by transforms_differ Pair)
 
 -- any two answers
-abbrev pub shiftBetween : Answer → Answer → StereoAnswer
-shiftBetween (answer.Refused r) b = refusedBy viewRefused First
-shiftBetween (answer.Found d) (answer.Refused r) = refusedBy viewRefused Second
-shiftBetween (answer.Found d) (answer.Found e) = bothFound d e
+abbrev pub shift_between : Answer → Answer → StereoAnswer
+shift_between (answer.Refused r) b = refused_by view_refused First
+shift_between (answer.Found d) (answer.Refused r) = refused_by view_refused Second
+shift_between (answer.Found d) (answer.Found e) = both_found d e

@@ -12,24 +12,24 @@ use Rattle.refusals.specs.declared.Refusal.{Refusal}
 use Rattle.answer.specs.declared.Decoded.{Decoded}
 use Rattle.answer.specs.declared.Answer.{Answer}
 use Rattle.answer.specs.declared.Answer.TheVariants as answer
-use Rattle.answer_checks.specs.FoundBad.{foundBad, badFigures}
+use Rattle.answer_checks.specs.FoundBad.{found_bad, bad_figures}
 use Rattle.stereo.specs.declared.Shift.{Shift}
 use Rattle.stereo.specs.declared.Camera.TheVariants.{First, Second, Pair}
 use Rattle.stereo.specs.declared.StereoAnswer.{StereoAnswer}
 use Rattle.stereo.specs.declared.StereoAnswer.TheVariants.{Between}
-use Rattle.stereo.specs.Stereo.{ahead, shift_of, viewRefused, transformsDiffer, refusedBy, offBoard, OnBoard, shiftFound, bothFound, shiftBetween}
+use Rattle.stereo.specs.Stereo.{ahead, shift_of, view_refused, transforms_differ, refused_by, off_board, OnBoard, shift_found, both_found, shift_between}
 
 -- a square that is not off the board is on it
-pub on-board : (s : Square) → offBoard s ≡ false → OnBoard s
-unfolding offBoard
+pub on-board : (s : Square) → off_board s ≡ false → OnBoard s
+unfolding off_board
 on-board s e = let a = or-false (ltb 500 s.row) (ltb 500 s.col) e in record { row = ltb-false 500 s.row a.0; col = ltb-false 500 s.col a.1 }
 
-pub off-by-row : (s : Square) → 500 < s.row → true ≡ offBoard s
-unfolding offBoard
+pub off-by-row : (s : Square) → 500 < s.row → true ≡ off_board s
+unfolding off_board
 off-by-row s l = sym (rw (lt-ltb 500 s.row l))
 
-pub off-by-col : (s : Square) → s.row ≤ 500 → ltb 500 s.col ≡ offBoard s
-unfolding offBoard
+pub off-by-col : (s : Square) → s.row ≤ 500 → ltb 500 s.col ≡ off_board s
+unfolding off_board
 off-by-col s l = sym (rw (le-ltb 500 s.row l))
 
 -- a shift is small enough for 32 bits, whatever it leads between
@@ -43,49 +43,49 @@ shift_fits a b = go (leb (ahead a b) 250) (mod-lt (b + 501 - a) (lit< tt))
 
 -- what a shift of two found answers is made of
 pub found-shift : (d e : Decoded) (x y : ℤ) → x ≡ shift_of d.square.row e.square.row → y ≡ shift_of d.square.col e.square.col
-    → record { rows = read w32 x; cols = read w32 y; hits = d.hits + e.hits; misses = d.edges - d.hits + (e.edges - e.hits) } ≡ shiftFound d e
-unfolding shiftFound
+    → record { rows = read w32 x; cols = read w32 y; hits = d.hits + e.hits; misses = d.edges - d.hits + (e.edges - e.hits) } ≡ shift_found d e
+unfolding shift_found
 found-shift d e x y p q =
     ap₂ (λ (u w : ℤ). record { rows = u; cols = w; hits = d.hits + e.hits; misses = d.edges - d.hits + (e.edges - e.hits) })
     (read_at w32 p (shift_fits d.square.row e.square.row)) (read_at w32 q (shift_fits d.square.col e.square.col))
 
 module _ (d e : Decoded) where
-  pub ends-23 : (d.square.transform ≡ e.square.transform → ⊥) → refusedBy transformsDiffer Pair ≡ bothFound d e
-  unfolding bothFound
+  pub ends-23 : (d.square.transform ≡ e.square.transform → ⊥) → refused_by transforms_differ Pair ≡ both_found d e
+  unfolding both_found
   ends-23 n = sym (rw (ne_eqb d.square.transform e.square.transform n))
 
   module _ (s : d.square.transform ≡ e.square.transform) where
-    pub ends-9-first : offBoard d.square ≡ true → refusedBy why.badSetting First ≡ bothFound d e
-    unfolding bothFound
+    pub ends-9-first : off_board d.square ≡ true → refused_by why.bad_setting First ≡ both_found d e
+    unfolding both_found
     ends-9-first a = sym (rw (eq-eqb d.square.transform e.square.transform s, a))
 
-    module _ (a : offBoard d.square ≡ false) where
-      pub ends-9-second : offBoard e.square ≡ true → refusedBy why.badSetting Second ≡ bothFound d e
-      unfolding bothFound
+    module _ (a : off_board d.square ≡ false) where
+      pub ends-9-second : off_board e.square ≡ true → refused_by why.bad_setting Second ≡ both_found d e
+      unfolding both_found
       ends-9-second b = sym (rw (eq-eqb d.square.transform e.square.transform s, a, b))
 
-      module _ (b : offBoard e.square ≡ false) where
-        pub ends-25-first : foundBad d ≡ true → refusedBy badFigures First ≡ bothFound d e
-        unfolding bothFound
+      module _ (b : off_board e.square ≡ false) where
+        pub ends-25-first : found_bad d ≡ true → refused_by bad_figures First ≡ both_found d e
+        unfolding both_found
         ends-25-first f = sym (rw (eq-eqb d.square.transform e.square.transform s, a, b, f))
 
-        module _ (f : foundBad d ≡ false) where
-          pub ends-25-second : foundBad e ≡ true → refusedBy badFigures Second ≡ bothFound d e
-          unfolding bothFound
+        module _ (f : found_bad d ≡ false) where
+          pub ends-25-second : found_bad e ≡ true → refused_by bad_figures Second ≡ both_found d e
+          unfolding both_found
           ends-25-second g = sym (rw (eq-eqb d.square.transform e.square.transform s, a, b, f, g))
 
-          pub ends-shift : foundBad e ≡ false → (r : Shift) → r ≡ shiftFound d e → Between r ≡ bothFound d e
-          unfolding bothFound
+          pub ends-shift : found_bad e ≡ false → (r : Shift) → r ≡ shift_found d e → Between r ≡ both_found d e
+          unfolding both_found
           ends-shift g r h = ap Between h ∙ sym (rw (eq-eqb d.square.transform e.square.transform s, a, b, f, g))
 
 -- ---- any two answers
 module _ (a b : Answer) where
-  pub first-refused : (r : Refusal) → a ≡ answer.Refused r → refusedBy viewRefused First ≡ shiftBetween a b
-  first-refused r p = ap (λ (x : Answer). shiftBetween x b) (sym p)
+  pub first-refused : (r : Refusal) → a ≡ answer.Refused r → refused_by view_refused First ≡ shift_between a b
+  first-refused r p = ap (λ (x : Answer). shift_between x b) (sym p)
 
   module _ (d : Decoded) (p : a ≡ answer.Found d) where
-    pub second-refused : (r : Refusal) → b ≡ answer.Refused r → refusedBy viewRefused Second ≡ shiftBetween a b
-    second-refused r q = ap₂ shiftBetween (sym p) (sym q)
+    pub second-refused : (r : Refusal) → b ≡ answer.Refused r → refused_by view_refused Second ≡ shift_between a b
+    second-refused r q = ap₂ shift_between (sym p) (sym q)
 
-    pub both_told : (e : Decoded) → b ≡ answer.Found e → (r : StereoAnswer) → r ≡ bothFound d e → r ≡ shiftBetween a b
-    both_told e q r h = h ∙ ap₂ shiftBetween (sym p) (sym q)
+    pub both_told : (e : Decoded) → b ≡ answer.Found e → (r : StereoAnswer) → r ≡ both_found d e → r ≡ shift_between a b
+    both_told e q r h = h ∙ ap₂ shift_between (sym p) (sym q)

@@ -11,13 +11,13 @@ use Rattle.answer.specs.declared.Square.{Square}
 use Rattle.answer.specs.declared.Decoded.{Decoded}
 use Rattle.answer.specs.declared.Answer.{Answer}
 use Rattle.answer.specs.declared.Answer.TheVariants as answer
-use Rattle.answer_checks.specs.FoundBad.{foundBad, FoundFits}
+use Rattle.answer_checks.specs.FoundBad.{found_bad, FoundFits}
 use Rattle.answer_checks.specs.FoundBadLaws.{found-fits, fits-found}
 use Rattle.stereo.specs.declared.Camera.{Camera}
 use Rattle.stereo.specs.declared.Shift.{Shift}
 use Rattle.stereo.specs.declared.StereoAnswer.{StereoAnswer}
 use Rattle.stereo.specs.declared.StereoAnswer.TheVariants.{Between, Refused}
-use Rattle.stereo.specs.Stereo.{Right, ahead, shift_of, offBoard, OnBoard, refusedBy, shiftFound, shiftBetween}
+use Rattle.stereo.specs.Stereo.{Right, ahead, shift_of, off_board, OnBoard, refused_by, shift_found, shift_between}
 use Rattle.stereo.specs.StereoLaws.{on-board, ends-23, ends-9-first, ends-9-second, ends-25-first, ends-25-second, ends-shift}
 
 -- ---- the two ways of going
@@ -131,12 +131,12 @@ shift-chain a b c p q r =
 
 -- HITS AND MISSES ARE THE SUMS, and together the edges of both lists
 pub totals : (d e : Decoded) → FoundFits d → FoundFits e
-    → ((shiftFound d e).hits ≡ d.hits + e.hits) × ((shiftFound d e).misses ≡ d.edges - d.hits + (e.edges - e.hits)) × ((shiftFound d e).hits + (shiftFound d e).misses ≡ d.edges + e.edges)
-unfolding shiftFound
+    → ((shift_found d e).hits ≡ d.hits + e.hits) × ((shift_found d e).misses ≡ d.edges - d.hits + (e.edges - e.hits)) × ((shift_found d e).hits + (shift_found d e).misses ≡ d.edges + e.edges)
+unfolding shift_found
 totals d e f g = (refl, refl, omega (arith, f.hits, g.hits))
 
 -- a refusal is no shift, and two shifts are told by what they hold
-refused-not : (n : ℕ) (c : Camera) (s : Shift) → refusedBy n c ≡ Between s → ⊥
+refused-not : (n : ℕ) (c : Camera) (s : Shift) → refused_by n c ≡ Between s → ⊥
 refused-not n c s e = subst told e tt
   where
     told : StereoAnswer → Type 0
@@ -146,8 +146,8 @@ refused-not n c s e = subst told e tt
 between-once : {s t : Shift} → Between s ≡ Between t → s ≡ t
 between-once {s} {t} e = cc
 
-board-on : (q : Square) → OnBoard q → offBoard q ≡ false
-unfolding offBoard
+board-on : (q : Square) → OnBoard q → off_board q ≡ false
+unfolding off_board
 board-on q o = rw (le-ltb 500 q.row o.row, le-ltb 500 q.col o.col) refl
 
 -- ---- what a shift between two answers says, in words of these answers
@@ -155,7 +155,7 @@ board-on q o = rw (le-ltb 500 q.row o.row, le-ltb 500 q.col o.col) refl
 pub record BothFit (d e : Decoded) : Type 0 where
   pub same : d.square.transform ≡ e.square.transform
   pub first_on : OnBoard d.square
-  pub second-on : OnBoard e.square
+  pub second_on : OnBoard e.square
   pub first_fits : FoundFits d
   pub second_fits : FoundFits e
 
@@ -167,50 +167,50 @@ pub record Leads (d e : Decoded) (s : Shift) : Type 0 where
   pub misses : s.misses ≡ d.edges - d.hits + (e.edges - e.hits)
   pub edges : s.hits + s.misses ≡ d.edges + e.edges
 
-leading : (d e : Decoded) → BothFit d e → Leads d e (shiftFound d e)
-unfolding shiftFound
+leading : (d e : Decoded) → BothFit d e → Leads d e (shift_found d e)
+unfolding shift_found
 leading d e f = record {
-  rows = shift-right d.square.row e.square.row f.first_on.row f.second-on.row;
-  cols = shift-right d.square.col e.square.col f.first_on.col f.second-on.col;
+  rows = shift-right d.square.row e.square.row f.first_on.row f.second_on.row;
+  cols = shift-right d.square.col e.square.col f.first_on.col f.second_on.col;
   hits = refl;
   misses = refl;
   edges = (totals d e f.first_fits f.second_fits).2;
 }
 
 -- A SHIFT IS GIVEN EXACTLY for two answers that are found, under one transform, on the board and fit themselves; and it leads from the one to the other
-pub given : (d e : Decoded) → BothFit d e → (s : Shift) × (shiftBetween (answer.Found d) (answer.Found e) ≡ Between s) × Leads d e s
+pub given : (d e : Decoded) → BothFit d e → (s : Shift) × (shift_between (answer.Found d) (answer.Found e) ≡ Between s) × Leads d e s
 given d e f =
-    (shiftFound d e, sym (ends-shift d e f.same (board-on d.square f.first_on) (board-on e.square f.second-on) (fits-found d f.first_fits) (fits-found e f.second_fits) (shiftFound d e) refl), leading d e f)
+    (shift_found d e, sym (ends-shift d e f.same (board-on d.square f.first_on) (board-on e.square f.second_on) (fits-found d f.first_fits) (fits-found e f.second_fits) (shift_found d e) refl), leading d e f)
 
 pub data Given : Answer → Answer → Shift → Type 0 where
   between : (d e : Decoded) (s : Shift) → BothFit d e → Leads d e s → Given (answer.Found d) (answer.Found e) s
 
-pub given-only : (a b : Answer) (s : Shift) → shiftBetween a b ≡ Between s → Given a b s
+pub given-only : (a b : Answer) (s : Shift) → shift_between a b ≡ Between s → Given a b s
 given-only (answer.Refused r) b s e = absurd (refused-not _ _ s e)
 given-only (answer.Found d) (answer.Refused r) s e = absurd (refused-not _ _ s e)
 given-only (answer.Found d) (answer.Found g) s e = by-same (eqb d.square.transform g.square.transform) refl
   where
-    by-second : d.square.transform ≡ g.square.transform → offBoard d.square ≡ false → offBoard g.square ≡ false → foundBad d ≡ false → (t : Bool) → foundBad g ≡ t → Given (answer.Found d) (answer.Found g) s
+    by-second : d.square.transform ≡ g.square.transform → off_board d.square ≡ false → off_board g.square ≡ false → found_bad d ≡ false → (t : Bool) → found_bad g ≡ t → Given (answer.Found d) (answer.Found g) s
     by-second p i j k true l = absurd (refused-not _ _ s (ends-25-second d g p i j k l ∙ e))
     by-second p i j k false l =
-        let f : BothFit d g = record { same = p; first_on = on-board d.square i; second-on = on-board g.square j; first_fits = found-fits d k; second_fits = found-fits g l } in
-        let q : shiftFound d g ≡ s = between-once (ends-shift d g p i j k l (shiftFound d g) refl ∙ e) in
+        let f : BothFit d g = record { same = p; first_on = on-board d.square i; second_on = on-board g.square j; first_fits = found-fits d k; second_fits = found-fits g l } in
+        let q : shift_found d g ≡ s = between-once (ends-shift d g p i j k l (shift_found d g) refl ∙ e) in
         between d g s f (subst (Leads d g) q (leading d g f))
 
-    by_first : d.square.transform ≡ g.square.transform → offBoard d.square ≡ false → offBoard g.square ≡ false → (t : Bool) → foundBad d ≡ t → Given (answer.Found d) (answer.Found g) s
+    by_first : d.square.transform ≡ g.square.transform → off_board d.square ≡ false → off_board g.square ≡ false → (t : Bool) → found_bad d ≡ t → Given (answer.Found d) (answer.Found g) s
     by_first p i j true k = absurd (refused-not _ _ s (ends-25-first d g p i j k ∙ e))
-    by_first p i j false k = by-second p i j k (foundBad g) refl
+    by_first p i j false k = by-second p i j k (found_bad g) refl
 
-    by-second-on : d.square.transform ≡ g.square.transform → offBoard d.square ≡ false → (t : Bool) → offBoard g.square ≡ t → Given (answer.Found d) (answer.Found g) s
+    by-second-on : d.square.transform ≡ g.square.transform → off_board d.square ≡ false → (t : Bool) → off_board g.square ≡ t → Given (answer.Found d) (answer.Found g) s
     by-second-on p i true j = absurd (refused-not _ _ s (ends-9-second d g p i j ∙ e))
-    by-second-on p i false j = by_first p i j (foundBad d) refl
+    by-second-on p i false j = by_first p i j (found_bad d) refl
 
-    by-first-on : d.square.transform ≡ g.square.transform → (t : Bool) → offBoard d.square ≡ t → Given (answer.Found d) (answer.Found g) s
+    by-first-on : d.square.transform ≡ g.square.transform → (t : Bool) → off_board d.square ≡ t → Given (answer.Found d) (answer.Found g) s
     by-first-on p true i = absurd (refused-not _ _ s (ends-9-first d g p i ∙ e))
-    by-first-on p false i = by-second-on p i (offBoard g.square) refl
+    by-first-on p false i = by-second-on p i (off_board g.square) refl
 
     by-same : (t : Bool) → eqb d.square.transform g.square.transform ≡ t → Given (answer.Found d) (answer.Found g) s
-    by-same true p = by-first-on (eqb-true d.square.transform g.square.transform p) (offBoard d.square) refl
+    by-same true p = by-first-on (eqb-true d.square.transform g.square.transform p) (off_board d.square) refl
     by-same false p = absurd (refused-not _ _ s (ends-23 d g (eqb-false d.square.transform g.square.transform p) ∙ e))
 
 -- SWAPPED CAMERAS are given the shift negated, with the same totals
@@ -220,21 +220,21 @@ pub record Negated (s t : Shift) : Type 0 where
   pub hits : t.hits ≡ s.hits
   pub misses : t.misses ≡ s.misses
 
-pub swapped : (a b : Answer) (s : Shift) → shiftBetween a b ≡ Between s → (t : Shift) × (shiftBetween b a ≡ Between t) × Negated s t
+pub swapped : (a b : Answer) (s : Shift) → shift_between a b ≡ Between s → (t : Shift) × (shift_between b a ≡ Between t) × Negated s t
 swapped a b s q = go a b (given-only a b s q)
   where
     negated : (a b : ℕ) (x y : ℤ) → a ≤ 500 → b ≤ 500 → Right a b x → Right b a y → y ≡ neg_ℤ x
     negated a b x y p q r u = shift-only b a y q p u ∙ shift-swapped a b p q ∙ ap neg_ℤ (sym (shift-only a b x p q r))
 
-    go : (a b : Answer) → Given a b s → (t : Shift) × (shiftBetween b a ≡ Between t) × Negated s t
+    go : (a b : Answer) → Given a b s → (t : Shift) × (shift_between b a ≡ Between t) × Negated s t
     go a b (between d e r f l) =
-        let g = given e d (record { same = sym f.same; first_on = f.second-on; second-on = f.first_on; first_fits = f.second_fits; second_fits = f.first_fits }) in
+        let g = given e d (record { same = sym f.same; first_on = f.second_on; second_on = f.first_on; first_fits = f.second_fits; second_fits = f.first_fits }) in
         let m = g.2 in (
           g.0,
           g.1,
           record {
-            rows = negated d.square.row e.square.row r.rows g.0.rows f.first_on.row f.second-on.row l.rows m.rows;
-            cols = negated d.square.col e.square.col r.cols g.0.cols f.first_on.col f.second-on.col l.cols m.cols;
+            rows = negated d.square.row e.square.row r.rows g.0.rows f.first_on.row f.second_on.row l.rows m.rows;
+            cols = negated d.square.col e.square.col r.cols g.0.cols f.first_on.col f.second_on.col l.cols m.cols;
             hits = omega (arith, l.hits, m.hits);
             misses = omega (arith, l.misses, m.misses);
           },
@@ -245,21 +245,21 @@ pub record AddsUp (s t u : Shift) : Type 0 where
   pub rows : emod (s.rows +ℤ t.rows) 501 ≡ emod u.rows 501
   pub cols : emod (s.cols +ℤ t.cols) 501 ≡ emod u.cols 501
 
-pub chain : (a b c : Answer) (s t : Shift) → shiftBetween a b ≡ Between s → shiftBetween b c ≡ Between t → (u : Shift) × (shiftBetween a c ≡ Between u) × AddsUp s t u
+pub chain : (a b c : Answer) (s t : Shift) → shift_between a b ≡ Between s → shift_between b c ≡ Between t → (u : Shift) × (shift_between a c ≡ Between u) × AddsUp s t u
 chain a b c s t p q = go a b c (given-only a b s p) (given-only b c t q)
   where
     sums : (a b c : ℕ) (x y z : ℤ) → a ≤ 500 → b ≤ 500 → c ≤ 500 → Right a b x → Right b c y → Right a c z → emod (x +ℤ y) 501 ≡ emod z 501
     sums a b c x y z i j k f g h =
         ap₂ (λ (u w : ℤ). emod (u +ℤ w) 501) (shift-only a b x i j f) (shift-only b c y j k g) ∙ shift-chain a b c i j k ∙ sym (ap (λ (u : ℤ). emod u 501) (shift-only a c z i k h))
 
-    go : (a b c : Answer) → Given a b s → Given b c t → (u : Shift) × (shiftBetween a c ≡ Between u) × AddsUp s t u
+    go : (a b c : Answer) → Given a b s → Given b c t → (u : Shift) × (shift_between a c ≡ Between u) × AddsUp s t u
     go a b c (between d e r f l) (between k g v h m) =
-        let w = given d g (record { same = f.same ∙ h.same; first_on = f.first_on; second-on = h.second-on; first_fits = f.first_fits; second_fits = h.second_fits }) in
+        let w = given d g (record { same = f.same ∙ h.same; first_on = f.first_on; second_on = h.second_on; first_fits = f.first_fits; second_fits = h.second_fits }) in
         let n = w.2 in (
           w.0,
           w.1,
           record {
-            rows = sums d.square.row e.square.row g.square.row r.rows v.rows w.0.rows f.first_on.row f.second-on.row h.second-on.row l.rows m.rows n.rows;
-            cols = sums d.square.col e.square.col g.square.col r.cols v.cols w.0.cols f.first_on.col f.second-on.col h.second-on.col l.cols m.cols n.cols;
+            rows = sums d.square.row e.square.row g.square.row r.rows v.rows w.0.rows f.first_on.row f.second_on.row h.second_on.row l.rows m.rows n.rows;
+            cols = sums d.square.col e.square.col g.square.col r.cols v.cols w.0.cols f.first_on.col f.second_on.col h.second_on.col l.cols m.cols n.cols;
           },
         )

@@ -1,7 +1,7 @@
 // Two cameras, one board (request C-23): how far the second camera's square lies from the first one's. It knows what hard decode answers, and nothing of how.
 ghost use Rattle.std.specs.Prelude.{◌≡◌, ◌≤◌};
 ghost use Rattle.answer_checks.specs.FoundBad.{FoundFits};
-ghost use Rattle.stereo.specs.Stereo.{ahead, shift_of, offBoard, refusedBy, shiftFound, bothFound, shiftBetween, OnBoard};
+ghost use Rattle.stereo.specs.Stereo.{ahead, shift_of, off_board, refused_by, shift_found, both_found, shift_between, OnBoard};
 
 use answer::{Answer, Decoded, Square};
 use answer_checks::found_bad;
@@ -57,7 +57,7 @@ fn shift_of(a: u32, b: u32) -> i32
 
 // Whether a square's origin is off the flat board.
 fn off_board(square: Square) -> bool
-    ensures { result ≡ offBoard square }
+    ensures { result ≡ off_board square }
 {
     if square.row > 500 {
         return true;
@@ -69,7 +69,7 @@ fn off_board(square: Square) -> bool
 fn shift_found(d: Decoded, e: Decoded) -> Shift
     requires on_board { OnBoard d.square × OnBoard e.square }
     requires found_fits { FoundFits d × FoundFits e }
-    ensures { result ≡ shiftFound d e }
+    ensures { result ≡ shift_found d e }
 {
     let from = d.square;
     let to = e.square;
@@ -87,7 +87,7 @@ fn shift_found(d: Decoded, e: Decoded) -> Shift
 
 // Two found answers: 23 where their transforms differ, 9 where an origin is off the board, 25 where one does not fit itself, the first camera first; else the shift.
 fn both_found(d: Decoded, e: Decoded) -> StereoAnswer
-    ensures { result ≡ bothFound d e }
+    ensures { result ≡ both_found d e }
 {
     if d.square.transform != e.square.transform {
         return StereoAnswer::Refused(TRANSFORMS_DIFFER, Camera::Pair);
@@ -110,7 +110,7 @@ fn both_found(d: Decoded, e: Decoded) -> StereoAnswer
 
 // The shift between two cameras by their hard answers, for all inputs: 22 where either is a refusal, naming the first camera where both are; else as above.
 pub fn shift_between(first: Answer, second: Answer) -> StereoAnswer
-    ensures { result ≡ shiftBetween first second }
+    ensures { result ≡ shift_between first second }
 {
     match first {
         Answer::Refused(_) => StereoAnswer::Refused(VIEW_REFUSED, Camera::First),

@@ -4,12 +4,12 @@ use Rattle.std.specs.Prelude.{◌≡◌, Bool, List, ℕ, ◌+◌, ◌*◌, ◌-
 use Rattle.std.proofs.Common.{arith}
 use Rattle.laws.specs.Zone.{Zone}
 use Rattle.board.specs.Hits.{Board}
-use Rattle.board.specs.Sides.{table_of, periodOf}
+use Rattle.board.specs.Sides.{table_of, period_of}
 use Rattle.room.specs.declared.Side.{Side}
-use Rattle.room.specs.Room.{isHorizontal}
+use Rattle.room.specs.Room.{is_horizontal}
 use Rattle.cells.specs.Spread.{Spread, spread_none}
-use Rattle.cells.specs.Cells.{shortClass}
-use Rattle.cells.specs.Credit.{runPlace, entry, runTerm, RunPlaces, cellPattern, FamilyPlaces}
+use Rattle.cells.specs.Cells.{short_class}
+use Rattle.cells.specs.Credit.{run_place, entry, run_term, RunPlaces, cell_pattern, FamilyPlaces}
 use Rattle.cells.specs.LayoutLaws.{stand}
 use Rattle.cells.specs.RunLaws.{in-run, cell-place, cell-term, cell-fresh, cell-added, first-places, first-inside, first_holds, second-place, second-places, second-inside, second-fresh, second_holds, family-zone}
 
@@ -17,17 +17,17 @@ use Rattle.cells.specs.RunLaws.{in-run, cell-place, cell-term, cell-fresh, cell-
 module _ {A : Type 0} (z : A) (takes : A → A → Type 0) where
   pub record RunReadyOf (terms : List (List A)) (part : List ℕ) (n at stride across : ℕ) (a : List A) : Type 0 where
     pub places : RunPlaces part n at stride across
-    pub inside : (j : ℕ) → j < n * 3 → runPlace at stride across j < length a
-    pub fits : (j : ℕ) → j < n * 3 → takes (get_or a (runPlace at stride across j) z) (runTerm z terms part j)
+    pub inside : (j : ℕ) → j < n * 3 → run_place at stride across j < length a
+    pub fits : (j : ℕ) → j < n * 3 → takes (get_or a (run_place at stride across j) z) (run_term z terms part j)
 
 -- the first q cells have their term added, and nothing else changed
 abbrev pub RunCellsOf : {A : Type 0} → A → (A → A → A) → List (List A) → List ℕ → ℕ → ℕ → ℕ → ℕ → List A → List A → Type 0
-RunCellsOf z op terms part at stride across q a a' = Spread z op (runPlace at stride across) (runTerm z terms part) q a a'
+RunCellsOf z op terms part at stride across q a a' = Spread z op (run_place at stride across) (run_term z terms part) q a a'
 
 -- ---- a run, cell by cell
 module _ {A : Type 0} (z : A) (op : A → A → A) (takes : A → A → Type 0) (terms : List (List A)) (part : List ℕ) (n at stride across : ℕ) (a : List A) (R : RunReadyOf z takes terms part n at stride across a) where
   pub run_none : RunCellsOf z op terms part at stride across 0 a a
-  run_none = spread_none z op (runPlace at stride across) _ a
+  run_none = spread_none z op (run_place at stride across) _ a
 
   -- the cell at place k, of short class j of class i, is the q-th
   module _ (i j q k : ℕ) (x : A) (hi : i < n) (hj : j < 3) (eq : q ≡ i * 3 + j) (ek : k ≡ at + (i * stride + j * across)) (ex : x ≡ entry z terms (get_or part i 0) j)
@@ -35,14 +35,14 @@ module _ {A : Type 0} (z : A) (op : A → A → A) (takes : A → A → Type 0) 
     q-in : q < n * 3
     q-in = in-run part n at stride across R.places i j q k hi hj eq ek
 
-    said : x ≡ runTerm z terms part q
+    said : x ≡ run_term z terms part q
     said = cell-term part n at stride across R.places i j q k hi hj eq ek z terms x ex
 
     -- it has room for its term
     pub run_room : (k < length a') × takes (get_or a' k z) x
     run_room =
-        let b : runPlace at stride across q < length a' = omega (arith, R.inside q q-in, r.len) in
-        let f : takes (get_or a' (runPlace at stride across q) z) (runTerm z terms part q) = rw (r.rest (runPlace at stride across q) (cell-fresh part n at stride across R.places i j q k hi hj eq ek)) (R.fits q q-in) in
+        let b : run_place at stride across q < length a' = omega (arith, R.inside q q-in, r.len) in
+        let f : takes (get_or a' (run_place at stride across q) z) (run_term z terms part q) = rw (r.rest (run_place at stride across q) (cell-fresh part n at stride across R.places i j q k hi hj eq ek)) (R.fits q q-in) in
         rw (cell-place part n at stride across R.places i j q k hi hj eq ek, said) (b, f)
 
     -- and has it added
@@ -50,11 +50,11 @@ module _ {A : Type 0} (z : A) (op : A → A → A) (takes : A → A → Type 0) 
     run_more q' e a'' p = rw e (cell-added part n at stride across R.places i j q k hi hj eq ek z op _ a a' a'' x r (R.inside q q-in) said p)
 
 -- ---- a family, where its terms stand in a table: cell k gets `gain k`
-module _ {A : Type 0} (z : A) (op : A → A → A) (takes : A → A → Type 0) (B : Board) (d : Side) (f : ℕ) (P : FamilyPlaces B d f) (a : List A) (room : d.cells + 3 * periodOf B (isHorizontal d) ≤ length a)
-    (t : List (List A)) (gain : ℕ → A) (gains : (k : ℕ) → k < 3 * periodOf B (isHorizontal d) → entry z t (cellPattern B (isHorizontal d) f k) (shortClass B (isHorizontal d) k) ≡ gain k)
-    (fits : (k : ℕ) → k < 3 * periodOf B (isHorizontal d) → takes (get_or a (d.cells + k) z) (gain k)) where
+module _ {A : Type 0} (z : A) (op : A → A → A) (takes : A → A → Type 0) (B : Board) (d : Side) (f : ℕ) (P : FamilyPlaces B d f) (a : List A) (room : d.cells + 3 * period_of B (is_horizontal d) ≤ length a)
+    (t : List (List A)) (gain : ℕ → A) (gains : (k : ℕ) → k < 3 * period_of B (is_horizontal d) → entry z t (cell_pattern B (is_horizontal d) f k) (short_class B (is_horizontal d) k) ≡ gain k)
+    (fits : (k : ℕ) → k < 3 * period_of B (is_horizontal d) → takes (get_or a (d.cells + k) z) (gain k)) where
   abbrev s : Bool
-  s = isHorizontal d
+  s = is_horizontal d
 
   abbrev cells : ℕ
   cells = d.cells
@@ -82,5 +82,5 @@ module _ {A : Type 0} (z : A) (op : A → A → A) (takes : A → A → Type 0) 
           (second_holds B d f P z t gain gains Room fits j h);
     })
 
-    pub both_runs : (a₂ : List A) → RunCellsOf z op t (drop 0 ps) (cells + n₁ * d.stride) d.stride d.across (f * 3) a₁ a₂ → Zone z (λ k. op (get_or a (cells + k) z) (gain k)) cells (3 * periodOf B s) a a₂
+    pub both_runs : (a₂ : List A) → RunCellsOf z op t (drop 0 ps) (cells + n₁ * d.stride) d.stride d.across (f * 3) a₁ a₂ → Zone z (λ k. op (get_or a (cells + k) z) (gain k)) cells (3 * period_of B s) a a₂
     both_runs a₂ r₂ = family-zone B d f P z t gain gains z op (λ x. x) a a₁ a₂ r₁ r₂

@@ -2,15 +2,15 @@
 use Rattle.std.specs.Prelude.{◌≡◌, false, List, ℕ, ◌+◌, ◌*◌, ◌≤◌, ◌<◌, length, Float}
 use Rattle.std.specs.Float.{nan, binary32}
 use Rattle.std.specs.Float.Ieee.{add}
-use Rattle.laws.specs.Words.{fold, all, zeroF, Weight}
+use Rattle.laws.specs.Words.{fold, all, zero_f, Weight}
 use Rattle.laws.specs.Zone.{Zone}
 use Rattle.board.specs.Hits.{Board}
-use Rattle.board.specs.Sides.{table_of, periodOf}
+use Rattle.board.specs.Sides.{table_of, period_of}
 use Rattle.board.specs.Domain.{BoardOk}
-use Rattle.terms.specs.Terms.{placesN, placesF}
-use Rattle.cells.specs.Cells.{longClass, shortClass, cellSum, familyC, familyW}
+use Rattle.terms.specs.Terms.{places_n, places_f}
+use Rattle.cells.specs.Cells.{long_class, short_class, cell_sum, family_c, family_w}
 use Rattle.room.specs.declared.Side.{Side}
-use Rattle.room.specs.Room.{isHorizontal, stride_of, acrossOf}
+use Rattle.room.specs.Room.{is_horizontal, stride_of, across_of}
 
 -- how many edges the first n families have, whose groups have g k each
 unfoldable pub total : (ℕ → ℕ) → ℕ → ℕ
@@ -20,26 +20,26 @@ total g n = fold ◌+◌ 0 (n * 6) all g
 -- weight of at most 1 an edge, and the cells are clear
 pub record SideReady (B : Board) (d : Side) (c : List ℕ) (w : List Float) : Type 0 where
   pub board : BoardOk B
-  pub steps : (d.stride ≡ stride_of (isHorizontal d)) × (d.across ≡ acrossOf (periodOf B false) (isHorizontal d))
-  pub apart : d.cells + 3 * periodOf B (isHorizontal d) ≤ d.groups
-  pub room : (d.groups + periodOf B (isHorizontal d) * 6 ≤ length c) × (d.groups + periodOf B (isHorizontal d) * 6 ≤ length w)
-  pub few : total (placesN d.groups c) (periodOf B (isHorizontal d)) ≤ 8192
-  pub light : (k : ℕ) → k < periodOf B (isHorizontal d) * 6 → Weight (placesF d.groups w k) (placesN d.groups c k)
-  pub clearC : (k : ℕ) → k < 3 * periodOf B (isHorizontal d) → placesN d.cells c k ≡ 0
-  pub clearW : (k : ℕ) → k < 3 * periodOf B (isHorizontal d) → placesF d.cells w k ≡ zeroF
+  pub steps : (d.stride ≡ stride_of (is_horizontal d)) × (d.across ≡ across_of (period_of B false) (is_horizontal d))
+  pub apart : d.cells + 3 * period_of B (is_horizontal d) ≤ d.groups
+  pub room : (d.groups + period_of B (is_horizontal d) * 6 ≤ length c) × (d.groups + period_of B (is_horizontal d) * 6 ≤ length w)
+  pub few : total (places_n d.groups c) (period_of B (is_horizontal d)) ≤ 8192
+  pub light : (k : ℕ) → k < period_of B (is_horizontal d) * 6 → Weight (places_f d.groups w k) (places_n d.groups c k)
+  pub clear_c : (k : ℕ) → k < 3 * period_of B (is_horizontal d) → places_n d.cells c k ≡ 0
+  pub clear_w : (k : ℕ) → k < 3 * period_of B (is_horizontal d) → places_f d.cells w k ≡ zero_f
 
 -- cell k with the first n families in: its count, and its weight
-abbrev pub cellC : Board → Side → List ℕ → ℕ → ℕ → ℕ
-cellC B d c n k = cellSum ◌+◌ 0 (familyC (placesN d.groups c)) (table_of B (isHorizontal d)) n (longClass B (isHorizontal d) k) (shortClass B (isHorizontal d) k)
+abbrev pub cell_c : Board → Side → List ℕ → ℕ → ℕ → ℕ
+cell_c B d c n k = cell_sum ◌+◌ 0 (family_c (places_n d.groups c)) (table_of B (is_horizontal d)) n (long_class B (is_horizontal d) k) (short_class B (is_horizontal d) k)
 
-abbrev pub cellW : Board → Side → List ℕ → List Float → ℕ → ℕ → Float
-cellW B d c w n k = cellSum (add binary32) zeroF (familyW (placesN d.groups c) (placesF d.groups w)) (table_of B (isHorizontal d)) n (longClass B (isHorizontal d) k) (shortClass B (isHorizontal d) k)
+abbrev pub cell_w : Board → Side → List ℕ → List Float → ℕ → ℕ → Float
+cell_w B d c w n k = cell_sum (add binary32) zero_f (family_w (places_n d.groups c) (places_f d.groups w)) (table_of B (is_horizontal d)) n (long_class B (is_horizontal d) k) (short_class B (is_horizontal d) k)
 
 -- the first n families are in the cells, and nothing else changed
 pub record SideCells (B : Board) (d : Side) (n : ℕ) (c c' : List ℕ) (w w' : List Float) : Type 0 where
-  pub counts : Zone 0 (cellC B d c n) d.cells (3 * periodOf B (isHorizontal d)) c c'
-  pub weights : Zone nan (cellW B d c w n) d.cells (3 * periodOf B (isHorizontal d)) w w'
+  pub counts : Zone 0 (cell_c B d c n) d.cells (3 * period_of B (is_horizontal d)) c c'
+  pub weights : Zone nan (cell_w B d c w n) d.cells (3 * period_of B (is_horizontal d)) w w'
 
 -- all families
 abbrev pub SideBuilt : Board → Side → List ℕ → List ℕ → List Float → List Float → Type 0
-SideBuilt B d c c' w w' = SideCells B d (periodOf B (isHorizontal d)) c c' w w'
+SideBuilt B d c c' w w' = SideCells B d (period_of B (is_horizontal d)) c c' w w'

@@ -7,16 +7,16 @@ use Rattle.tally.specs.declared.Tally.{Tally}
 use Rattle.tally.specs.Tally.{belongs, tally}
 
 -- the orientation that edge i is listed with
-abbrev pub listedAs : EdgeList → ℕ → ℕ
-listedAs E i = get_or E.orientations i 0
+abbrev pub listed_as : EdgeList → ℕ → ℕ
+listed_as E i = get_or E.orientations i 0
 
 -- whether edge i is a hit at the square
-abbrev pub hitAt : Board → EdgeList → Square → ℕ → Bool
-hitAt B E q i = hit B E q.transform q.row q.col i
+abbrev pub hit_at : Board → EdgeList → Square → ℕ → Bool
+hit_at B E q i = hit B E q.transform q.row q.col i
 
 -- whether edge i belongs to the hits (w true) or misses of a side
 abbrev pub among : Board → EdgeList → Square → ℕ → Bool → ℕ → Bool
-among B E q side w i = belongs (listedAs E i) (hitAt B E q i) side w
+among B E q side w i = belongs (listed_as E i) (hit_at B E q i) side w
 
 -- THE RECORD of the first n edges of a list at a square
 unfoldable pub tally_of : Board → EdgeList → Square → ℕ → Tally

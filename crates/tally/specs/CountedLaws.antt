@@ -10,12 +10,12 @@ use Rattle.laws.specs.Fold.{fold_more, fold-zero}
 use Rattle.laws.specs.DoubleCounting.{fold-ext}
 use Rattle.laws.specs.Tests.{split}
 use Rattle.board.specs.declared.edge.Edge.{Edge}
-use Rattle.board.specs.Hits.{EdgeList, Board, edge_at, edgeHit, hit}
+use Rattle.board.specs.Hits.{EdgeList, Board, edge_at, edge_hit, hit}
 use Rattle.board.specs.HitsLaws.{hit-edge}
 use Rattle.answer.specs.declared.Square.{Square}
 use Rattle.tally.specs.declared.Tally.{Tally}
-use Rattle.tally.specs.Tally.{belongs, tally, withEdge, withoutEdge}
-use Rattle.tally.specs.Counted.{listedAs, hitAt, among, tally_of}
+use Rattle.tally.specs.Tally.{belongs, tally, with_edge, without_edge}
+use Rattle.tally.specs.Counted.{listed_as, hit_at, among, tally_of}
 
 -- ---- counting without one number
 -- the numbers in order, p left out
@@ -80,16 +80,16 @@ module _ (B : Board) (q : Square) where
   tally-none E = refl
 
   -- the next edge of the list
-  pub tally-more : (E : EdgeList) (n : ℕ) → tally_of B E q (n + 1) ≡ withEdge (tally_of B E q n) (listedAs E n) (hitAt B E q n)
-  unfolding tally_of withEdge
+  pub tally-more : (E : EdgeList) (n : ℕ) → tally_of B E q (n + 1) ≡ with_edge (tally_of B E q n) (listed_as E n) (hit_at B E q n)
+  unfolding tally_of with_edge
   tally-more E n = rw (fold_more ◌+◌ 0 (among B E q 0 true) one n, fold_more ◌+◌ 0 (among B E q 0 false) one n, fold_more ◌+◌ 0 (among B E q 1 true) one n, fold_more ◌+◌ 0 (among B E q 1 false) one n)
 
   -- an edge counts by its value alone
   pub among-edge : (E E' : EdgeList) (i j side : ℕ) (w : Bool) → edge_at E i ≡ edge_at E' j → among B E q side w i ≡ among B E' q side w j
   among-edge E E' i j side w e =
-      ap (λ (h : Bool). belongs (listedAs E i) h side w) (sym (hit-edge B E q.transform q.row q.col i))
-      ∙ ap (λ (x : Edge). belongs x.orientation (edgeHit B x q) side w) e
-      ∙ ap (λ (h : Bool). belongs (listedAs E' j) h side w) (hit-edge B E' q.transform q.row q.col j)
+      ap (λ (h : Bool). belongs (listed_as E i) h side w) (sym (hit-edge B E q.transform q.row q.col i))
+      ∙ ap (λ (x : Edge). belongs x.orientation (edge_hit B x q) side w) e
+      ∙ ap (λ (h : Bool). belongs (listed_as E' j) h side w) (hit-edge B E' q.transform q.row q.col j)
 
   module _ (E E' : EdgeList) where
     -- lists with the same first n edges
@@ -102,11 +102,11 @@ module _ (B : Board) (q : Square) where
 
     -- edge p taken out
     each-without : (n p : ℕ) → p ≤ n → ((i : ℕ) → i < n → edge_at E' i ≡ edge_at E (skip p i)) → (side : ℕ) (w : Bool)
-        → count n (among B E' q side w) ≡ put ◌-◌ (belongs (listedAs E p) (hitAt B E q p) side w) (count (suc n) (among B E q side w)) 1
+        → count n (among B E' q side w) ≡ put ◌-◌ (belongs (listed_as E p) (hit_at B E q p) side w) (count (suc n) (among B E q side w)) 1
     each-without n p h e side w = count-without (among B E q side w) (among B E' q side w) n p h (λ i l. among-edge E' E i (skip p i) side w (e i l))
 
-    pub tally-without : (n p : ℕ) → p < n → ((i : ℕ) → i < n - 1 → edge_at E' i ≡ edge_at E (skip p i)) → tally_of B E' q (n - 1) ≡ withoutEdge (tally_of B E q n) (listedAs E p) (hitAt B E q p)
-    unfolding tally_of withoutEdge
+    pub tally-without : (n p : ℕ) → p < n → ((i : ℕ) → i < n - 1 → edge_at E' i ≡ edge_at E (skip p i)) → tally_of B E' q (n - 1) ≡ without_edge (tally_of B E q n) (listed_as E p) (hit_at B E q p)
+    unfolding tally_of without_edge
     tally-without zero p h e = absurd (omega arith)
     tally-without (suc n) p h e =
         let m : suc n - 1 ≡ n = omega arith in
@@ -114,16 +114,16 @@ module _ (B : Board) (q : Square) where
         rw (m, k 0 true, k 0 false, k 1 true, k 1 false)
 
     -- edge p changed from a hit to a miss or from a miss to a hit
-    module _ (n p : ℕ) (inside : p < n) (others : (i : ℕ) → (i ≡ p → ⊥) → edge_at E' i ≡ edge_at E i) (listed : listedAs E' p ≡ listedAs E p) (turned : hitAt B E' q p ≡ not (hitAt B E q p)) where
+    module _ (n p : ℕ) (inside : p < n) (others : (i : ℕ) → (i ≡ p → ⊥) → edge_at E' i ≡ edge_at E i) (listed : listed_as E' p ≡ listed_as E p) (turned : hit_at B E' q p ≡ not (hit_at B E q p)) where
       each-other : (side : ℕ) (w : Bool)
-          → count n (among B E' q side w) ≡ put ◌+◌ (belongs (listedAs E p) (not (hitAt B E q p)) side w) (put ◌-◌ (belongs (listedAs E p) (hitAt B E q p) side w) (count n (among B E q side w)) 1) 1
+          → count n (among B E' q side w) ≡ put ◌+◌ (belongs (listed_as E p) (not (hit_at B E q p)) side w) (put ◌-◌ (belongs (listed_as E p) (hit_at B E q p) side w) (count n (among B E q side w)) 1) 1
       each-other side w =
           count-other (among B E q side w) (among B E' q side w) n p inside (λ i l. among-edge E' E i i side w (others i l))
-          ∙ ap₂ (λ (o : ℕ) (h : Bool). put ◌+◌ (belongs o h side w) (put ◌-◌ (belongs (listedAs E p) (hitAt B E q p) side w) (count n (among B E q side w)) 1) 1) listed turned
+          ∙ ap₂ (λ (o : ℕ) (h : Bool). put ◌+◌ (belongs o h side w) (put ◌-◌ (belongs (listed_as E p) (hit_at B E q p) side w) (count n (among B E q side w)) 1) 1) listed turned
 
       again : n - 1 + 1 ≡ n
       again = omega arith
 
-      pub tally-other : tally_of B E' q n ≡ withEdge (withoutEdge (tally_of B E q n) (listedAs E p) (hitAt B E q p)) (listedAs E p) (not (hitAt B E q p))
-      unfolding tally_of withEdge withoutEdge
+      pub tally-other : tally_of B E' q n ≡ with_edge (without_edge (tally_of B E q n) (listed_as E p) (hit_at B E q p)) (listed_as E p) (not (hit_at B E q p))
+      unfolding tally_of with_edge without_edge
       tally-other = rw (again, each-other 0 true, each-other 0 false, each-other 1 true, each-other 1 false)

@@ -5,12 +5,12 @@ use Rattle.answer.specs.declared.Square.{Square}
 use Rattle.tally.specs.declared.Tally.{Tally}
 
 -- "18 when the position to remove or flip doesn't exist"
-abbrev pub noSuchEdge : ℕ
-noSuchEdge = 18
+abbrev pub no_such_edge : ℕ
+no_such_edge = 18
 
 -- "24 when the record's length is above the slices' or its hits and misses don't add up to it", "24 also when the record has no such hit or miss to give up"
-abbrev pub badRecord : ℕ
-badRecord = 24
+abbrev pub bad_record : ℕ
+bad_record = 24
 
 -- an edge with the listed orientation o belongs to one of four counts: the hits (w true) or the misses of the side that it is listed on
 abbrev pub belongs : ℕ → Bool → ℕ → Bool → Bool
@@ -25,8 +25,8 @@ abbrev pub tally : Square → ℕ → ℕ → ℕ → ℕ → ℕ → Tally
 tally q n a b c d = record { square = q; edges = n; horizontal_hits = a; horizontal_misses = b; vertical_hits = c; vertical_misses = d }
 
 -- one edge more
-unfoldable pub withEdge : Tally → ℕ → Bool → Tally
-withEdge T o hit =
+unfoldable pub with_edge : Tally → ℕ → Bool → Tally
+with_edge T o hit =
     tally T.square (T.edges + 1)
     (put ◌+◌ (belongs o hit 0 true) T.horizontal_hits 1)
     (put ◌+◌ (belongs o hit 0 false) T.horizontal_misses 1)
@@ -34,8 +34,8 @@ withEdge T o hit =
     (put ◌+◌ (belongs o hit 1 false) T.vertical_misses 1)
 
 -- one edge less
-unfoldable pub withoutEdge : Tally → ℕ → Bool → Tally
-withoutEdge T o hit =
+unfoldable pub without_edge : Tally → ℕ → Bool → Tally
+without_edge T o hit =
     tally T.square (T.edges - 1)
     (put ◌-◌ (belongs o hit 0 true) T.horizontal_hits 1)
     (put ◌-◌ (belongs o hit 0 false) T.horizontal_misses 1)

@@ -3,15 +3,15 @@ use Rattle.std.specs.Prelude.{◌≡◌, refl, Bool, true, false, ◌⊎◌, ℕ
 use Rattle.std.proofs.Common.{sym, ap, ◌∙◌, inl, inr, arith}
 use Rattle.tally.specs.declared.Tally.{Tally}
 use Rattle.answer.specs.declared.Square.{Square}
-use Rattle.tally.specs.Tally.{Adds, tally, withEdge, withoutEdge, count_of}
+use Rattle.tally.specs.Tally.{Adds, tally, with_edge, without_edge, count_of}
 
 -- records with equal fields
 pub tally-eq : (q : Square) {n n' a a' b b' c c' d d' : ℕ} → n ≡ n' → a ≡ a' → b ≡ b' → c ≡ c' → d ≡ d' → tally q n a b c d ≡ tally q n' a' b' c' d'
 tally-eq q e f g h k = rw (e, f, g, h, k)
 
 -- one edge less
-pub without-adds : (T : Tally) (o : ℕ) (hit : Bool) → o < 2 → Adds T → 0 < count_of T o hit → Adds (withoutEdge T o hit)
-unfolding withoutEdge count_of
+pub without-adds : (T : Tally) (o : ℕ) (hit : Bool) → o < 2 → Adds T → 0 < count_of T o hit → Adds (without_edge T o hit)
+unfolding without_edge count_of
 without-adds T zero true l a k = omega arith
 without-adds T zero false l a k = omega arith
 without-adds T (suc zero) true l a k = omega arith
@@ -28,8 +28,8 @@ some_edges T (suc zero) false l a k = omega arith
 some_edges T (suc (suc o)) hit l a k = absurd (omega arith)
 
 -- one edge more
-pub with-adds : (T : Tally) (o : ℕ) (hit : Bool) → o < 2 → Adds T → Adds (withEdge T o hit)
-unfolding withEdge
+pub with-adds : (T : Tally) (o : ℕ) (hit : Bool) → o < 2 → Adds T → Adds (with_edge T o hit)
+unfolding with_edge
 with-adds T zero true l a = omega arith
 with-adds T zero false l a = omega arith
 with-adds T (suc zero) true l a = omega arith

@@ -1,7 +1,7 @@
 // The record that is kept of a list while it is edited: what it holds, and one edge more or less of it.
 ghost use Rattle.std.specs.Prelude.{◌≡◌, ◌<◌, ◌+◌, ◌-◌};
 ghost use Rattle.laws.specs.Words.{put};
-ghost use Rattle.tally.specs.Tally.{belongs, Adds, withEdge, withoutEdge, count_of};
+ghost use Rattle.tally.specs.Tally.{belongs, Adds, with_edge, without_edge, count_of};
 
 use answer::Square;
 use refusals::Refusal;
@@ -76,7 +76,7 @@ fn less_if(chosen: bool, count: u32) -> u32
 // The record of a list that has one edge more.
 pub fn with_edge(tally: Tally, orientation: u8, hit: bool) -> Tally
     requires { Adds tally × (tally.edges < 4294967295) }
-    ensures { result ≡ withEdge tally orientation hit }
+    ensures { result ≡ with_edge tally orientation hit }
 {
     let square = tally.square;
     Tally {
@@ -91,7 +91,7 @@ pub fn with_edge(tally: Tally, orientation: u8, hit: bool) -> Tally
 
 // The record of a list that has one edge less.
 pub fn without_edge(tally: Tally, orientation: u8, hit: bool) -> Tally
-    ensures { result ≡ withoutEdge tally orientation hit }
+    ensures { result ≡ without_edge tally orientation hit }
 {
     let square = tally.square;
     Tally {

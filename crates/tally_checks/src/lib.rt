@@ -1,7 +1,7 @@
 // How an edit of a list is judged, before anything is written: refused by the first number of the request's order, or taken, with whether its edge is a hit.
 ghost use Rattle.std.specs.Prelude.{◌≡◌, false, length};
-ghost use Rattle.board.specs.Hits.{edges, tables, edgeHit};
-ghost use Rattle.tally_checks.specs.Judged.{recordBad, recordFound, full, moved_to, judgedEdge, judgedMissing, judgedThere, judgedAdd, judgedNamed};
+ghost use Rattle.board.specs.Hits.{edges, tables, edge_hit};
+ghost use Rattle.tally_checks.specs.Judged.{record_bad, record_found, full, moved_to, judged_edge, judged_missing, judged_there, judged_add, judged_named};
 
 use answer::{Square, StatsAnswer};
 use board::edge::Edge;
@@ -13,7 +13,7 @@ const MAX_EDGES: u32 = 8192;
 
 // Whether a record is longer than the slices, or its hits and misses do not add up to its length.
 fn record_bad(n: usize, tally: Tally) -> bool
-    ensures { result ≡ recordBad n tally }
+    ensures { result ≡ record_bad n tally }
 {
     if n < tally.edges as usize {
         return true;
@@ -32,7 +32,7 @@ fn record_admission(
     confidences: &[f32],
     tally: Tally,
 ) -> Admission
-    ensures { result ≡ recordFound (edges rows.now cols.now orientations.now bits.now confidences.now) tally }
+    ensures { result ≡ record_found (edges rows.now cols.now orientations.now bits.now confidences.now) tally }
 {
     if checks::check::lengths_differ(rows, cols, orientations, bits, confidences) {
         return Admission::Refused(refusals::numbered(refusals::LENGTHS_DIFFER));
@@ -69,7 +69,7 @@ fn judge_edge<'a>(
     h: &'a [u8],
     v: &'a [u8],
 ) -> Judged
-    ensures { result ≡ judgedEdge edge confidence position square (tables h.now v.now) }
+    ensures { result ≡ judged_edge edge confidence position square (tables h.now v.now) }
 {
     let rows = [edge.row];
     let cols = [edge.col];
@@ -99,7 +99,7 @@ fn judge_edge<'a>(
 
 // No edge at the position: numbers 7 to 9 of the placing, and then 18.
 fn judge_missing<'a>(position: u32, square: Square, h: &'a [u8], v: &'a [u8]) -> Judged
-    ensures { result ≡ judgedMissing square (tables h.now v.now) }
+    ensures { result ≡ judged_missing square (tables h.now v.now) }
 {
     let good = Edge {
         row: 0,
@@ -123,7 +123,7 @@ fn judge_there<'a>(
     h: &'a [u8],
     v: &'a [u8],
 ) -> Judged
-    ensures { result ≡ judgedThere edge confidence position tally (tables h.now v.now) }
+    ensures { result ≡ judged_there edge confidence position tally (tables h.now v.now) }
 {
     let judged = judge_edge(edge, confidence, position, tally.square, h, v);
     match judged {
@@ -150,7 +150,7 @@ pub fn judge_add<'a>(
     h: &'a [u8],
     v: &'a [u8],
 ) -> Judged
-    ensures { result ≡ judgedAdd
+    ensures { result ≡ judged_add
         (edges rows.now cols.now orientations.now bits.now confidences.now)
         tally edge confidence (tables h.now v.now) }
 {
@@ -178,7 +178,7 @@ pub fn judge_named<'a>(
     h: &'a [u8],
     v: &'a [u8],
 ) -> Judged
-    ensures { result ≡ judgedNamed
+    ensures { result ≡ judged_named
         (edges rows.now cols.now orientations.now bits.now confidences.now)
         tally position (tables h.now v.now) }
 {

@@ -16,9 +16,9 @@ pub data Edit : Type 0 where
   flip : ℕ → Edit
 
 -- the record after an answer: the new one, or after a refusal the one that was given
-abbrev pub recordAfter : Tally → TallyAnswer → Tally
-recordAfter T (Kept S) = S
-recordAfter T (Refused r) = T
+abbrev pub record_after : Tally → TallyAnswer → Tally
+record_after T (Kept S) = S
+record_after T (Refused r) = T
 
 -- what the entry point of an edit promises
 abbrev pub EditDone : Board → EdgeList → Tally → Edit → TallyAnswer → EdgeList → Type 0
@@ -29,4 +29,4 @@ EditDone B E T (flip p) a L = FlipDone E T p B a L
 -- a run of edits, each on the list and the record that the one before it left, refused ones included
 unfoldable pub Run : Board → EdgeList → Tally → List Edit → EdgeList → Tally → Type 0
 Run B E T [] L S = (L ≡ E) × (S ≡ T)
-Run B E T (x ∷ xs) L S = (K : EdgeList) × (a : TallyAnswer) × EditDone B E T x a K × Run B K (recordAfter T a) xs L S
+Run B E T (x ∷ xs) L S = (K : EdgeList) × (a : TallyAnswer) × EditDone B E T x a K × Run B K (record_after T a) xs L S

@@ -5,9 +5,9 @@ use Rattle.board.specs.Hits.{EdgeList, Board, edges, size}
 use Rattle.refusals.specs.declared.Admission.{Admission}
 use Rattle.refusals.specs.declared.Admission.TheVariants as admission
 use Rattle.refusals.specs.Numbers as why
-use Rattle.checks.specs.Checks.{lengthsDiffer}
-use Rattle.findings.specs.Findings.{refusedIf, orElse}
-use Rattle.admission.specs.Refusals.{statsAdmission}
+use Rattle.checks.specs.Checks.{lengths_differ}
+use Rattle.findings.specs.Findings.{refused_if, or_else}
+use Rattle.admission.specs.Refusals.{stats_admission}
 use Rattle.tally.specs.declared.Tally.{Tally}
 use Rattle.tally.specs.declared.TallyAnswer.{TallyAnswer}
 use Rattle.tally.specs.declared.TallyAnswer.TheVariants.{Kept, Refused}
@@ -23,21 +23,21 @@ unfoldable pub front : ℕ → EdgeList → EdgeList
 front n E = edges (take n E.rows) (take n E.cols) (take n E.orientations) (take n E.bits) (take n E.confidences)
 
 -- what is found: match statistics judge the front
-unfoldable pub beginFound : EdgeList → ℕ → Square → Board → Admission
-beginFound E n q B =
-    orElse (refusedIf (lengthsDiffer E) why.lengthsDiffer)
-    (orElse (refusedIf (ltb (size E) n) tally.badRecord)
-    (orElse (refusedIf (ltb 8192 n) why.listSize) (statsAdmission (front n E) q.transform q.row q.col B)))
+unfoldable pub begin_found : EdgeList → ℕ → Square → Board → Admission
+begin_found E n q B =
+    or_else (refused_if (lengths_differ E) why.lengths_differ)
+    (or_else (refused_if (ltb (size E) n) tally.bad_record)
+    (or_else (refused_if (ltb 8192 n) why.list_size) (stats_admission (front n E) q.transform q.row q.col B)))
 
 -- refused, or the record
-abbrev pub orKept : Admission → Tally → TallyAnswer
-orKept admission.Accepted T = Kept T
-orKept (admission.Refused r) T = Refused r
+abbrev pub or_kept : Admission → Tally → TallyAnswer
+or_kept admission.Accepted T = Kept T
+or_kept (admission.Refused r) T = Refused r
 
 -- of a whole list
-unfoldable pub countedAll : EdgeList → Square → Board → TallyAnswer
-countedAll E q B = orKept (statsAdmission E q.transform q.row q.col B) (tally_of B E q (size E))
+unfoldable pub counted_all : EdgeList → Square → Board → TallyAnswer
+counted_all E q B = or_kept (stats_admission E q.transform q.row q.col B) (tally_of B E q (size E))
 
 -- THE ANSWER: the record of the first n edges
-unfoldable pub tallyAnswer : EdgeList → ℕ → Square → Board → TallyAnswer
-tallyAnswer E n q B = orKept (beginFound E n q B) (tally_of B E q n)
+unfoldable pub tally_answer : EdgeList → ℕ → Square → Board → TallyAnswer
+tally_answer E n q B = or_kept (begin_found E n q B) (tally_of B E q n)

@@ -12,19 +12,19 @@ use Rattle.refusals.specs.declared.Admission.{Admission}
 use Rattle.refusals.specs.declared.Admission.TheVariants as admission
 use Rattle.refusals.specs.Numbers.{numbered}
 use Rattle.refusals.specs.Numbers as why
-use Rattle.checks.specs.Checks.{lengthsDiffer}
-use Rattle.findings.specs.Findings.{refusedIf, orElse}
-use Rattle.admission.specs.Refusals.{statsAdmission}
+use Rattle.checks.specs.Checks.{lengths_differ}
+use Rattle.findings.specs.Findings.{refused_if, or_else}
+use Rattle.admission.specs.Refusals.{stats_admission}
 use Rattle.tally.specs.declared.Tally.{Tally}
 use Rattle.tally.specs.declared.TallyAnswer.{TallyAnswer}
 use Rattle.tally.specs.declared.TallyAnswer.TheVariants.{Kept, Refused}
 use Rattle.tally.specs.Tally as tally
-use Rattle.tally.specs.Tally.{Adds, withEdge}
+use Rattle.tally.specs.Tally.{Adds, with_edge}
 use Rattle.tally.specs.TallyLaws.{with-adds}
-use Rattle.tally.specs.Counted.{listedAs, hitAt, tally_of}
+use Rattle.tally.specs.Counted.{listed_as, hit_at, tally_of}
 use Rattle.tally.specs.CountedLaws.{tally-none, tally-more, tally-same}
 use Rattle.admission.specs.Accepted.{bytes_ok, stats-tests-of}
-use Rattle.tally_of.specs.Begun.{Sides, front, beginFound, orKept, countedAll, tallyAnswer}
+use Rattle.tally_of.specs.Begun.{Sides, front, begin_found, or_kept, counted_all, tally_answer}
 
 -- an edge of the front is the list's
 edge-eq : {e f : Edge} → e.row ≡ f.row → e.col ≡ f.col → e.orientation ≡ f.orientation → e.bit ≡ f.bit → e ≡ f
@@ -58,54 +58,54 @@ module _ (E : EdgeList) (q : Square) (B : Board) where
   unfolding tally_of
   counting-edges T i c = ap (λ (x : Tally). x.edges) c.so_far
 
-  pub counting_more : (T S : Tally) (i : ℕ) (b : Bool) → Counting E q B T i → i < size E → listedAs E i ≤ 1 → b ≡ hitAt B E q i → S ≡ withEdge T (listedAs E i) b → Counting E q B S (i + 1)
+  pub counting_more : (T S : Tally) (i : ℕ) (b : Bool) → Counting E q B T i → i < size E → listed_as E i ≤ 1 → b ≡ hit_at B E q i → S ≡ with_edge T (listed_as E i) b → Counting E q B S (i + 1)
   counting_more T S i b c l o h k = record {
     inside = omega arith;
-    so_far = k ∙ ap₂ (λ (x : Tally) (y : Bool). withEdge x (listedAs E i) y) c.so_far h ∙ sym (tally-more B q E i);
-    adds = rw k (with-adds T (listedAs E i) b (omega arith) c.adds);
+    so_far = k ∙ ap₂ (λ (x : Tally) (y : Bool). with_edge x (listed_as E i) y) c.so_far h ∙ sym (tally-more B q E i);
+    adds = rw k (with-adds T (listed_as E i) b (omega arith) c.adds);
   }
 
   pub counting-done : (T : Tally) (i : ℕ) → Counting E q B T i → size E ≤ i → T ≡ tally_of B E q (size E)
   counting-done T i c h = let e : i ≡ size E = omega (arith, c.inside) in c.so_far ∙ ap (tally_of B E q) e
 
 -- a list that match statistics accept has orientations 0 and 1
-pub accepted-sides : (E : EdgeList) (t row col : ℕ) (B : Board) → statsAdmission E t row col B ≡ admission.Accepted → Sides E.orientations
+pub accepted-sides : (E : EdgeList) (t row col : ℕ) (B : Board) → stats_admission E t row col B ≡ admission.Accepted → Sides E.orientations
 accepted-sides E t row col B h = bytes_ok 1 E.orientations (stats-tests-of E t row col B h).list.orientations
 
 -- ---- a whole list
-module _ (E : EdgeList) (q : Square) (B : Board) (a : Admission) (given : a ≡ statsAdmission E q.transform q.row q.col B) where
-  pub all-refused : (r : Refusal) → a ≡ admission.Refused r → Refused r ≡ countedAll E q B
-  unfolding countedAll
-  all-refused r h = ap (λ (x : Admission). orKept x (tally_of B E q (size E))) (sym h ∙ given)
+module _ (E : EdgeList) (q : Square) (B : Board) (a : Admission) (given : a ≡ stats_admission E q.transform q.row q.col B) where
+  pub all-refused : (r : Refusal) → a ≡ admission.Refused r → Refused r ≡ counted_all E q B
+  unfolding counted_all
+  all-refused r h = ap (λ (x : Admission). or_kept x (tally_of B E q (size E))) (sym h ∙ given)
 
-  pub all-kept : (T : Tally) → a ≡ admission.Accepted → T ≡ tally_of B E q (size E) → Kept T ≡ countedAll E q B
-  unfolding countedAll
-  all-kept T h k = ap Kept k ∙ ap (λ (x : Admission). orKept x (tally_of B E q (size E))) (sym h ∙ given)
+  pub all-kept : (T : Tally) → a ≡ admission.Accepted → T ≡ tally_of B E q (size E) → Kept T ≡ counted_all E q B
+  unfolding counted_all
+  all-kept T h k = ap Kept k ∙ ap (λ (x : Admission). or_kept x (tally_of B E q (size E))) (sym h ∙ given)
 
 -- ---- the front of a list
 module _ (E : EdgeList) (n : ℕ) (q : Square) (B : Board) where
-  pub begin-lengths : lengthsDiffer E ≡ true → Refused (numbered why.lengthsDiffer) ≡ tallyAnswer E n q B
-  unfolding tallyAnswer beginFound orElse
+  pub begin-lengths : lengths_differ E ≡ true → Refused (numbered why.lengths_differ) ≡ tally_answer E n q B
+  unfolding tally_answer begin_found or_else
   begin-lengths h = sym (rw h)
 
-  module _ (d : lengthsDiffer E ≡ false) where
-    pub begin-long : size E < n → Refused (numbered tally.badRecord) ≡ tallyAnswer E n q B
-    unfolding tallyAnswer beginFound orElse
+  module _ (d : lengths_differ E ≡ false) where
+    pub begin-long : size E < n → Refused (numbered tally.bad_record) ≡ tally_answer E n q B
+    unfolding tally_answer begin_found or_else
     begin-long l = sym (rw (d, lt-ltb (size E) n l))
 
     module _ (fits : n ≤ size E) where
-      pub begin-many : 8192 < n → Refused (numbered why.listSize) ≡ tallyAnswer E n q B
-      unfolding tallyAnswer beginFound orElse
+      pub begin-many : 8192 < n → Refused (numbered why.list_size) ≡ tally_answer E n q B
+      unfolding tally_answer begin_found or_else
       begin-many l = sym (rw (d, le-ltb (size E) n fits, lt-ltb 8192 n l))
 
-      pub begin-front : n ≤ 8192 → countedAll (front n E) q B ≡ tallyAnswer E n q B
-      unfolding tallyAnswer beginFound orElse countedAll
+      pub begin-front : n ≤ 8192 → counted_all (front n E) q B ≡ tally_answer E n q B
+      unfolding tally_answer begin_found or_else counted_all
       begin-front l =
-          ap (λ (T : Tally). orKept (statsAdmission (front n E) q.transform q.row q.col B) T) (ap (tally_of B (front n E) q) (front-size n E fits) ∙ front-tally n E q B)
+          ap (λ (T : Tally). or_kept (stats_admission (front n E) q.transform q.row q.col B) T) (ap (tally_of B (front n E) q) (front-size n E fits) ∙ front-tally n E q B)
           ∙ sym (rw (d, le-ltb (size E) n fits, le-ltb 8192 n l))
 
 -- the columns that were cut are the front
 pub front_of : (E : EdgeList) (n : ℕ) (q : Square) (B : Board) (r c : List ℤ) (o b : List ℕ) (w : List Float) → r ≡ take n E.rows → c ≡ take n E.cols → o ≡ take n E.orientations → b ≡ take n E.bits → w ≡ take n E.confidences
-    → countedAll (edges r c o b w) q B ≡ countedAll (front n E) q B
+    → counted_all (edges r c o b w) q B ≡ counted_all (front n E) q B
 unfolding front
 front_of E n q B r c o b w e f g h k = rw (e, f, g, h, k)

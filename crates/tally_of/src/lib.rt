@@ -3,7 +3,7 @@ ghost use Rattle.std.specs.Prelude.{◌≡◌};
 ghost use Rattle.board.specs.Hits.{edges, tables, size};
 ghost use Rattle.admission.specs.Accepted.{StatsAccepted};
 ghost use Rattle.tally.specs.Counted.{tally_of};
-ghost use Rattle.tally_of.specs.Begun.{Sides, countedAll, tallyAnswer};
+ghost use Rattle.tally_of.specs.Begun.{Sides, counted_all, tally_answer};
 
 use answer::Square;
 use refusals::Admission;
@@ -58,7 +58,7 @@ fn count_all<'a>(
     h: &'a [u8],
     v: &'a [u8],
 ) -> TallyAnswer
-    ensures { result ≡ countedAll
+    ensures { result ≡ counted_all
         (edges rows.now cols.now orientations.now bits.now confidences.now)
         square (tables h.now v.now) }
 {
@@ -101,7 +101,7 @@ pub fn tally_of<'a>(
     h: &'a [u8],
     v: &'a [u8],
 ) -> TallyAnswer
-    ensures { result ≡ tallyAnswer
+    ensures { result ≡ tally_answer
         (edges rows.now cols.now orientations.now bits.now confidences.now)
         count square (tables h.now v.now) }
 {

@@ -15,22 +15,22 @@ use Rattle.ten_fields.specs.declared.TenAnswer.{TenAnswer}
 use Rattle.ten_fields.specs.declared.TenAnswer.TheVariants.{Found, Refused}
 
 -- a hard answer, and a soft one, as one of either decoder's
-abbrev pub anyOfHard : Answer → AnyAnswer
-anyOfHard (hard.Found d) = any.Hard d
-anyOfHard (hard.Refused r) = any.Refused r
+abbrev pub any_of_hard : Answer → AnyAnswer
+any_of_hard (hard.Found d) = any.Hard d
+any_of_hard (hard.Refused r) = any.Refused r
 
-abbrev pub anyOfSoft : SoftAnswer → AnyAnswer
-anyOfSoft (soft.Found d) = any.Soft d
-anyOfSoft (soft.Refused r) = any.Refused r
+abbrev pub any_of_soft : SoftAnswer → AnyAnswer
+any_of_soft (soft.Found d) = any.Soft d
+any_of_soft (soft.Refused r) = any.Refused r
 
 -- a count as an f32: every whole number up to 2^24 is one. (Above it, where no count of an answer is, NaN.)
-unfoldable pub asScore : ℕ → Float
-asScore n = cond (ltb 16777216 n) nan (of_int binary32 (pos n))
+unfoldable pub as_score : ℕ → Float
+as_score n = cond (ltb 16777216 n) nan (of_int binary32 (pos n))
 
 -- "runner-up hits as score, margin": both are counts in a hard answer
-unfoldable pub tenOfHard : Decoded → TenFields
-unfolding asScore
-tenOfHard d = record {
+unfoldable pub ten_of_hard : Decoded → TenFields
+unfolding as_score
+ten_of_hard d = record {
   square = d.square;
   hits = d.hits;
   edges = d.edges;
@@ -38,15 +38,15 @@ tenOfHard d = record {
   error_rate = d.error_rate;
   mean_confidence = d.mean_confidence;
   best_score = d.best_score;
-  runner_up_score = asScore d.runner_up_hits;
-  margin = asScore d.margin_hits;
+  runner_up_score = as_score d.runner_up_hits;
+  margin = as_score d.margin_hits;
   runner_up = d.runner_up;
 }
 
 -- "the runner-up fields are replaced by the hard runner-up (score = its hits); the margin stays"
-unfoldable pub tenOfSoft : SoftDecoded → TenFields
-unfolding asScore
-tenOfSoft d = record {
+unfoldable pub ten_of_soft : SoftDecoded → TenFields
+unfolding as_score
+ten_of_soft d = record {
   square = d.square;
   hits = d.hits;
   edges = d.edges;
@@ -54,13 +54,13 @@ tenOfSoft d = record {
   error_rate = d.error_rate;
   mean_confidence = d.mean_confidence;
   best_score = d.best_score;
-  runner_up_score = asScore d.runner_up_hits;
+  runner_up_score = as_score d.runner_up_hits;
   margin = d.margin;
   runner_up = d.runner_up;
 }
 
 -- the answer of either decoder as document 01 has it
-abbrev pub tenFields : AnyAnswer → TenAnswer
-tenFields (any.Hard d) = Found (tenOfHard d)
-tenFields (any.Soft d) = Found (tenOfSoft d)
-tenFields (any.Refused r) = Refused r
+abbrev pub ten_fields : AnyAnswer → TenAnswer
+ten_fields (any.Hard d) = Found (ten_of_hard d)
+ten_fields (any.Soft d) = Found (ten_of_soft d)
+ten_fields (any.Refused r) = Refused r

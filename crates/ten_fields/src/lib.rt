@@ -1,6 +1,6 @@
 // Document 01's answer of ten fields, derived from the answers that say by their names what they count: for comparisons with the Rust, and for those who knew the old answer.
 ghost use Rattle.std.specs.Prelude.{◌≡◌};
-ghost use Rattle.ten_fields.specs.TenFields.{anyOfHard, anyOfSoft, asScore, tenOfHard, tenOfSoft, tenFields};
+ghost use Rattle.ten_fields.specs.TenFields.{any_of_hard, any_of_soft, as_score, ten_of_hard, ten_of_soft, ten_fields};
 
 use answer::{Answer, AnyAnswer, Decoded, SoftAnswer, SoftDecoded, Square};
 use refusals::Refusal;
@@ -29,7 +29,7 @@ pub enum TenAnswer {
 
 // A hard answer as one of either decoder's.
 pub fn any_of_hard(answer: Answer) -> AnyAnswer
-    ensures { result ≡ anyOfHard answer }
+    ensures { result ≡ any_of_hard answer }
 {
     match answer {
         Answer::Found(d) => AnyAnswer::Hard(d),
@@ -39,7 +39,7 @@ pub fn any_of_hard(answer: Answer) -> AnyAnswer
 
 // A soft answer as one of either decoder's.
 pub fn any_of_soft(answer: SoftAnswer) -> AnyAnswer
-    ensures { result ≡ anyOfSoft answer }
+    ensures { result ≡ any_of_soft answer }
 {
     match answer {
         SoftAnswer::Found(d) => AnyAnswer::Soft(d),
@@ -49,7 +49,7 @@ pub fn any_of_soft(answer: SoftAnswer) -> AnyAnswer
 
 // A count as a score. Above 2^24, which no answer has, it is no number.
 fn score_of(hits: u32) -> f32
-    ensures { result ≡ asScore hits }
+    ensures { result ≡ as_score hits }
 {
     if 16777216 < hits {
         return 0.0 / 0.0;
@@ -59,7 +59,7 @@ fn score_of(hits: u32) -> f32
 
 // The ten fields of a found hard answer.
 fn ten_of_hard(hard: Decoded) -> TenFields
-    ensures { result ≡ tenOfHard hard }
+    ensures { result ≡ ten_of_hard hard }
 {
     let square = hard.square;
     let runner_up = hard.runner_up;
@@ -81,7 +81,7 @@ fn ten_of_hard(hard: Decoded) -> TenFields
 
 // The ten fields of a found soft answer: the second by likelihood had no place there.
 fn ten_of_soft(soft: SoftDecoded) -> TenFields
-    ensures { result ≡ tenOfSoft soft }
+    ensures { result ≡ ten_of_soft soft }
 {
     let square = soft.square;
     let runner_up = soft.runner_up;
@@ -102,7 +102,7 @@ fn ten_of_soft(soft: SoftDecoded) -> TenFields
 
 // The answer of document 01, of either decoder's answer.
 pub fn ten_fields(answer: AnyAnswer) -> TenAnswer
-    ensures { result ≡ tenFields answer }
+    ensures { result ≡ ten_fields answer }
 {
     match answer {
         AnyAnswer::Hard(d) => TenAnswer::Found(ten_of_hard(d)),

@@ -5,29 +5,29 @@ use Rattle.std.proofs.Math.Bool.{false}
 use Prim.Native.Nat.{ℕ, zero, suc, ◌+◌, ◌/◌, ◌%◌, ◌≤◌, ◌<◌}
 use Rattle.std.specs.Float.{binary32}
 use Rattle.std.specs.Float.Ieee.{add}
-use Rattle.laws.specs.Words.{fold, all, zeroF}
+use Rattle.laws.specs.Words.{fold, all, zero_f}
 use Rattle.laws.specs.Fold.{fold-hit, fold-miss, sum-some, sum_mono}
 use Rattle.laws.specs.DoubleCounting.{fold-ext}
 use Rattle.board.specs.Hits.{bit_at}
 use Rattle.terms.specs.declared.FamilyTerm.{FamilyTerm}
-use Rattle.terms.specs.Terms.{agrees, adds, termSum, termC, termW, term, Terms, noTerm, placesN}
+use Rattle.terms.specs.Terms.{agrees, adds, term_sum, term_c, term_w, term, Terms, no_term, places_n}
 
 -- ---- one group more: c j edges of weight w j, b the pattern's bit
 module _ (c : ℕ → ℕ) (w : ℕ → Float) (p s j : ℕ) where
   -- the pair of sums, with the group j taken and not
   abbrev pub Taken : Type 0
-  Taken = (termC (j + 1) c p s ≡ termC j c p s + c j) × (termW (j + 1) c w p s ≡ add binary32 (termW j c w p s) (w j))
+  Taken = (term_c (j + 1) c p s ≡ term_c j c p s + c j) × (term_w (j + 1) c w p s ≡ add binary32 (term_w j c w p s) (w j))
 
   abbrev pub Passed : Type 0
-  Passed = (termC (j + 1) c p s ≡ termC j c p s) × (termW (j + 1) c w p s ≡ termW j c w p s)
+  Passed = (term_c (j + 1) c p s ≡ term_c j c p s) × (term_w (j + 1) c w p s ≡ term_w j c w p s)
 
   taken : adds false c p s j ≡ true → Taken
-  unfolding termSum
-  taken h = (fold-hit ◌+◌ 0 (adds false c p s) c j h, fold-hit (add binary32) zeroF (adds false c p s) w j h)
+  unfolding term_sum
+  taken h = (fold-hit ◌+◌ 0 (adds false c p s) c j h, fold-hit (add binary32) zero_f (adds false c p s) w j h)
 
   passed : adds false c p s j ≡ false → Passed
-  unfolding termSum
-  passed h = (fold-miss ◌+◌ 0 (adds false c p s) c j h, fold-miss (add binary32) zeroF (adds false c p s) w j h)
+  unfolding term_sum
+  passed h = (fold-miss ◌+◌ 0 (adds false c p s) c j h, fold-miss (add binary32) zero_f (adds false c p s) w j h)
 
   pub term-empty : c j ≡ 0 → Passed
   term-empty h = passed (ap (λ x. not (eqb x 0) && agrees p s j) h)
@@ -39,8 +39,8 @@ module _ (c : ℕ → ℕ) (w : ℕ → Float) (p s j : ℕ) where
   term-yes b h e k = taken (rw (ne_eqb (c j) 0 h, eq-eqb (bit_at p ((s + j / 2) % 3)) (j % 2) (sym e ∙ k)))
 
 -- what there is so far, and one group more, is at most all six together
-pub so_far : (c : ℕ → ℕ) (p s j : ℕ) → j < 6 → termC j c p s + c j ≤ fold ◌+◌ 0 6 all c
-unfolding termSum
+pub so_far : (c : ℕ → ℕ) (p s j : ℕ) → j < 6 → term_c j c p s + c j ≤ fold ◌+◌ 0 6 all c
+unfolding term_sum
 so_far c p s j h =
     let a : fold ◌+◌ 0 j (adds false c p s) c ≤ fold ◌+◌ 0 j all c = sum-some (adds false c p s) c j in
     let b : fold ◌+◌ 0 (j + 1) all c ≤ fold ◌+◌ 0 6 all c = sum_mono all c (j + 1) 6 (omega arith) in
@@ -58,8 +58,8 @@ three-at f d (suc (suc (suc s))) h = absurd (past s h)
     past : (n : ℕ) → suc (suc (suc n)) < 3 → ⊥
     past n h = omega arith
 
-pub terms-at : (c : ℕ → ℕ) (w : ℕ → Float) (t : List (List FamilyTerm)) (p s : ℕ) → Terms c w t → p < 8 → s < 3 → get_or (get_or t p []) s noTerm ≡ term c w p s
-terms-at c w t p s T h k = ap (λ r. get_or r s noTerm) (T.rows p h) ∙ three-at (term c w p) noTerm s k
+pub terms-at : (c : ℕ → ℕ) (w : ℕ → Float) (t : List (List FamilyTerm)) (p s : ℕ) → Terms c w t → p < 8 → s < 3 → get_or (get_or t p []) s no_term ≡ term c w p s
+terms-at c w t p s T h k = ap (λ r. get_or r s no_term) (T.rows p h) ∙ three-at (term c w p) no_term s k
 
 -- ---- groups that hold the same have the same terms
 module _ (n : ℕ) (c c' : ℕ → ℕ) (p s : ℕ) (e : (j : ℕ) → j < n → c j ≡ c' j) where
@@ -67,13 +67,13 @@ module _ (n : ℕ) (c c' : ℕ → ℕ) (p s : ℕ) (e : (j : ℕ) → j < n →
   same-adds misses j h = ap (λ x. not (eqb x 0) && (misses || agrees p s j)) (e j h)
 
   pub same-term : {A : Type 0} (op : A → A → A) (z : A) (misses : Bool) (x x' : Bool → ℕ → A) → ((b : Bool) (j : ℕ) → j < n → x b j ≡ x' b j)
-      → termSum op z misses n c x p s ≡ termSum op z misses n c' x' p s
-  unfolding termSum
+      → term_sum op z misses n c x p s ≡ term_sum op z misses n c' x' p s
+  unfolding term_sum
   same-term op z misses x x' f = fold-ext op z n (adds misses c p s) (adds misses c' p s) (λ j. x (agrees p s j) j) (λ j. x' (agrees p s j) j) (same-adds misses) (λ j h. f (agrees p s j) j h)
 
 -- ---- six groups together
 pub six-sum : (l : List ℕ) (from : ℕ)
-    → fold ◌+◌ 0 6 all (placesN from l) ≡ get_or l from 0 + get_or l (from + 1) 0 + (get_or l (from + 2) 0 + get_or l (from + 3) 0) + (get_or l (from + 4) 0 + get_or l (from + 5) 0)
+    → fold ◌+◌ 0 6 all (places_n from l) ≡ get_or l from 0 + get_or l (from + 1) 0 + (get_or l (from + 2) 0 + get_or l (from + 3) 0) + (get_or l (from + 4) 0 + get_or l (from + 5) 0)
 unfolding fold
 six-sum l from = ap (λ x. 0 + get_or l x 0 + get_or l (from + 1) 0 + get_or l (from + 2) 0 + get_or l (from + 3) 0 + get_or l (from + 4) 0 + get_or l (from + 5) 0) (add-zero from) ∙ six (get_or l from 0) (get_or l (from + 1) 0) (get_or l (from + 2) 0) (get_or l (from + 3) 0) (get_or l (from + 4) 0) (get_or l (from + 5) 0)
   where
@@ -91,6 +91,6 @@ module _ (c : ℕ → ℕ) (none : fold ◌+◌ 0 6 all c ≡ 0) (p s : ℕ) whe
   left_out : (misses : Bool) (j : ℕ) → j < 6 → adds misses c p s j ≡ false
   left_out misses j h = ap (λ x. not (eqb x 0) && (misses || agrees p s j)) (no_edge j h)
 
-  pub no-term : {A : Type 0} (op : A → A → A) (z : A) (misses : Bool) (x : Bool → ℕ → A) → termSum op z misses 6 c x p s ≡ z
-  unfolding termSum fold
+  pub no-term : {A : Type 0} (op : A → A → A) (z : A) (misses : Bool) (x : Bool → ℕ → A) → term_sum op z misses 6 c x p s ≡ z
+  unfolding term_sum fold
   no-term op z misses x = fold-ext op z 6 (adds misses c p s) (λ j. false) (λ j. x (agrees p s j) j) (λ j. x (agrees p s j) j) (left_out misses) (λ j h. refl)

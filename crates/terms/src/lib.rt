@@ -1,7 +1,7 @@
 // Family terms: what the six groups of one long residue add to a class, by the pattern that the class reads and its short class.
 ghost use Rattle.std.specs.Prelude.{◌≡◌, ◌+◌, ◌≤◌, ◌<◌, length};
 ghost use Rattle.laws.specs.Words.{fold, all};
-ghost use Rattle.terms.specs.Terms.{placesN, placesF, term, row, Six, Terms};
+ghost use Rattle.terms.specs.Terms.{places_n, places_f, term, row, Six, Terms};
 
 // What a family adds to one cell.
 #[derive(Drop)]
@@ -15,8 +15,8 @@ pub type FamilyTerms = [[FamilyTerm; 3]; 8];
 
 // How many edges the six groups from `from` on hold together.
 pub fn edges_held(counts: &[u32], from: usize) -> u32
-    requires { (from + 6 ≤ length counts.now) × (fold ◌+◌ 0 6 all (placesN from counts.now) ≤ 8192) }
-    ensures { result ≡ fold ◌+◌ 0 6 all (placesN from counts.now) }
+    requires { (from + 6 ≤ length counts.now) × (fold ◌+◌ 0 6 all (places_n from counts.now) ≤ 8192) }
+    ensures { result ≡ fold ◌+◌ 0 6 all (places_n from counts.now) }
 {
     let a = counts[from] + counts[from + 1];
     let b = counts[from + 2] + counts[from + 3];
@@ -28,7 +28,7 @@ pub fn edges_held(counts: &[u32], from: usize) -> u32
 fn fold_term(counts: &[u32], weights: &[f32], from: usize, pattern: u8, s: u32) -> FamilyTerm
     requires six { Six from counts.now weights.now }
     requires s_bound { s < 3 }
-    ensures { result ≡ term (placesN from counts.now) (placesF from weights.now) pattern s }
+    ensures { result ≡ term (places_n from counts.now) (places_f from weights.now) pattern s }
 {
     let mut count: u32 = 0;
     let mut weight: f32 = 0.0;
@@ -49,7 +49,7 @@ fn fold_term(counts: &[u32], weights: &[f32], from: usize, pattern: u8, s: u32) 
 // The row of one pattern: the term of each short class.
 fn fold_row(counts: &[u32], weights: &[f32], from: usize, pattern: u8) -> [FamilyTerm; 3]
     requires { Six from counts.now weights.now }
-    ensures { result ≡ row (placesN from counts.now) (placesF from weights.now) pattern }
+    ensures { result ≡ row (places_n from counts.now) (places_f from weights.now) pattern }
 {
     let a = fold_term(counts, weights, from, pattern, 0);
     let b = fold_term(counts, weights, from, pattern, 1);
@@ -60,7 +60,7 @@ fn fold_row(counts: &[u32], weights: &[f32], from: usize, pattern: u8) -> [Famil
 // The table of terms of the six groups from `from` on, a row for each pattern.
 pub fn fold_family(counts: &[u32], weights: &[f32], from: usize) -> FamilyTerms
     requires { Six from counts.now weights.now }
-    ensures { Terms (placesN from counts.now) (placesF from weights.now) result }
+    ensures { Terms (places_n from counts.now) (places_f from weights.now) result }
 {
     let mut terms = [[FamilyTerm {
         count: 0,

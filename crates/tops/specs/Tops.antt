@@ -2,7 +2,7 @@
 use Rattle.std.specs.Prelude.{cond, false, ℕ, zero, suc, ◌+◌, ◌*◌, ltb}
 use Rattle.board.specs.Hits.{EdgeList, Board}
 use Rattle.classes.specs.declared.Three.{Three}
-use Rattle.classes.specs.Classes.{residueHits}
+use Rattle.classes.specs.Classes.{residue_hits}
 use Rattle.tops.specs.declared.Top.{Top}
 
 -- number i is x: it takes the first place where it is greater than the best, which is then the second; else the second place where it is greater than that
@@ -12,17 +12,17 @@ pushed T i x =
     (cond (ltb T.next x) (record { best = T.best; at = T.at; next = x }) T)
 
 -- of none
-abbrev pub noTop : Top
-noTop = record { best = 0; at = 0; next = 0 }
+abbrev pub no_top : Top
+no_top = record { best = 0; at = 0; next = 0 }
 
 -- of the first n
-unfoldable pub topTo : (ℕ → ℕ) → ℕ → Top
-topTo f zero = noTop
-topTo f (suc n) = pushed (topTo f n) n (f n)
+unfoldable pub top_to : (ℕ → ℕ) → ℕ → Top
+top_to f zero = no_top
+top_to f (suc n) = pushed (top_to f n) n (f n)
 
 -- three more, the classes of the long residue l
-unfoldable pub pushedThree : Top → ℕ → Three → Top
-pushedThree T l x = pushed (pushed (pushed T (l * 3) x.a) (l * 3 + 1) x.b) (l * 3 + 2) x.c
+unfoldable pub pushed_three : Top → ℕ → Three → Top
+pushed_three T l x = pushed (pushed (pushed T (l * 3) x.a) (l * 3 + 1) x.b) (l * 3 + 2) x.c
 
 -- ---- the greatest of each short residue
 unfoldable pub larger : ℕ → ℕ → ℕ
@@ -39,10 +39,10 @@ unfolding larger
 raised T x = record { a = larger T.a x.a; b = larger T.b x.b; c = larger T.c x.c }
 
 -- of the vertical side's first n long residues
-unfoldable pub shortTops : Board → EdgeList → ℕ → ℕ → Three
+unfoldable pub short_tops : Board → EdgeList → ℕ → ℕ → Three
 unfolding most
-shortTops B E t n = record {
-  a = most (λ l. residueHits B E t false l 0) n;
-  b = most (λ l. residueHits B E t false l 1) n;
-  c = most (λ l. residueHits B E t false l 2) n;
+short_tops B E t n = record {
+  a = most (λ l. residue_hits B E t false l 0) n;
+  b = most (λ l. residue_hits B E t false l 1) n;
+  c = most (λ l. residue_hits B E t false l 2) n;
 }

@@ -8,10 +8,10 @@ use native.Mathlib.Omega.{arith}
 use Rattle.laws.specs.Tests.{split, decided}
 use Rattle.board.specs.Hits.{EdgeList, Board}
 use Rattle.classes.specs.declared.Three.{Three}
-use Rattle.classes.specs.Classes.{classHits, threeOf}
+use Rattle.classes.specs.Classes.{class_hits, three_of}
 use Rattle.classes.specs.ClassesLaws.{class-at}
 use Rattle.tops.specs.declared.Top.{Top}
-use Rattle.tops.specs.Tops.{pushed, noTop, topTo, pushedThree, larger, most, raised, shortTops}
+use Rattle.tops.specs.Tops.{pushed, no_top, top_to, pushed_three, larger, most, raised, short_tops}
 
 -- the best and the second best of n numbers
 pub record IsTop (f : ℕ → ℕ) (n : ℕ) (T : Top) : Type 0 where
@@ -22,10 +22,10 @@ pub record IsTop (f : ℕ → ℕ) (n : ℕ) (T : Top) : Type 0 where
   pub had : (T.next ≡ 0) ⊎ ((j : ℕ) × (j < n) × (j ≡ T.at → ⊥) × (f j ≡ T.next))
 
 module _ (f : ℕ → ℕ) where
-  first-top : IsTop f 1 (pushed noTop 0 (f 0))
+  first-top : IsTop f 1 (pushed no_top 0 (f 0))
   first-top = go (ltb 0 (f 0)) refl
     where
-      go : (b : Bool) → ltb 0 (f 0) ≡ b → IsTop f 1 (cond b (record { best = f 0; at = 0; next = 0 }) (cond b (record { best = 0; at = 0; next = f 0 }) noTop))
+      go : (b : Bool) → ltb 0 (f 0) ≡ b → IsTop f 1 (cond b (record { best = f 0; at = 0; next = 0 }) (cond b (record { best = 0; at = 0; next = f 0 }) no_top))
       go true e = record { in-range = lit< tt; attained = refl; under = omega arith; others = λ j l n. absurd (omega arith); had = inl refl }
       go false e = record { in-range = lit< tt; attained = omega (arith, ltb-false 0 (f 0) e); under = omega arith; others = λ j l n. absurd (omega arith); had = inl refl }
 
@@ -55,47 +55,47 @@ module _ (f : ℕ → ℕ) where
         had = ⊎_elim inl (λ w. inr (w.0, omega (arith, w.1), w.2, w.3)) I.had;
       }
 
-  is-top : (n : ℕ) → IsTop f (suc n) (topTo f (suc n))
-  unfolding topTo
+  is-top : (n : ℕ) → IsTop f (suc n) (top_to f (suc n))
+  unfolding top_to
   is-top zero = first-top
-  is-top (suc n) = more-top (suc n) (topTo f (suc n)) (is-top n)
+  is-top (suc n) = more-top (suc n) (top_to f (suc n)) (is-top n)
 
   -- of two or more, another has the second best
-  pub top : (n : ℕ) → 1 < n → IsTop f n (topTo f n)
+  pub top : (n : ℕ) → 1 < n → IsTop f n (top_to f n)
   top (suc n) h = is-top n
   top zero h = absurd (omega arith)
 
-  pub second-had : (n : ℕ) → 1 < n → (j : ℕ) × (j < n) × (j ≡ (topTo f n).at → ⊥) × (f j ≡ (topTo f n).next)
-  second-had n h = ⊎_elim (λ z. other z (decided (topTo f n).at 0)) (λ w. w) I.had
+  pub second-had : (n : ℕ) → 1 < n → (j : ℕ) × (j < n) × (j ≡ (top_to f n).at → ⊥) × (f j ≡ (top_to f n).next)
+  second-had n h = ⊎_elim (λ z. other z (decided (top_to f n).at 0)) (λ w. w) I.had
     where
-      I : IsTop f n (topTo f n)
+      I : IsTop f n (top_to f n)
       I = top n h
 
-      other : (topTo f n).next ≡ 0 → ((topTo f n).at ≡ 0) ⊎ ((topTo f n).at ≡ 0 → ⊥) → (j : ℕ) × (j < n) × (j ≡ (topTo f n).at → ⊥) × (f j ≡ (topTo f n).next)
+      other : (top_to f n).next ≡ 0 → ((top_to f n).at ≡ 0) ⊎ ((top_to f n).at ≡ 0 → ⊥) → (j : ℕ) × (j < n) × (j ≡ (top_to f n).at → ⊥) × (f j ≡ (top_to f n).next)
       other z (inl q) = (1, h, (λ e. omega (arith, e, q)), omega (arith, z, I.others 1 h (λ e. omega (arith, e, q))))
       other z (inr q) = (0, omega arith, (λ e. q (sym e)), omega (arith, z, I.others 0 (omega arith) (λ e. q (sym e))))
 
   -- ---- one number more
-  pub top-more : (n : ℕ) → topTo f (n + 1) ≡ pushed (topTo f n) n (f n)
-  unfolding topTo
+  pub top-more : (n : ℕ) → top_to f (n + 1) ≡ pushed (top_to f n) n (f n)
+  unfolding top_to
   top-more n = rw add-one
 
 -- ---- the three classes of one long residue more
 module _ (B : Board) (E : EdgeList) (t : ℕ) (s : Bool) where
   abbrev f : ℕ → ℕ
-  f = classHits B E t s
+  f = class_hits B E t s
 
-  pub top-none : noTop ≡ topTo f (0 * 3)
-  unfolding topTo
+  pub top-none : no_top ≡ top_to f (0 * 3)
+  unfolding top_to
   top-none = refl
 
-  pub top-three : (l : ℕ) (T r : Top) (x : Three) → T ≡ topTo f (l * 3) → x ≡ threeOf B E t s l → r ≡ pushedThree T l x → r ≡ topTo f ((l + 1) * 3)
-  unfolding pushedThree threeOf
+  pub top-three : (l : ℕ) (T r : Top) (x : Three) → T ≡ top_to f (l * 3) → x ≡ three_of B E t s l → r ≡ pushed_three T l x → r ≡ top_to f ((l + 1) * 3)
+  unfolding pushed_three three_of
   top-three l T r x e q k =
-      k ∙ ap₂ (λ (y : Top) (z : Three). pushedThree y l z) e q
-      ∙ sym (ap (topTo f) past ∙ top-more f (l * 3 + 2)
-      ∙ ap₂ (λ (y : Top) (z : ℕ). pushed y (l * 3 + 2) z) (ap (topTo f) (omega arith) ∙ top-more f (l * 3 + 1)
-      ∙ ap₂ (λ (y : Top) (z : ℕ). pushed y (l * 3 + 1) z) (top-more f (l * 3) ∙ ap (λ (z : ℕ). pushed (topTo f (l * 3)) (l * 3) z) (ap f (omega arith) ∙ class-at B E t s l 0 (lit< tt))) (class-at B E t s l 1 (lit< tt))) (class-at B E t s l 2 (lit< tt)))
+      k ∙ ap₂ (λ (y : Top) (z : Three). pushed_three y l z) e q
+      ∙ sym (ap (top_to f) past ∙ top-more f (l * 3 + 2)
+      ∙ ap₂ (λ (y : Top) (z : ℕ). pushed y (l * 3 + 2) z) (ap (top_to f) (omega arith) ∙ top-more f (l * 3 + 1)
+      ∙ ap₂ (λ (y : Top) (z : ℕ). pushed y (l * 3 + 1) z) (top-more f (l * 3) ∙ ap (λ (z : ℕ). pushed (top_to f (l * 3)) (l * 3) z) (ap f (omega arith) ∙ class-at B E t s l 0 (lit< tt))) (class-at B E t s l 1 (lit< tt))) (class-at B E t s l 2 (lit< tt)))
     where
       past : (l + 1) * 3 ≡ l * 3 + 2 + 1
       past = omega arith
@@ -138,10 +138,10 @@ most-bound f b h zero = omega arith
 most-bound f b h (suc n) = ⊎_elim (λ e. omega (arith, e, most-bound f b h n)) (λ e. omega (arith, e, h n)) (larger-is (most f n) (f n))
 
 module _ (B : Board) (E : EdgeList) (t : ℕ) where
-  pub short_none : record { a = 0; b = 0; c = 0 } ≡ shortTops B E t 0
-  unfolding shortTops most
+  pub short_none : record { a = 0; b = 0; c = 0 } ≡ short_tops B E t 0
+  unfolding short_tops most
   short_none = refl
 
-  pub short-more : (n : ℕ) (T r x : Three) → T ≡ shortTops B E t n → x ≡ threeOf B E t false n → r ≡ raised T x → r ≡ shortTops B E t (n + 1)
-  unfolding shortTops most raised threeOf
+  pub short-more : (n : ℕ) (T r x : Three) → T ≡ short_tops B E t n → x ≡ three_of B E t false n → r ≡ raised T x → r ≡ short_tops B E t (n + 1)
+  unfolding short_tops most raised three_of
   short-more n T r x e q k = k ∙ ap₂ raised e q ∙ sym (rw (add-one n))

@@ -1,9 +1,9 @@
 // The best class of a side and the second best, and the best of each short residue: each class is counted, one long residue after the other, and only what is best so far is kept.
 ghost use Rattle.std.specs.Prelude.{◌≡◌, false, [], ◌*◌, ◌≤◌, ◌<◌};
 ghost use Rattle.board.specs.Hits.{edges, tables};
-ghost use Rattle.board.specs.Sides.{periodOf};
-ghost use Rattle.classes.specs.Classes.{classHits, CountReady};
-ghost use Rattle.tops.specs.Tops.{pushed, pushedThree, topTo, raised, shortTops};
+ghost use Rattle.board.specs.Sides.{period_of};
+ghost use Rattle.classes.specs.Classes.{class_hits, CountReady};
+ghost use Rattle.tops.specs.Tops.{pushed, pushed_three, top_to, raised, short_tops};
 
 use classes::{Three, period_of};
 
@@ -39,7 +39,7 @@ fn push(top: Top, i: usize, hits: u32) -> Top
 // The three classes of one long residue more.
 fn push_three(top: Top, long: usize, x: Three) -> Top
     requires { long ≤ 500 }
-    ensures { result ≡ pushedThree top long x }
+    ensures { result ≡ pushed_three top long x }
 {
     let i = long * 3;
     let a = push(top, i, x.a);
@@ -59,7 +59,7 @@ pub fn side_top(
     v: &[u8],
 ) -> Top
     requires { CountReady (tables h.now v.now) (edges rows.now cols.now orientations.now bits.now []) t }
-    ensures { result ≡ topTo (classHits (tables h.now v.now) (edges rows.now cols.now orientations.now bits.now []) t horizontal) (periodOf (tables h.now v.now) horizontal * 3) }
+    ensures { result ≡ top_to (class_hits (tables h.now v.now) (edges rows.now cols.now orientations.now bits.now []) t horizontal) (period_of (tables h.now v.now) horizontal * 3) }
 {
     let period = period_of(h, v, horizontal);
     let mut top = Top {
@@ -117,7 +117,7 @@ pub fn short_tops(
     v: &[u8],
 ) -> Three
     requires { CountReady (tables h.now v.now) (edges rows.now cols.now orientations.now bits.now []) t }
-    ensures { result ≡ shortTops (tables h.now v.now) (edges rows.now cols.now orientations.now bits.now []) t (periodOf (tables h.now v.now) false) }
+    ensures { result ≡ short_tops (tables h.now v.now) (edges rows.now cols.now orientations.now bits.now []) t (period_of (tables h.now v.now) false) }
 {
     let period = v.len();
     let mut top = Three { a: 0, b: 0, c: 0 };

@@ -5,9 +5,9 @@ use Rattle.std.specs.Float.{fin}
 use Rattle.std.specs.Float.Ieee.{up, down}
 use Rattle.std.specs.Float.Ieee.Fits.{down_pos}
 use Rattle.laws.specs.Words.{Weight}
-use Rattle.likelihood.specs.Likelihood.{acceptable, halfUp, quantised}
+use Rattle.likelihood.specs.Likelihood.{acceptable, half_up, quantised}
 use Rattle.likelihood.specs.LikelihoodLaws.{Within, within-acceptable, half_le}
-use Rattle.unit_terms.specs.Values.{unit_of, oneHit, value_of}
+use Rattle.unit_terms.specs.Values.{unit_of, one_hit, value_of}
 
 weight-within : (x : Float) → Weight x 1 → Within x
 weight-within (fin true m e) h = rw h (omega (arith, zero-mul (up e)))
@@ -17,13 +17,13 @@ pub weight-acceptable : (x : Float) → Weight x 1 → acceptable x ≡ true
 weight-acceptable x h = within-acceptable x (weight-within x h)
 
 -- how many units x has, and that it has no sign
-part : (m : ℕ) (e : ℤ) → m * up e ≤ 1 * down e → halfUp (m * up e * 2 ^ 24) (down e) ≤ 2 ^ 24
+part : (m : ℕ) (e : ℤ) → m * up e ≤ 1 * down e → half_up (m * up e * 2 ^ 24) (down e) ≤ 2 ^ 24
 part m e h = half_le (m * up e * 2 ^ 24) (down e) (2 ^ 24) (down_pos e) (omega arith)
 
 quantised-weight : (x : Float) → Weight x 1 → (quantised x ≡ pos (nat_abs (quantised x))) × (nat_abs (quantised x) ≤ 2 ^ 24)
 unfolding quantised
 quantised-weight (fin false m e) h = (refl, part m e h)
-quantised-weight (fin true m e) h = no_sign (halfUp (m * up e * 2 ^ 24) (down e)) (half_le (m * up e * 2 ^ 24) (down e) 0 (down_pos e) (nothing m h))
+quantised-weight (fin true m e) h = no_sign (half_up (m * up e * 2 ^ 24) (down e)) (half_le (m * up e * 2 ^ 24) (down e) 0 (down_pos e) (nothing m h))
   where
     -- -0 is 0
     nothing : (m : ℕ) → m ≡ 0 → m * up e * 2 ^ 24 ≤ 0 * down e
@@ -41,6 +41,6 @@ pub unit-small : (x : Float) → Weight x 1 → unit_of x ≤ 2 ^ 24
 unfolding unit_of
 unit-small x h = (quantised-weight x h).1
 
-pub value-is : (x : Float) → value_of x ≡ oneHit + unit_of x
+pub value-is : (x : Float) → value_of x ≡ one_hit + unit_of x
 unfolding value_of
 value-is x = refl

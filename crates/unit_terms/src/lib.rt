@@ -2,9 +2,9 @@
 // short class, as `terms` has it of counts.
 ghost use Rattle.std.specs.Prelude.{◌≡◌, ◌+◌, ◌<◌};
 ghost use Rattle.laws.specs.Words.{fold, all, Weight};
-ghost use Rattle.terms.specs.Terms.{placesN, termC};
+ghost use Rattle.terms.specs.Terms.{places_n, term_c};
 ghost use Rattle.unit_terms.specs.Values.{value_of};
-ghost use Rattle.unit_terms.specs.UnitTerms.{SixValues, valueRow, ValueTerms};
+ghost use Rattle.unit_terms.specs.UnitTerms.{SixValues, value_row, ValueTerms};
 
 // What a hit counts for before its units, 2^38: more than the units of a whole list.
 pub const HIT: u64 = 274877906944;
@@ -21,7 +21,7 @@ pub fn value_of(confidence: f32) -> u64
 // What the six groups from `from` on hold together. An edge's value is never 0, so where this is 0 they hold no edge.
 pub fn values_held(values: &[u64], from: usize) -> u64
     requires { SixValues from values.now }
-    ensures { result ≡ fold ◌+◌ 0 6 all (placesN from values.now) }
+    ensures { result ≡ fold ◌+◌ 0 6 all (places_n from values.now) }
 {
     let mut sum: u64 = 0;
     for i in 0..6 {
@@ -34,7 +34,7 @@ pub fn values_held(values: &[u64], from: usize) -> u64
 fn fold_value(values: &[u64], from: usize, pattern: u8, s: u32) -> u64
     requires six_values { SixValues from values.now }
     requires s_bound { s < 3 }
-    ensures { result ≡ termC 6 (placesN from values.now) pattern s }
+    ensures { result ≡ term_c 6 (places_n from values.now) pattern s }
 {
     let mut sum: u64 = 0;
     for j in 0..6u32 {
@@ -49,7 +49,7 @@ fn fold_value(values: &[u64], from: usize, pattern: u8, s: u32) -> u64
 // The row of one pattern: the term of each short class.
 fn fold_value_row(values: &[u64], from: usize, pattern: u8) -> [u64; 3]
     requires { SixValues from values.now }
-    ensures { result ≡ valueRow (placesN from values.now) pattern }
+    ensures { result ≡ value_row (places_n from values.now) pattern }
 {
     let a = fold_value(values, from, pattern, 0);
     let b = fold_value(values, from, pattern, 1);
@@ -60,7 +60,7 @@ fn fold_value_row(values: &[u64], from: usize, pattern: u8) -> [u64; 3]
 // The table of terms of a family, a row for each pattern.
 pub fn fold_values(values: &[u64], from: usize) -> [[u64; 3]; 8]
     requires { SixValues from values.now }
-    ensures { ValueTerms (placesN from values.now) result }
+    ensures { ValueTerms (places_n from values.now) result }
 {
     let mut terms = [[0u64; 3]; 8];
     for pattern in 0..8 {

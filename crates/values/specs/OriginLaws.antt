@@ -9,7 +9,7 @@ use Rattle.laws.specs.GridLaws.{Laws}
 use Rattle.best.specs.CellTables.{Period}
 use Rattle.grid.specs.BoardGrid.{grid}
 use Rattle.grid.specs.RowMajorLaws.{major-is, major-le}
-use Rattle.values.specs.Values.{v_at, valueBest, tiedValue, value_of, firstOrigin, pairValue, bestValue}
+use Rattle.values.specs.Values.{v_at, value_best, tied_value, value_of, first_origin, pair_value, best_value}
 use Rattle.values.specs.ValuesLaws.{best-top, cell_in}
 
 module _ (L M : ℕ) (p : Period L) (q : Period M) (hs vs : List ℕ) (eh : length hs ≡ 3 * L) (ev : length vs ≡ 3 * M) where
@@ -17,10 +17,10 @@ module _ (L M : ℕ) (p : Period L) (q : Period M) (hs vs : List ℕ) (eh : leng
   G = origins L M
 
   abbrev a : ℕ
-  a = v_at hs (valueBest hs)
+  a = v_at hs (value_best hs)
 
   abbrev b : ℕ
-  b = v_at vs (valueBest vs)
+  b = v_at vs (value_best vs)
 
   laws : Laws G (length hs) (length vs)
   laws = rw (eh, ev) (grid L M p q)
@@ -32,15 +32,15 @@ module _ (L M : ℕ) (p : Period L) (q : Period M) (hs vs : List ℕ) (eh : leng
   vtwo = omega (arith, ev, q.more)
 
   abbrev pub first : ℕ
-  first = firstOrigin L M hs vs (value_of hs) (value_of vs)
+  first = first_origin L M hs vs (value_of hs) (value_of vs)
 
   pub first_under : first < G.none
   unfolding value_of
   first_under =
       omega (
         arith,
-        major-le G (length vs) (tiedValue hs a) (tiedValue vs b) (length hs) (valueBest hs) (valueBest vs) (cell_in hs htwo) (cell_in vs vtwo) (eq-eqb a a refl) (eq-eqb b b refl),
-        laws.under (valueBest hs) (valueBest vs) (cell_in hs htwo) (cell_in vs vtwo),
+        major-le G (length vs) (tied_value hs a) (tied_value vs b) (length hs) (value_best hs) (value_best vs) (cell_in hs htwo) (cell_in vs vtwo) (eq-eqb a a refl) (eq-eqb b b refl),
+        laws.under (value_best hs) (value_best vs) (cell_in hs htwo) (cell_in vs vtwo),
       )
 
   -- it is the key of two cells of greatest value
@@ -49,26 +49,26 @@ module _ (L M : ℕ) (p : Period L) (q : Period M) (hs vs : List ℕ) (eh : leng
   first-is =
       ⊎_elim (λ e. absurd (omega (arith, first_under, e)))
       (λ w. (w.0, w.1, w.2, w.3, eqb-true (v_at hs w.0) a w.4, eqb-true (v_at vs w.1) b w.5, w.6))
-      (major-is G (length vs) (tiedValue hs a) (tiedValue vs b) (length hs))
+      (major-is G (length vs) (tied_value hs a) (tied_value vs b) (length hs))
 
   -- its value is the greatest of any origin
-  pub first-has : pairValue G hs vs first ≡ bestValue (value_of hs) (value_of vs)
+  pub first-has : pair_value G hs vs first ≡ best_value (value_of hs) (value_of vs)
   first-has =
       let w = first-is in
-      ap₂ (λ (x y : ℕ). v_at hs (G.hOf x) + v_at vs (G.vOf y)) w.6 w.6 ∙ ap₂ (λ (x y : ℕ). v_at hs x + v_at vs y) (laws.h-key w.0 w.1 w.2 w.3) (laws.v-key w.0 w.1 w.2 w.3) ∙ ap₂ ◌+◌ w.4 w.5
+      ap₂ (λ (x y : ℕ). v_at hs (G.h_of x) + v_at vs (G.v_of y)) w.6 w.6 ∙ ap₂ (λ (x y : ℕ). v_at hs x + v_at vs y) (laws.h_key w.0 w.1 w.2 w.3) (laws.v_key w.0 w.1 w.2 w.3) ∙ ap₂ ◌+◌ w.4 w.5
 
-  pub greatest : (k : ℕ) → pairValue G hs vs k ≤ bestValue (value_of hs) (value_of vs)
+  pub greatest : (k : ℕ) → pair_value G hs vs k ≤ best_value (value_of hs) (value_of vs)
   unfolding value_of
-  greatest k = omega (arith, best-top hs (G.hOf k) (laws.h-in k), best-top vs (G.vOf k) (laws.v-in k))
+  greatest k = omega (arith, best-top hs (G.h_of k) (laws.h-in k), best-top vs (G.v_of k) (laws.v-in k))
 
   -- and it is the first that has it
-  pub first-least : (k : ℕ) → k < G.none → pairValue G hs vs k ≡ bestValue (value_of hs) (value_of vs) → first ≤ k
+  pub first-least : (k : ℕ) → k < G.none → pair_value G hs vs k ≡ best_value (value_of hs) (value_of vs) → first ≤ k
   unfolding value_of
   first-least k l e =
-      let x : v_at hs (G.hOf k) ≡ a = omega (arith, e, best-top hs (G.hOf k) (laws.h-in k), best-top vs (G.vOf k) (laws.v-in k)) in
-      let y : v_at vs (G.vOf k) ≡ b = omega (arith, e, best-top hs (G.hOf k) (laws.h-in k), best-top vs (G.vOf k) (laws.v-in k)) in
+      let x : v_at hs (G.h_of k) ≡ a = omega (arith, e, best-top hs (G.h_of k) (laws.h-in k), best-top vs (G.v_of k) (laws.v-in k)) in
+      let y : v_at vs (G.v_of k) ≡ b = omega (arith, e, best-top hs (G.h_of k) (laws.h-in k), best-top vs (G.v_of k) (laws.v-in k)) in
       omega (
         arith,
         laws.back k l,
-        major-le G (length vs) (tiedValue hs a) (tiedValue vs b) (length hs) (G.hOf k) (G.vOf k) (laws.h-in k) (laws.v-in k) (eq-eqb (v_at hs (G.hOf k)) a x) (eq-eqb (v_at vs (G.vOf k)) b y),
+        major-le G (length vs) (tied_value hs a) (tied_value vs b) (length hs) (G.h_of k) (G.v_of k) (laws.h-in k) (laws.v-in k) (eq-eqb (v_at hs (G.h_of k)) a x) (eq-eqb (v_at vs (G.v_of k)) b y),
       )

@@ -1,6 +1,6 @@
 // One table of values: its first best cell, how many cells are as good, and its second-best cell by hits.
 ghost use Rattle.std.specs.Prelude.{◌≡◌, ◌≤◌, ◌<◌, length};
-ghost use Rattle.values.specs.Values.{hitsOf, weightOf, valueBest, valueAround, value_of, byHits};
+ghost use Rattle.values.specs.Values.{hits_of, weight_of, value_best, value_around, value_of, by_hits};
 ghost use Rattle.values.specs.ValuesLaws.{Top};
 
 use best::lex::LexMax;
@@ -19,14 +19,14 @@ pub struct ValueMax {
 
 // The hits of a value.
 pub fn hits_of(value: u64) -> u64
-    ensures { result ≡ hitsOf value }
+    ensures { result ≡ hits_of value }
 {
     value / HIT
 }
 
 // The weight of a value, in units.
 pub fn weight_of(value: u64) -> u64
-    ensures { result ≡ weightOf value }
+    ensures { result ≡ weight_of value }
 {
     value % HIT
 }
@@ -34,7 +34,7 @@ pub fn weight_of(value: u64) -> u64
 // The first cell of greatest value.
 fn value_best(values: &[u64]) -> usize
     requires { 1 < length values.now }
-    ensures { (result ≡ valueBest values.now) × (result < length values.now) }
+    ensures { (result ≡ value_best values.now) × (result < length values.now) }
 {
     let mut best: usize = 0;
     let mut top = values[0];
@@ -53,7 +53,7 @@ fn value_best(values: &[u64]) -> usize
 // What one table says around its best cell. Most cells have fewer hits than the second best so far, and no more is asked of them.
 fn value_around(values: &[u64], cell: usize) -> ValueMax
     requires { (1 < length values.now) × (cell < length values.now) × Top values.now cell }
-    ensures { result ≡ valueAround values.now cell }
+    ensures { result ≡ value_around values.now cell }
 {
     let top = values[cell];
     let most = hits_of(top);
@@ -104,8 +104,8 @@ pub fn value_max(values: &[u64]) -> ValueMax
 
 // What a table says by hits alone, as document 01's runner-up asks it. Its weight is not asked, and stands as 0.
 pub fn by_hits(a: ValueMax) -> LexMax
-    requires { (hitsOf a.top ≤ 8192) × (a.under ≤ 8192) }
-    ensures { result ≡ byHits a }
+    requires { (hits_of a.top ≤ 8192) × (a.under ≤ 8192) }
+    ensures { result ≡ by_hits a }
 {
     let count = hits_of(a.top) as u32;
     let under = a.under as u32;

@@ -8,7 +8,7 @@ use Rattle.refusals.specs.Numbers.{numbered}
 use Rattle.answer.specs.declared.Decoded.{Decoded}
 use Rattle.answer.specs.declared.Answer.{Answer}
 use Rattle.answer.specs.declared.Answer.TheVariants.{Found, Refused}
-use Rattle.verdict.specs.Verdict.{whenAccepted}
+use Rattle.verdict.specs.Verdict.{when_accepted}
 
 -- an answer is made in one of two ways, not in both, and a refusal can be told from it
 pub record Answers {Answer Told : Type 0} (refusing : Refusal → Answer) (finding : Told → Answer) : Type 0 where
@@ -38,6 +38,6 @@ module _ {Answer Told : Type 0} {refusing : Refusal → Answer} {finding : Told 
   numbers_apart m n d e = absurd (d (ap (λ (x : Refusal). x.number) (ways.once (numbered m) (numbered n) e)))
 
   -- what is found was accepted, and x is it
-  pub found-only : (a : Admission) (x : Answer) (told : Told) → finding told ≡ whenAccepted refusing a x → (a ≡ admission.Accepted) × (x ≡ finding told)
+  pub found-only : (a : Admission) (x : Answer) (told : Told) → finding told ≡ when_accepted refusing a x → (a ≡ admission.Accepted) × (x ≡ finding told)
   found-only admission.Accepted x told e = (refl, sym e)
   found-only (admission.Refused r) x told e = absurd (ways.apart told r e)

@@ -14,7 +14,7 @@ use Rattle.figures.specs.Gate.{passed}
 use Rattle.answer.specs.declared.Square.{Square}
 use Rattle.answer.specs.declared.Decoded.{Decoded}
 use Rattle.answer.specs.declared.Answer.TheVariants.{Found}
-use Rattle.verdict.specs.Verdict.{refusedBy, agreed, decodedOf, judged}
+use Rattle.verdict.specs.Verdict.{refused_by, agreed, decoded_of, judged}
 use Rattle.verdict.specs.Answers.{answers, never_both}
 
 -- "origin and matrix must agree": the transforms and the origins of two placings are the same
@@ -29,11 +29,11 @@ pub record Says (t : ℕ) (P : Placing) (hits edges : ℕ) (runner : RunnerUp) (
   pub row : square.row ≡ P.row
   pub col : square.col ≡ P.col
   pub hits-told : told-hits ≡ hits
-  pub edges-told : told-edges ≡ edges
-  pub runner-up-hits : runner-up-told ≡ runner.hits
-  pub runner-up-transform : runner-up.transform ≡ runner.transform
-  pub runner-up-row : runner-up.row ≡ runner.row
-  pub runner-up-col : runner-up.col ≡ runner.col
+  pub edges_told : told-edges ≡ edges
+  pub runner_up_hits : runner-up-told ≡ runner.hits
+  pub runner_up_transform : runner-up.transform ≡ runner.transform
+  pub runner_up_row : runner-up.row ≡ runner.row
+  pub runner_up_col : runner-up.col ≡ runner.col
 
 -- ---- the test of agreement
 abbrev pub test : ℕ → Placing → ℕ → Placing → Bool
@@ -71,14 +71,14 @@ module _ (t : ℕ) (w : Candidate) (runner : RunnerUp) (s : ℕ) (p : Candidate)
   -- WINNERS THAT AGREE AND PASS ARE FOUND
   pub judged-complete : Agree t w.placing s p.placing → passed edges w.hits runner.hits ≡ true → (d : Decoded) × (judged t w runner s p edges ≡ Found d)
   unfolding judged agreed
-  judged-complete a g = (decodedOf t w runner edges, both_hold (test t w.placing s p.placing) (passed edges w.hits runner.hits) _ _ _ (of_agree t w.placing s p.placing a) g)
+  judged-complete a g = (decoded_of t w runner edges, both_hold (test t w.placing s p.placing) (passed edges w.hits runner.hits) _ _ _ (of_agree t w.placing s p.placing a) g)
 
   -- 12 where they differ, 13 where they agree and do not pass
-  pub judged-12 : (Agree t w.placing s p.placing → ⊥) → judged t w runner s p edges ≡ refusedBy why.listsDisagree
+  pub judged-12 : (Agree t w.placing s p.placing → ⊥) → judged t w runner s p edges ≡ refused_by why.lists_disagree
   unfolding judged agreed
   judged-12 n = none-holds (test t w.placing s p.placing) _ _ (of-differ t w.placing s p.placing n)
 
-  pub judged-13 : Agree t w.placing s p.placing → passed edges w.hits runner.hits ≡ false → judged t w runner s p edges ≡ refusedBy why.notFarAhead
+  pub judged-13 : Agree t w.placing s p.placing → passed edges w.hits runner.hits ≡ false → judged t w runner s p edges ≡ refused_by why.not_far_ahead
   unfolding judged agreed
   judged-13 a g = first_holds (test t w.placing s p.placing) (passed edges w.hits runner.hits) _ _ _ (of_agree t w.placing s p.placing a) g
 
@@ -90,30 +90,30 @@ module _ (t : ℕ) (w : Candidate) (runner : RunnerUp) (s : ℕ) (p : Candidate)
     pub margin : d.margin_hits ≡ w.hits - runner.hits
 
   -- what is found is told as document 01 says
-  pub judged-is : (d : Decoded) → judged t w runner s p edges ≡ Found d → decodedOf t w runner edges ≡ d
+  pub judged-is : (d : Decoded) → judged t w runner s p edges ≡ Found d → decoded_of t w runner edges ≡ d
   unfolding judged
   judged-is d h = go (agreed t w s p) (passed edges w.hits runner.hits) h
     where
-      go : (a b : Bool) → cond a (cond b (Found (decodedOf t w runner edges)) (refusedBy why.notFarAhead)) (refusedBy why.listsDisagree) ≡ Found d → decodedOf t w runner edges ≡ d
+      go : (a b : Bool) → cond a (cond b (Found (decoded_of t w runner edges)) (refused_by why.not_far_ahead)) (refused_by why.lists_disagree) ≡ Found d → decoded_of t w runner edges ≡ d
       go true true k = cc
-      go true false k = absurd (never_both answers d (numbered why.notFarAhead) k)
-      go false b k = absurd (never_both answers d (numbered why.listsDisagree) k)
+      go true false k = absurd (never_both answers d (numbered why.not_far_ahead) k)
+      go false b k = absurd (never_both answers d (numbered why.lists_disagree) k)
 
-  by-gate : (d : Decoded) (b : Bool) → passed edges w.hits runner.hits ≡ b → Agree t w.placing s p.placing → cond b (Found (decodedOf t w runner edges)) (refusedBy why.notFarAhead) ≡ Found d → Judged d
-  unfolding decodedOf
+  by-gate : (d : Decoded) (b : Bool) → passed edges w.hits runner.hits ≡ b → Agree t w.placing s p.placing → cond b (Found (decoded_of t w runner edges)) (refused_by why.not_far_ahead) ≡ Found d → Judged d
+  unfolding decoded_of
   by-gate d true g a k =
-      let q : decodedOf t w runner edges ≡ d = cc in
+      let q : decoded_of t w runner edges ≡ d = cc in
       subst (λ (z : Decoded). Judged z) q (record {
         agree = a;
         ahead = g;
-        says = record { transform = refl; row = refl; col = refl; hits-told = refl; edges-told = refl; runner-up-hits = refl; runner-up-transform = refl; runner-up-row = refl; runner-up-col = refl };
+        says = record { transform = refl; row = refl; col = refl; hits-told = refl; edges_told = refl; runner_up_hits = refl; runner_up_transform = refl; runner_up_row = refl; runner_up_col = refl };
         margin = refl;
       })
-  by-gate d false g a k = absurd (never_both answers d (numbered why.notFarAhead) k)
+  by-gate d false g a k = absurd (never_both answers d (numbered why.not_far_ahead) k)
 
-  by-agreed : (d : Decoded) (b : Bool) → test t w.placing s p.placing ≡ b → cond b (cond (passed edges w.hits runner.hits) (Found (decodedOf t w runner edges)) (refusedBy why.notFarAhead)) (refusedBy why.listsDisagree) ≡ Found d → Judged d
+  by-agreed : (d : Decoded) (b : Bool) → test t w.placing s p.placing ≡ b → cond b (cond (passed edges w.hits runner.hits) (Found (decoded_of t w runner edges)) (refused_by why.not_far_ahead)) (refused_by why.lists_disagree) ≡ Found d → Judged d
   by-agreed d true e k = by-gate d (passed edges w.hits runner.hits) refl (agree_of t w.placing s p.placing e) k
-  by-agreed d false e k = absurd (never_both answers d (numbered why.listsDisagree) k)
+  by-agreed d false e k = absurd (never_both answers d (numbered why.lists_disagree) k)
 
   -- FOUND MEANS TRUE
   pub judged-sound : (d : Decoded) → judged t w runner s p edges ≡ Found d → Judged d

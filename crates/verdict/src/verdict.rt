@@ -1,6 +1,6 @@
 // The verdict on the winners, by value: whether they agree, the gate, and the found answer put together; or a refusal by its number.
 ghost use Rattle.std.specs.Prelude.{◌≡◌, ◌≤◌, ◌<◌};
-ghost use Rattle.verdict.specs.Verdict.{refusedBy, agreed, decodedOf, judged};
+ghost use Rattle.verdict.specs.Verdict.{refused_by, agreed, decoded_of, judged};
 
 use answer::{Answer, Decoded, Square};
 use refusals::{Place, Refusal};
@@ -8,7 +8,7 @@ use scan::scan::{Candidate, RunnerUp};
 
 // A refusal by its number.
 pub fn refuse(number: u32) -> Answer
-    ensures { result ≡ refusedBy number }
+    ensures { result ≡ refused_by number }
 {
     Answer::Refused(Refusal {
         number,
@@ -31,7 +31,7 @@ fn same_square(t: u8, a: Candidate, s: u8, b: Candidate) -> bool
 // What a found answer says of the winner w under transform t, with its runner-up.
 fn decoded(t: u8, w: Candidate, runner: RunnerUp, edges: u32) -> Decoded
     requires { (w.hits ≤ edges) × (runner.hits ≤ edges) × (edges ≤ 8192) }
-    ensures { result ≡ decodedOf t w runner edges }
+    ensures { result ≡ decoded_of t w runner edges }
 {
     let square = Square {
         transform: t,

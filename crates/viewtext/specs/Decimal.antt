@@ -14,10 +14,10 @@ float_of true n s = sub binary32 (from_bits binary32 0) (quotient n s)
 float_of false n s = quotient n s
 
 -- the digits n with the digit x behind them; 2^24 or more, which no number of the command has, where there are too many or x is no digit
-abbrev pub nextDigits : ℕ → ℕ → ℕ
-nextDigits n x = cond (nat_lt 1677721 n) 16777216 (cond (nat_lt 9 x) 16777216 (n * 10 + x))
+abbrev pub next_digits : ℕ → ℕ → ℕ
+next_digits n x = cond (nat_lt 1677721 n) 16777216 (cond (nat_lt 9 x) 16777216 (n * 10 + x))
 
 -- the power of ten after one digit more: ten times as large behind the point; 0, which no number has, where it would pass 10^7
-abbrev pub nextScale : Bool → ℕ → ℕ
-nextScale true s = cond (nat_lt 1000000 s) 0 (s * 10)
-nextScale false s = s
+abbrev pub next_scale : Bool → ℕ → ℕ
+next_scale true s = cond (nat_lt 1000000 s) 0 (s * 10)
+next_scale false s = s

@@ -1,7 +1,7 @@
 // A board: its two pattern tables, as its file gives them. The first line has the patterns of the horizontal edges, digits from 0 to 7, as many as the pole's length:
 // 167 on the flat board. The second line has those of the vertical edges, 167 on every board. Both stand in one array, the second from place 500.
 ghost use Rattle.std.specs.Prelude.{◌≡◌, ◌+◌, ◌<◌, ◌≤◌};
-ghost use Rattle.viewtext.specs.Board.{Kept, Patterns, Whole, isLength, start_of};
+ghost use Rattle.viewtext.specs.Board.{Kept, Patterns, Whole, is_length, start_of};
 
 use crate::text::{Word, byte_after, next_line, next_word, none, start};
 use ranges::pole_length;
@@ -46,7 +46,7 @@ pub fn unread() -> Board
 
 // Whether the second table, or the first, can have this length.
 fn is_length(n: usize, second: bool) -> bool
-    ensures { result ≡ isLength second n }
+    ensures { result ≡ is_length second n }
 {
     if second { n == 167 } else { pole_length(n) }
 }

@@ -1,7 +1,7 @@
 // Numbers as a person writes them. A number is its digits, read as a whole number, over a power of ten; both stay below 2^24, where every whole number is an f32,
 // so that one division gives the f32 nearest to what is written.
 ghost use Rattle.std.specs.Prelude.{◌≡◌};
-ghost use Rattle.viewtext.specs.Decimal.{float_of, nextDigits, nextScale};
+ghost use Rattle.viewtext.specs.Decimal.{float_of, next_digits, next_scale};
 
 use crate::text::{Word, byte_after};
 
@@ -37,7 +37,7 @@ fn spoilt(d: Decimal) -> Decimal {
 
 // The power of ten below the digits after one digit more; 0 where that would be too large.
 fn next_scale(point: bool, scale: u32) -> u32
-    ensures { result ≡ nextScale point scale }
+    ensures { result ≡ next_scale point scale }
 {
     if point {
         if scale > 1000000 {
@@ -50,7 +50,7 @@ fn next_scale(point: bool, scale: u32) -> u32
 
 // The digits with one more; 16,777,216 or more where there are too many, which no number of the command has.
 fn next_digits(digits: u32, x: u8) -> u32
-    ensures { result ≡ nextDigits digits x }
+    ensures { result ≡ next_digits digits x }
 {
     if digits > 1677721 {
         return 16777216;

@@ -7,16 +7,16 @@ use Rattle.board.specs.Hits.{EdgeList, Board, size, hit}
 use Rattle.refusals.specs.declared.Admission.{Admission}
 use Rattle.refusals.specs.declared.Admission.TheVariants as admission
 use Rattle.refusals.specs.declared.ListName.TheVariants as list
-use Rattle.refusals.specs.Numbers.{edgeRefusal}
+use Rattle.refusals.specs.Numbers.{edge_refusal}
 use Rattle.within_answer.specs.declared.WithinAnswer.{WithinAnswer}
 use Rattle.within_answer.specs.declared.WithinAnswer.TheVariants.{Judged, Refused}
-use Rattle.within_admission.specs.WithinAdmission.{faultAt, withinAdmission}
-use Rattle.stats.specs.Stats.{statsRate}
+use Rattle.within_admission.specs.WithinAdmission.{fault_at, within_admission}
+use Rattle.stats.specs.Stats.{stats_rate}
 use Rattle.within.specs.declared.Stop.{Stop}
 
 -- match statistics' rate of n edges with so many hits is at most the limit; it is 1 for no edges
 unfoldable pub allowed : ℕ → Float → ℕ → Bool
-allowed n limit hits = le (statsRate n hits) limit
+allowed n limit hits = le (stats_rate n hits) limit
 
 -- of n edges i were read, and so many of them are hits: the limit "holds with every one a miss", so that the hits stay as they are,
 -- or "is broken with every remaining edge a hit", so that n - i hits come to them
@@ -27,35 +27,35 @@ certain n limit i hits = allowed n limit hits || not (allowed n limit (hits + (n
 unfoldable pub concluded : EdgeList → Float → Stop → WithinAnswer
 concluded E limit s =
     cond (allowed (size E) limit s.hits) (Judged (record { within = true; read = s.read }))
-    (cond (allowed (size E) limit (s.hits + (size E - s.read))) (Refused (edgeRefusal (faultAt E s.read) list.Only s.read))
+    (cond (allowed (size E) limit (s.hits + (size E - s.read))) (Refused (edge_refusal (fault_at E s.read) list.Only s.read))
     (Judged (record { within = false; read = s.read })))
 
 -- how many of the first i edges are hits
-unfoldable pub hitsTo : EdgeList → ℕ → ℕ → ℕ → Board → ℕ → ℕ
-hitsTo E t row col B i = count i (hit B E t row col)
+unfoldable pub hits_to : EdgeList → ℕ → ℕ → ℕ → Board → ℕ → ℕ
+hits_to E t row col B i = count i (hit B E t row col)
 
 module _ (E : EdgeList) (t row col : ℕ) (B : Board) (limit : Float) where
   -- reading stops before edge i: the answer is certain after the i edges before it, or the edge is bad
-  unfoldable pub stopsAt : ℕ → Bool
-  stopsAt i = certain (size E) limit i (hitsTo E t row col B i) || not (eqb (faultAt E i) 0)
+  unfoldable pub stops_at : ℕ → Bool
+  stops_at i = certain (size E) limit i (hits_to E t row col B i) || not (eqb (fault_at E i) 0)
 
   -- THE NUMBER READ: the least for which the answer is certain or the next edge is bad. Where the list is read to its end, the answer is certain
-  unfoldable pub readTo : ℕ
-  readTo = first stopsAt (size E)
+  unfoldable pub read_to : ℕ
+  read_to = first stops_at (size E)
 
   -- where the list is left
-  unfoldable pub stopOf : Stop
-  stopOf = record { read = readTo; hits = hitsTo E t row col B readTo }
+  unfoldable pub stop_of : Stop
+  stop_of = record { read = read_to; hits = hits_to E t row col B read_to }
 
   -- what an accepted call comes to
-  unfoldable pub judgedOf : WithinAnswer
-  judgedOf = concluded E limit stopOf
+  unfoldable pub judged_of : WithinAnswer
+  judged_of = concluded E limit stop_of
 
 -- an accepted call is judged
-abbrev pub orJudged : Admission → WithinAnswer → WithinAnswer
-orJudged admission.Accepted a = a
-orJudged (admission.Refused r) a = Refused r
+abbrev pub or_judged : Admission → WithinAnswer → WithinAnswer
+or_judged admission.Accepted a = a
+or_judged (admission.Refused r) a = Refused r
 
 -- THE ANSWER, for all inputs
-unfoldable pub withinAnswer : EdgeList → ℕ → ℕ → ℕ → Board → Float → WithinAnswer
-withinAnswer E t row col B limit = orJudged (withinAdmission E t row col B limit) (judgedOf E t row col B limit)
+unfoldable pub within_answer : EdgeList → ℕ → ℕ → ℕ → Board → Float → WithinAnswer
+within_answer E t row col B limit = or_judged (within_admission E t row col B limit) (judged_of E t row col B limit)

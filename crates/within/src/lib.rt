@@ -1,11 +1,11 @@
 // Whether one known placing of a list is within the error limit, read edge by edge only until that is certain.
 ghost use Rattle.std.specs.Prelude.{◌≡◌, not, ◌||◌, ◌≤◌, ◌<◌, ◌+◌, eqb, length};
 ghost use Rattle.laws.specs.Words.{put};
-ghost use Rattle.board.specs.Transform.{matrixOf};
+ghost use Rattle.board.specs.Transform.{matrix_of};
 ghost use Rattle.board.specs.Hits.{edges, tables, size, hit};
 ghost use Rattle.board.specs.Domain.{BoardOk};
-ghost use Rattle.within_admission.specs.WithinAdmission.{faultAt, Columns, WithinAccepted};
-ghost use Rattle.within.specs.Within.{allowed, certain, concluded, stopOf, judgedOf, withinAnswer};
+ghost use Rattle.within_admission.specs.WithinAdmission.{fault_at, Columns, WithinAccepted};
+ghost use Rattle.within.specs.Within.{allowed, certain, concluded, stop_of, judged_of, within_answer};
 
 use answer::Square;
 use refusals::{Admission, ListName};
@@ -48,7 +48,7 @@ fn fault_at(
     i: usize,
 ) -> u32
     requires { Columns (edges rows.now cols.now orientations.now bits.now confidences.now) × (i < length rows.now) }
-    ensures { result ≡ faultAt (edges rows.now cols.now orientations.now bits.now confidences.now) i }
+    ensures { result ≡ fault_at (edges rows.now cols.now orientations.now bits.now confidences.now) i }
 {
     let edge = board::edge::edge_at(rows, cols, orientations, bits, i);
     within_admission::fault_of(edge, confidences[i])
@@ -68,7 +68,7 @@ fn stops(
     requires columns { Columns (edges rows.now cols.now orientations.now bits.now confidences.now) × (i < length rows.now) }
     requires hits_le_i { hits ≤ i }
     ensures { result ≡ (certain (length rows.now) error_limit i hits
-        || not (eqb (faultAt (edges rows.now cols.now orientations.now bits.now confidences.now) i) 0)) }
+        || not (eqb (fault_at (edges rows.now cols.now orientations.now bits.now confidences.now) i) 0)) }
 {
     let edges = rows.len() as u32;
     if is_certain(edges, i as u32, hits, error_limit) {
@@ -91,9 +91,9 @@ fn hit_here<'a>(
     v: &'a [u8],
 ) -> bool
     requires columns { Columns (edges rows.now cols.now orientations.now bits.now confidences.now) × (i < length rows.now) }
-    requires i_value { faultAt (edges rows.now cols.now orientations.now bits.now confidences.now) i ≡ 0 }
+    requires i_value { fault_at (edges rows.now cols.now orientations.now bits.now confidences.now) i ≡ 0 }
     requires board_ok { BoardOk (tables h.now v.now) }
-    requires transform_bound { (square.transform < 8) × (matrix ≡ matrixOf square.transform) }
+    requires transform_bound { (square.transform < 8) × (matrix ≡ matrix_of square.transform) }
     requires row_bound { (square.row ≤ 1500) × (square.col ≤ 1500) }
     ensures { result ≡ hit (tables h.now v.now)
         (edges rows.now cols.now orientations.now bits.now confidences.now)
@@ -129,7 +129,7 @@ fn walk<'a>(
     requires { WithinAccepted
         (edges rows.now cols.now orientations.now bits.now confidences.now)
         square.transform square.row square.col (tables h.now v.now) error_limit }
-    ensures { result ≡ stopOf
+    ensures { result ≡ stop_of
         (edges rows.now cols.now orientations.now bits.now confidences.now)
         square.transform square.row square.col (tables h.now v.now) error_limit }
 {
@@ -212,7 +212,7 @@ pub fn within_limit<'a>(
     v: &'a [u8],
     error_limit: f32,
 ) -> WithinAnswer
-    ensures { result ≡ withinAnswer
+    ensures { result ≡ within_answer
         (edges rows.now cols.now orientations.now bits.now confidences.now)
         transform row col (tables h.now v.now) error_limit }
 {

@@ -2,7 +2,7 @@
 ghost use Rattle.std.specs.Prelude.{◌≡◌};
 ghost use Rattle.board.specs.Hits.{edges, tables};
 ghost use Rattle.checks.specs.Checks.{far};
-ghost use Rattle.within_admission.specs.WithinAdmission.{faultOf, settingBad, withinAdmission};
+ghost use Rattle.within_admission.specs.WithinAdmission.{fault_of, setting_bad, within_admission};
 
 use admission::refusal::tables_bad;
 use board::edge::Edge;
@@ -27,7 +27,7 @@ fn is_far(x: i32) -> bool
 
 // The number of the first field of one edge that is out of range, 4, 16, 17 or 5 in this order; 0 where none is.
 pub fn fault_of(edge: Edge, confidence: f32) -> u32
-    ensures { result ≡ faultOf edge confidence }
+    ensures { result ≡ fault_of edge confidence }
 {
     if is_far(edge.row) {
         return refusals::BAD_COORDINATE;
@@ -49,7 +49,7 @@ pub fn fault_of(edge: Edge, confidence: f32) -> u32
 
 // Whether the origin is off a board with l horizontal patterns, or the error limit is no number from 0 to 1.
 fn setting_bad(l: usize, row: u32, col: u32, error_limit: f32) -> bool
-    ensures { result ≡ settingBad l row col error_limit }
+    ensures { result ≡ setting_bad l row col error_limit }
 {
     if origin_bad(l, row, col) {
         return true;
@@ -71,7 +71,7 @@ pub fn within_admission(
     v: &[u8],
     error_limit: f32,
 ) -> Admission
-    ensures { result ≡ withinAdmission
+    ensures { result ≡ within_admission
         (edges rows.now cols.now orientations.now bits.now confidences.now)
         transform row col (tables h.now v.now) error_limit }
 {

@@ -10,18 +10,18 @@ use Rattle.std.specs.Int.Signed.{lt_z}
 use Rattle.std.specs.Float.Ieee.{nan, le, lt, eq}
 use borrow.Author.Tests.{lt-ltb, le-ltb, eq-eqb, ne_eqb, not-false}
 use Rattle.laws.specs.Tests.{clash, or-false, compared}
-use Rattle.laws.specs.Words.{put, fold, one, count, zeroF, oneF}
+use Rattle.laws.specs.Words.{put, fold, one, count, zero_f, one_f}
 use Rattle.laws.specs.DoubleCounting.{fold-ext}
 use Rattle.answer.specs.declared.Square.{Square}
 use Rattle.board.specs.declared.edge.Edge.{Edge}
-use Rattle.board.specs.Transform.{lookupOf}
-use Rattle.board.specs.Hits.{EdgeList, Board, size, edge_at, patternBit, predicted, edgeHit, horizontal, hit, hits}
+use Rattle.board.specs.Transform.{lookup_of}
+use Rattle.board.specs.Hits.{EdgeList, Board, size, edge_at, pattern_bit, predicted, edge_hit, horizontal, hit, hits}
 use Rattle.board.specs.HitsLaws.{hit-edge}
 use Rattle.checks.specs.Checks.{far}
 use Rattle.ranges.specs.Ranges.{in_range}
-use Rattle.within_admission.specs.WithinAdmission.{faultOf, faultAt, Columns}
-use Rattle.within.specs.Within.{allowed, certain, hitsTo}
-use Rattle.within_equal.specs.Equal.{Agree, certainAfter}
+use Rattle.within_admission.specs.WithinAdmission.{fault_of, fault_at, Columns}
+use Rattle.within.specs.Within.{allowed, certain, hits_to}
+use Rattle.within_equal.specs.Equal.{Agree, certain_after}
 
 -- ---- a list by its places
 unfoldable pub placed : {A : Type 0} → (ℕ → A) → ℕ → List A
@@ -52,7 +52,7 @@ completed E i b =
       cols = placed (filled E.cols (pos 0) (pos 0) i) n;
       orientations = placed (filled E.orientations 0 0 i) n;
       bits = placed (filled E.bits 0 b i) n;
-      confidences = placed (filled E.confidences nan zeroF i) n;
+      confidences = placed (filled E.confidences nan zero_f i) n;
     }
 
 abbrev again : ℕ → Edge
@@ -98,7 +98,7 @@ module _ (E : EdgeList) (i b : ℕ) where
   completed-agrees h = record {
     size = completed-size;
     edge = λ k l. completed-edge k (omega arith) l;
-    confidence = λ k l. before_at E.confidences nan zeroF k (omega arith) l;
+    confidence = λ k l. before_at E.confidences nan zero_f k (omega arith) l;
   }
 
   completed-columns : size E ≤ 8192 → Columns F
@@ -112,16 +112,16 @@ module _ (E : EdgeList) (i b : ℕ) where
   }
 
 -- ---- the edge that comes again and again is good
-again-good : (b : ℕ) → b < 2 → faultOf (again b) zeroF ≡ 0
-unfolding faultOf far in_range le lt eq
+again-good : (b : ℕ) → b < 2 → fault_of (again b) zero_f ≡ 0
+unfolding fault_of far in_range le lt eq
 again-good b l = rw (le-ltb 1 b (omega arith)) refl
 
 -- its bit is one of two
-bit_below : (B : Board) (t row col : ℕ) → predicted B (lookupOf t (pos 0) (pos 0) 0) row col < 2
+bit_below : (B : Board) (t row col : ℕ) → predicted B (lookup_of t (pos 0) (pos 0) 0) row col < 2
 unfolding predicted
 bit_below B t row col =
-    let l = lookupOf t (pos 0) (pos 0) 0 in
-    go (horizontal l) (patternBit B.h (l.row +ℤ pos row) (l.col +ℤ pos col)) (patternBit B.v (l.col +ℤ pos col) (l.row +ℤ pos row)) (two _) (two _)
+    let l = lookup_of t (pos 0) (pos 0) 0 in
+    go (horizontal l) (pattern_bit B.h (l.row +ℤ pos row) (l.col +ℤ pos col)) (pattern_bit B.v (l.col +ℤ pos col) (l.row +ℤ pos row)) (two _) (two _)
   where
     two : (x : ℕ) → x % 2 < 2
     two x = omega arith
@@ -156,47 +156,47 @@ pub record Completion (E : EdgeList) (t row col : ℕ) (B : Board) (limit : Floa
   pub list : EdgeList
   pub agrees : Agree i E list
   pub columns : Columns list
-  pub good : (k : ℕ) → k < size list → faultAt list k ≡ 0
+  pub good : (k : ℕ) → k < size list → fault_at list k ≡ 0
   pub answer : allowed (size list) limit (hits B list t row col) ≡ w
 
-module _ (E : EdgeList) (t row col : ℕ) (B : Board) (limit : Float) (few : size E ≤ 8192) (i : ℕ) (inside : i ≤ size E) (good : (k : ℕ) → k < i → faultAt E k ≡ 0) where
+module _ (E : EdgeList) (t row col : ℕ) (B : Board) (limit : Float) (few : size E ≤ 8192) (i : ℕ) (inside : i ≤ size E) (good : (k : ℕ) → k < i → fault_at E k ≡ 0) where
   -- every edge of a completed list is good
-  completed-good : (b : ℕ) → b < 2 → (k : ℕ) → k < size (completed E i b) → faultAt (completed E i b) k ≡ 0
+  completed-good : (b : ℕ) → b < 2 → (k : ℕ) → k < size (completed E i b) → fault_at (completed E i b) k ≡ 0
   unfolding completed
   completed-good b h k l =
       let m : k < size E = omega (arith, completed-size E i b) in
       ⊎_elim
-      (λ q. ap₂ faultOf (completed-edge E i b k m q) (before_at E i b E.confidences nan zeroF k m q) ∙ good k q)
-      (λ q. ap₂ faultOf (completed-again E i b k m q) (after-at E i b E.confidences nan zeroF k m q) ∙ again-good b h)
+      (λ q. ap₂ fault_of (completed-edge E i b k m q) (before_at E i b E.confidences nan zero_f k m q) ∙ good k q)
+      (λ q. ap₂ fault_of (completed-again E i b k m q) (after-at E i b E.confidences nan zero_f k m q) ∙ again-good b h)
       (compared k i)
 
   abbrev square : Square
   square = record { transform = t; row = row; col = col }
 
   abbrev wanted : ℕ
-  wanted = predicted B (lookupOf t (pos 0) (pos 0) 0) row col
+  wanted = predicted B (lookup_of t (pos 0) (pos 0) 0) row col
 
   -- the hits of its first i edges are the list's
-  completed-before : (b : ℕ) → count i (hit B (completed E i b) t row col) ≡ hitsTo E t row col B i
-  unfolding hitsTo
+  completed-before : (b : ℕ) → count i (hit B (completed E i b) t row col) ≡ hits_to E t row col B i
+  unfolding hits_to
   completed-before b =
       fold-ext ◌+◌ 0 i (hit B (completed E i b) t row col) (hit B E t row col) one one
-      (λ k l. sym (hit-edge B (completed E i b) t row col k) ∙ ap (λ (e : Edge). edgeHit B e square) (completed-edge E i b k (omega arith) l) ∙ hit-edge B E t row col k)
+      (λ k l. sym (hit-edge B (completed E i b) t row col k) ∙ ap (λ (e : Edge). edge_hit B e square) (completed-edge E i b k (omega arith) l) ∙ hit-edge B E t row col k)
       (λ k l. refl)
 
   -- and each other edge is a hit where its bit is the predicted one
   completed-after : (b : ℕ) (w : Bool) → eqb wanted b ≡ w → (k : ℕ) → i ≤ k → k < size E → hit B (completed E i b) t row col k ≡ w
-  unfolding edgeHit
-  completed-after b w e k m l = sym (hit-edge B (completed E i b) t row col k) ∙ ap (λ (x : Edge). edgeHit B x square) (completed-again E i b k l m) ∙ e
+  unfolding edge_hit
+  completed-after b w e k m l = sym (hit-edge B (completed E i b) t row col k) ∙ ap (λ (x : Edge). edge_hit B x square) (completed-again E i b k l m) ∙ e
 
   completion : (b : ℕ) → b < 2 → (w : Bool) → allowed (size (completed E i b)) limit (hits B (completed E i b) t row col) ≡ w → Completion E t row col B limit i w
   completion b h w e = record { list = completed E i b; agrees = completed-agrees E i b inside; columns = completed-columns E i b few; good = completed-good b h; answer = e }
 
   -- AS LONG AS IT IS NOT CERTAIN, BOTH ANSWERS ARE POSSIBLE: the edges that were not read can be such that it is yes, and such that it is no
-  pub both-possible : certainAfter E t row col B limit i ≡ false → Completion E t row col B limit i true × Completion E t row col B limit i false
+  pub both-possible : certain_after E t row col B limit i ≡ false → Completion E t row col B limit i true × Completion E t row col B limit i false
   unfolding certain hits
   both-possible e =
-      let o = or-false (allowed (size E) limit (hitsTo E t row col B i)) _ e in
+      let o = or-false (allowed (size E) limit (hits_to E t row col B i)) _ e in
       let s : (b : ℕ) → size (completed E i b) ≡ size E = completed-size E i in
       let y : allowed (size (completed E i wanted)) limit (hits B (completed E i wanted) t row col) ≡ true =
       ap₂ (λ (n h : ℕ). allowed n limit h) (s wanted)

@@ -6,15 +6,15 @@ use Rattle.std.specs.Float.{nan, inf, fin}
 use Rattle.std.specs.Float.Ieee.{up, down, lt, le, eq, below, level}
 use Rattle.std.proofs.lemmas.Bool.{eqb-false, not-true, not-false}
 use Rattle.laws.specs.Tests.{clash, and-true, compared, cases}
-use Rattle.laws.specs.Words.{put, fold, one, count, zeroF, oneF, Finite}
+use Rattle.laws.specs.Words.{put, fold, one, count, zero_f, one_f, Finite}
 use Rattle.laws.specs.WithinLaws.{within-finite}
 use Rattle.laws.specs.Fold.{sum_mono}
-use Rattle.figures.specs.Figures.{rateOf}
+use Rattle.figures.specs.Figures.{rate_of}
 use Rattle.figures.specs.RangeLaws.{rate-within}
-use Rattle.scan.specs.Scan.{overLimit}
+use Rattle.scan.specs.Scan.{over_limit}
 use Rattle.hard.specs.RateLaws.{more_within, never-over-one}
 use Rattle.ranges.specs.Ranges.{in_range}
-use Rattle.stats.specs.Stats.{statsRate}
+use Rattle.stats.specs.Stats.{stats_rate}
 use Rattle.within.specs.Within.{allowed}
 
 -- ---- of two numbers with signs: not above means at most
@@ -50,7 +50,7 @@ at_most true a true b = ⊎_elim
     (compared b a)
 
 -- a finite number and a limit
-not-above : (x limit : Float) → Finite x → in_range oneF limit ≡ true → le x limit ≡ not (lt limit x)
+not-above : (x limit : Float) → Finite x → in_range one_f limit ≡ true → le x limit ≡ not (lt limit x)
 unfolding le lt eq in_range
 not-above nan limit f h = absurd f
 not-above (inf s) limit f h = absurd f
@@ -60,22 +60,22 @@ not-above (fin s m e) (inf false) f h = refl
 not-above (fin s m e) (fin t n d) f h = at_most s (m * up e * down d) t (n * up d * down e)
 
 -- the rate of some edges is hard selection's, and none is 1
-rate-some : (n hits : ℕ) → 0 < n → statsRate n hits ≡ rateOf n hits
-unfolding statsRate
+rate-some : (n hits : ℕ) → 0 < n → stats_rate n hits ≡ rate_of n hits
+unfolding stats_rate
 rate-some n hits p = rw (ne_eqb n 0 (λ e. omega arith)) refl
 
-pub rate-none : (n hits : ℕ) → n ≡ 0 → statsRate n hits ≡ oneF
-unfolding statsRate
+pub rate-none : (n hits : ℕ) → n ≡ 0 → stats_rate n hits ≡ one_f
+unfolding stats_rate
 rate-none n hits e = rw (eq-eqb n 0 e) refl
 
 -- within the limit is not over it
-allowed-some : (n : ℕ) (limit : Float) (hits : ℕ) → 0 < n → n ≤ 8192 → in_range oneF limit ≡ true → allowed n limit hits ≡ not (overLimit n limit hits)
-unfolding allowed overLimit
+allowed-some : (n : ℕ) (limit : Float) (hits : ℕ) → 0 < n → n ≤ 8192 → in_range one_f limit ≡ true → allowed n limit hits ≡ not (over_limit n limit hits)
+unfolding allowed over_limit
 allowed-some n limit hits p few h =
-    ap (λ (x : Float). le x limit) (rate-some n hits p) ∙ not-above (rateOf n hits) limit (within-finite (rateOf n hits) 1 (rate-within n hits p few)) h
+    ap (λ (x : Float). le x limit) (rate-some n hits p) ∙ not-above (rate_of n hits) limit (within-finite (rate_of n hits) 1 (rate-within n hits p few)) h
 
 -- THE RATE NEVER FALLS WHEN THE MISSES GROW: where so many hits are within the limit, more hits are
-pub more-allowed : (n : ℕ) (limit : Float) (few more : ℕ) → n ≤ 8192 → in_range oneF limit ≡ true → few ≤ more → more ≤ n → allowed n limit few ≡ true → allowed n limit more ≡ true
+pub more-allowed : (n : ℕ) (limit : Float) (few more : ℕ) → n ≤ 8192 → in_range one_f limit ≡ true → few ≤ more → more ≤ n → allowed n limit few ≡ true → allowed n limit more ≡ true
 more-allowed n limit few more small h l m e = go (eq-zero-or-pos n)
   where
     go : (n ≡ 0) ⊎ (0 < n) → allowed n limit more ≡ true
@@ -85,24 +85,24 @@ more-allowed n limit few more small h l m e = go (eq-zero-or-pos n)
         allowed-some n limit more p small h ∙ ap not o
 
 -- and where so many are not, fewer are not
-pub fewer-not : (n : ℕ) (limit : Float) (few more : ℕ) → n ≤ 8192 → in_range oneF limit ≡ true → few ≤ more → more ≤ n → allowed n limit more ≡ false → allowed n limit few ≡ false
+pub fewer-not : (n : ℕ) (limit : Float) (few more : ℕ) → n ≤ 8192 → in_range one_f limit ≡ true → few ≤ more → more ≤ n → allowed n limit more ≡ false → allowed n limit few ≡ false
 fewer-not n limit few more small h l m e = ⊎_elim (λ t. clash (more-allowed n limit few more small h l m t) e) (λ t. t) (cases (allowed n limit few))
 
-one-in-range : in_range oneF oneF ≡ true
+one-in-range : in_range one_f one_f ≡ true
 unfolding in_range le
 one-in-range = refl
 
-none_allowed : (n hits : ℕ) → n ≡ 0 → allowed n oneF hits ≡ true
+none_allowed : (n hits : ℕ) → n ≡ 0 → allowed n one_f hits ≡ true
 unfolding allowed le
-none_allowed n hits z = ap (λ (x : Float). le x oneF) (rate-none n hits z)
+none_allowed n hits z = ap (λ (x : Float). le x one_f) (rate-none n hits z)
 
 -- with the limit 1 every number of hits is within it, also of no edges
-pub one-allows : (n hits : ℕ) → n ≤ 8192 → allowed n oneF hits ≡ true
+pub one-allows : (n hits : ℕ) → n ≤ 8192 → allowed n one_f hits ≡ true
 one-allows n hits small = go (eq-zero-or-pos n)
   where
-    go : (n ≡ 0) ⊎ (0 < n) → allowed n oneF hits ≡ true
+    go : (n ≡ 0) ⊎ (0 < n) → allowed n one_f hits ≡ true
     go (inl z) = none_allowed n hits z
-    go (inr p) = allowed-some n oneF hits p small one-in-range ∙ ap not (never-over-one n hits p small)
+    go (inr p) = allowed-some n one_f hits p small one-in-range ∙ ap not (never-over-one n hits p small)
 
 -- ---- the hits of a list, after i of its n edges
 pub hits-least : (p : ℕ → Bool) (i n : ℕ) → i ≤ n → count i p ≤ count n p

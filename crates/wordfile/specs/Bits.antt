@@ -6,11 +6,11 @@ use Rattle.std.specs.Float.Ieee.{nan_bits, of_bits}
 use Rattle.std.specs.Float.Ieee.Bits.{nan_bits_above}
 
 -- without its sign a pattern is at most infinity's
-unfoldable pub realBits : ℕ → Bool
-realBits x = leb (x % 2147483648) 2139095040
+unfoldable pub real_bits : ℕ → Bool
+real_bits x = leb (x % 2147483648) 2139095040
 
-pub real-bits : (x : ℕ) → realBits x ≡ true → T (not (nan_bits binary32 x))
-unfolding realBits
+pub real-bits : (x : ℕ) → real_bits x ≡ true → T (not (nan_bits binary32 x))
+unfolding real_bits
 real-bits x e = rw (nan_bits_above binary32 x, le-ltb 2139095040 (x % 2147483648) (leb-true (x % 2147483648) 2139095040 e)) tt
 
 -- by two's complement: below 2^31 the number itself, else that number less 2^32
@@ -19,13 +19,13 @@ signed_of x = cond (ltb x 2147483648) (pos x) (negsuc (4294967295 - x))
 
 -- the float of these bits; one NaN for all of a NaN's
 unfoldable pub float_of : ℕ → Float
-float_of x = cond (realBits x) (of_bits binary32 x) nan
+float_of x = cond (real_bits x) (of_bits binary32 x) nan
 
-pub float-real : (x : ℕ) → realBits x ≡ true → of_bits binary32 x ≡ float_of x
+pub float-real : (x : ℕ) → real_bits x ≡ true → of_bits binary32 x ≡ float_of x
 unfolding float_of
 float-real x e = rw e
 
-pub float-nan : (x : ℕ) → realBits x ≡ false → nan ≡ float_of x
+pub float-nan : (x : ℕ) → real_bits x ≡ false → nan ≡ float_of x
 unfolding float_of
 float-nan x e = rw e
 

@@ -1,6 +1,6 @@
 // A file as words of four bytes, the lowest first, read through a buffer of 65,536 bytes; and what a word stands for.
 ghost use Rattle.std.specs.Prelude.{◌≡◌, true, ◌%◌};
-ghost use Rattle.wordfile.specs.Bits.{realBits, signed_of, float_of};
+ghost use Rattle.wordfile.specs.Bits.{real_bits, signed_of, float_of};
 
 // Where the next word stands in the buffer, how far the buffer is filled, and the file.
 #[derive(Drop)]
@@ -77,7 +77,7 @@ pub fn signed(x: u32) -> i32
 
 // A float's bits that are no NaN's.
 fn float_of(x: u32) -> f32
-    requires { realBits x ≡ true }
+    requires { real_bits x ≡ true }
     ensures { result ≡ float_of x }
 {
     f32::from_bits(x)
@@ -85,7 +85,7 @@ fn float_of(x: u32) -> f32
 
 // Whether a float's bits are no NaN's.
 fn real(x: u32) -> bool
-    ensures { result ≡ realBits x }
+    ensures { result ≡ real_bits x }
 {
     x % 2147483648 <= 2139095040
 }

@@ -1,10 +1,10 @@
 -- `found_bad`: each way out is a law, under the tests that were left behind.
-use Rattle.answer_checks.specs.FoundBadLaws.{no_edges, many-edges, many-hits, by-runner-up}
+use Rattle.answer_checks.specs.FoundBadLaws.{no_edges_lem, many-edges, many-hits, by-runner-up}
 use Rattle.answer_checks.proofs.found_bad.Statement.{statement}
 use Rattle.answer_checks.proofs.found_bad.Tie as tie
 
 returns : tie.Need-returns
-returns c = no_edges _ c.if1.true
+returns c = no_edges_lem _ c.if1.true
 
 returns-2 : tie.Need-returns-2
 returns-2 c = many-edges _ c.before.if1.false c.if2.true

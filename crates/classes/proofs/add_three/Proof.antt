@@ -8,7 +8,7 @@ use lib.IntN.{ℤ, pos, ◌+ℤ◌}
 use mir.Facts.{to_z-of_z}
 use Rattle.laws.specs.Words.{emod}
 use Rattle.laws.specs.Modulus.{modulus-n, modulus-ok}
-use Rattle.board.specs.Hits.{bit_at, patternBit}
+use Rattle.board.specs.Hits.{bit_at, pattern_bit}
 use Rattle.classes.specs.ClassesLaws.{moved, unmoved}
 use borrow.Author.Rules.{rules}
 use Rattle.classes.proofs.add_three.Statement.{statement}
@@ -102,7 +102,7 @@ module _ (c : tie.After-residue2) where
   first : c.residue2.result ≡ emod st.args.y c.before.modulus-of.result.n
   first = c.residue2.ensures.0 ∙ ap (λ (z : ℤ). emod z c.before.modulus-of.result.n) (to_z-of_z st.fits.y)
 
-  bit_is : (k r : ℕ) → r ≡ emod (st.args.y +ℤ pos k) 3 → bit_at (get_or (ps st) w.wrapped.result 0) r ≡ patternBit (ps st) (st.args.x +ℤ pos st.args.long) (st.args.y +ℤ pos k)
+  bit_is : (k r : ℕ) → r ≡ emod (st.args.y +ℤ pos k) 3 → bit_at (get_or (ps st) w.wrapped.result 0) r ≡ pattern_bit (ps st) (st.args.x +ℤ pos st.args.long) (st.args.y +ℤ pos k)
   bit_is k r e = ap₂ (λ (i j : ℕ). bit_at (get_or (ps st) i 0) j) place e
 
   next : (k r : ℕ) → r ≡ (c.residue2.result + k) % 3 → r ≡ emod (st.args.y +ℤ pos k) 3

@@ -1,4 +1,4 @@
-use Rattle.laws.specs.Modulus.{modulusOf}
+use Rattle.laws.specs.Modulus.{modulus_of}
 use mathlib.Core.Path.{◌≡◌, sym, ap, subst, ◌∙◌}
 use mathlib.Core.Bool.{Bool}
 use Prim.Native.Nat.{ℕ, ◌≤◌, ◌<◌}
@@ -6,7 +6,7 @@ use lib.IntN.{nat_abs}
 use mir.Syntax.{w32}
 use mir.Val.{to_z, of_z}
 use Rattle.board.specs.Hits.{Board, tables}
-use Rattle.board.specs.Sides.{periodOf}
+use Rattle.board.specs.Sides.{period_of}
 use Rattle.board.specs.declared.edge.EdgeLookup.{EdgeLookup}
 use Rattle.board.specs.TransformLaws.{lookup-near}
 use Rattle.classes.specs.ClassesLaws.{not_on, on-horizontal, on-vertical}
@@ -49,7 +49,7 @@ add-three-requires : tie.Need-add-three-requires
 add-three-requires c κs =
     let k = c.before.before.before in
     let p = (st k).requires in
-    ((p.0.0.h, p.0.1 ∙ ap (λ (s : Bool). modulusOf (periodOf (B k) s)) c.if2.true, ap-long (periodOf (B k)) _ _ c.if2.true p.1.0.3), ((rw (row_back k) (near k).0, rw (col-back k) (near k).1), p.1.1))
+    ((p.0.0.h, p.0.1 ∙ ap (λ (s : Bool). modulus_of (period_of (B k) s)) c.if2.true, ap-long (period_of (B k)) _ _ c.if2.true p.1.0.3), ((rw (row_back k) (near k).0, rw (col-back k) (near k).1), p.1.1))
 
 returns : tie.Need-returns
 returns c =
@@ -61,7 +61,7 @@ add-three-requires-2 : tie.Need-add-three-requires-2
 add-three-requires-2 c κs =
     let k = c.before.before.before in
     let p = (st k).requires in
-    ((p.0.0.v, p.0.1 ∙ ap (λ (s : Bool). modulusOf (periodOf (B k) s)) c.if2.false, ap-long (periodOf (B k)) _ _ c.if2.false p.1.0.3), ((rw (col-back k) (near k).1, rw (row_back k) (near k).0), p.1.1))
+    ((p.0.0.v, p.0.1 ∙ ap (λ (s : Bool). modulus_of (period_of (B k) s)) c.if2.false, ap-long (period_of (B k)) _ _ c.if2.false p.1.0.3), ((rw (col-back k) (near k).1, rw (row_back k) (near k).0), p.1.1))
 
 returns-2 : tie.Need-returns-2
 returns-2 c =

@@ -5,7 +5,7 @@ use native.Mathlib.Omega.{arith}
 use lib.ListN.{length}
 use Rattle.board.specs.Hits.{EdgeList, Board, edges, tables}
 use Rattle.board.specs.DomainLaws.{edge-ok}
-use Rattle.laws.specs.Modulus.{modulusOf}
+use Rattle.laws.specs.Modulus.{modulus_of}
 use Rattle.classes.specs.PackedLaws.{table-ok, Eight, eight-none, eight-more, eight-low, eight-all}
 use Rattle.classes.proofs.eight_hits.Statement.{statement}
 use Rattle.classes.proofs.eight_hits.Tie as tie
@@ -68,7 +68,7 @@ count-edge-requires c κs =
     let p = (st l).requires in
     let n = l.loop-test.true in
     let d = l.before.before in (
-      (p.0.board, d.modulus-of.ensures ∙ ap modulusOf d.before.period-of.ensures),
+      (p.0.board, d.modulus-of.ensures ∙ ap modulus_of d.before.period-of.ensures),
       (
         (edge-ok (E l) _ p.0.list p.0.transform (at l) n _ c.edge_at.ensures, d.before.before.before.matrix-of.ensures, d.before.before.is-straight.ensures, p.1),
         eight-low (B l) (E l) (st l).args.t (st l).args.horizontal (st l).args.long (at l) l.before.loop.sums l.before.loop.invariant.1 (omega (arith, n, p.0.list.few)),

@@ -7,7 +7,7 @@ use lib.ListN.{get_or}
 use lib.IntN.{ℤ, pos}
 use mir.Syntax.{w32}
 use mir.Val.{of_z}
-use Rattle.laws.specs.Words.{eqZ}
+use Rattle.laws.specs.Words.{eq_z}
 use Rattle.laws.specs.Signed.{fits-abs, said-eq}
 use Rattle.board.specs.Transform.{mat}
 use Rattle.board.specs.TransformLaws.{mat-unit}
@@ -23,7 +23,7 @@ index-2-turn : tie.Need-bounds-2-turn
 index-2-turn c = search rules
 
 -- the entry that is read, tested for 0
-turns : (c : tie.After-turn) → eqb (of_z w32 (get_or (get_or c.before.args.t2 1 []) 0 (pos 0))) 0 ≡ eqZ (mat c.before.args.t 1 0) (pos 0)
+turns : (c : tie.After-turn) → eqb (of_z w32 (get_or (get_or c.before.args.t2 1 []) 0 (pos 0))) 0 ≡ eq_z (mat c.before.args.t 1 0) (pos 0)
 unfolding mat
 turns c =
     let s = c.before in

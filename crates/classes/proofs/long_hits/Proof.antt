@@ -5,10 +5,10 @@ use Prim.Native.Nat.{ℕ, ◌<◌, ◌≤◌, ◌-◌}
 use native.Mathlib.Omega.{arith}
 use lib.ListN.{length}
 use Rattle.board.specs.Hits.{EdgeList, Board, edges, tables}
-use Rattle.board.specs.Sides.{periodOf}
+use Rattle.board.specs.Sides.{period_of}
 use Rattle.board.specs.Domain.{BoardOk}
 use Rattle.board.specs.DomainLaws.{edge-ok}
-use Rattle.laws.specs.Modulus.{modulusOf}
+use Rattle.laws.specs.Modulus.{modulus_of}
 use Rattle.classes.specs.declared.Three.{Three}
 use Rattle.classes.specs.ClassesLaws.{so_far, so-far-none, so_far_more, so-far-few, so-far-all}
 use Rattle.classes.proofs.long_hits.Statement.{statement}
@@ -28,7 +28,7 @@ is-straight-requires : tie.Need-is-straight-requires invariant-loop decreases-lo
 is-straight-requires c κs = c.matrix-of.ensures
 
 -- a table has from 4 to 500 patterns
-sized : (B : Board) → BoardOk B → (s : Bool) → (3 < periodOf B s) × (periodOf B s ≤ 500)
+sized : (B : Board) → BoardOk B → (s : Bool) → (3 < period_of B s) × (period_of B s ≤ 500)
 sized B ok true = (ok.h.some, ok.h.few)
 sized B ok false = (ok.v.some, ok.v.few)
 
@@ -79,7 +79,7 @@ count-edge-requires c κs =
     let n = l.loop-test.true in
     let d = l.before.before in
     let m = p.0.list.few in (
-      (p.0.board, d.modulus-of.ensures ∙ ap modulusOf d.before.period-of.ensures),
+      (p.0.board, d.modulus-of.ensures ∙ ap modulus_of d.before.period-of.ensures),
       (
         (edge-ok (E l) _ p.0.list p.0.transform (at l) n _ c.edge_at.ensures, d.before.before.before.matrix-of.ensures, d.before.before.is-straight.ensures, p.1),
         (omega (arith, ap (λ (s : Three). s.a) i, f.0, n, m), omega (arith, ap (λ (s : Three). s.b) i, f.1, n, m), omega (arith, ap (λ (s : Three). s.c) i, f.2, n, m)),

@@ -1,13 +1,13 @@
 use Prim.Native.Nat.{◌-◌}
 use native.Mathlib.Omega.{arith}
 use lib.Ieee.{of_bits}
-use Rattle.laws.specs.Words.{zeroF}
+use Rattle.laws.specs.Words.{zero_f}
 use Rattle.laws.specs.Cleared.{Clearing, clearing-none, clearing-more, clearing-done}
 use Rattle.clearing.proofs.clear_f32.Statement.{statement}
 use Rattle.clearing.proofs.clear_f32.Tie as tie
 
 abbrev invariant-loop : tie.invariant-loop
-invariant-loop room₀ n i₀ room i = Clearing zeroF n room₀ room i
+invariant-loop room₀ n i₀ room i = Clearing zero_f n room₀ room i
 
 abbrev decreases-loop : tie.decreases-loop
 decreases-loop room₀ n i₀ room i = n - i

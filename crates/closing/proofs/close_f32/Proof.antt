@@ -3,13 +3,13 @@ use mathlib.Core.Path.{refl, ◌∙◌}
 use Prim.Native.Nat.{◌-◌}
 use native.Mathlib.Omega.{arith}
 use lib.Ieee.{nan, of_bits, binary32}
-use Rattle.laws.specs.Words.{zeroF}
+use Rattle.laws.specs.Words.{zero_f}
 use Rattle.closing.specs.ClosedLaws.{Closing, closing-none, closing-more, closing-done}
 use Rattle.closing.proofs.close_f32.Statement.{statement}
 use Rattle.closing.proofs.close_f32.Tie as tie
 
 abbrev invariant-loop : tie.invariant-loop
-invariant-loop xs₀ at n before k₀ xs k = Closing nan zeroF at n xs₀ xs k
+invariant-loop xs₀ at n before k₀ xs k = Closing nan zero_f at n xs₀ xs k
 
 abbrev decreases-loop : tie.decreases-loop
 decreases-loop xs₀ at n before k₀ xs k = before - k

@@ -4,7 +4,7 @@ use native.Mathlib.Omega.{arith}
 use lib.ListN.{length}
 use Rattle.room.specs.RoomLaws.{board-periods}
 use Rattle.board.specs.Hits.{edges, tables}
-use Rattle.admission.specs.Calls.{HardCall, hardCall}
+use Rattle.admission.specs.Calls.{HardCall, hard_call}
 use Rattle.decode_exact.specs.ExactAnswerLaws.{core-accepted}
 use Rattle.part_admission.specs.PartAdmission.{PartAccepted}
 use Rattle.part_admission.specs.PartAdmissionLaws.{part-accepted}
@@ -21,8 +21,8 @@ start c = c.before.before.before.before.before.before.before.before.before.befor
 abbrev call : tie.Start → HardCall
 call s =
     let a = s.args in
-    hardCall (edges a.lrows.now a.lcols.now a.lorientations.now a.lbits.now a.lconfidences.now)
-    (edges a.prows.now a.pcols.now a.porientations.now a.pbits.now a.pconfidences.now) a.transforms.now (tables a.h.now a.v.now) a.error-limit
+    hard_call (edges a.lrows.now a.lcols.now a.lorientations.now a.lbits.now a.lconfidences.now)
+    (edges a.prows.now a.pcols.now a.porientations.now a.pbits.now a.pconfidences.now) a.transforms.now (tables a.h.now a.v.now) a.error_limit
 
 -- the call was accepted
 abbrev admitted : tie.After-enum-told → tie.After-part-admission

@@ -5,7 +5,7 @@ use lib.ListN.{length}
 use Rattle.room.specs.RoomLaws.{board-periods}
 use Rattle.board.specs.Hits.{edges, tables}
 use Rattle.likelihood.specs.Likelihood.{likelihoods}
-use Rattle.admission.specs.Calls.{SoftCall, softCall}
+use Rattle.admission.specs.Calls.{SoftCall, soft_call}
 use Rattle.admission.specs.Accepted.{SoftAccepted, soft-accepted}
 use Rattle.hard.specs.Ready.{cleared-used}
 use Rattle.decode_soft.specs.SoftAnswerLaws.{soft-refused, soft-done}
@@ -20,9 +20,9 @@ start c = c.before.before.before.before.before.before.before.before.before.befor
 abbrev call : tie.Start → SoftCall
 call s =
     let a = s.args in
-    softCall (edges a.lrows.now a.lcols.now a.lorientations.now a.lbits.now a.lconfidences.now)
+    soft_call (edges a.lrows.now a.lcols.now a.lorientations.now a.lbits.now a.lconfidences.now)
     (edges a.prows.now a.pcols.now a.porientations.now a.pbits.now a.pconfidences.now) (likelihoods a.matches.now a.mismatches.now) a.transforms.now
-    (tables a.h.now a.v.now) a.error-limit a.soft-margin
+    (tables a.h.now a.v.now) a.error_limit a.soft-margin
 
 -- the call was accepted
 abbrev admitted : tie.After-enum-told → tie.After-soft-admission

@@ -1,7 +1,7 @@
 use mathlib.Core.Path.{◌≡◌, ap, ◌∙◌}
 use Prim.Native.Nat.{ℕ, ◌+◌}
 use borrow.Author.Rules.{rules}
-use Rattle.values.specs.Values.{weightOf}
+use Rattle.values.specs.Values.{weight_of}
 use Rattle.exact.specs.SelectLaws.{value-weight}
 use Rattle.exact_weight.proofs.add_units.Statement.{statement}
 use Rattle.exact_weight.proofs.add_units.Tie as tie
@@ -20,7 +20,7 @@ returns : tie.Need-returns
 returns c =
     let v = c.before in
     let s = v.before.before in
-    rw v.before.if1.true (ap (λ (x : ℕ). s.args.sum + x) (c.weight-of.ensures ∙ ap weightOf v.value_of.ensures ∙ value-weight s.args.confidence s.requires.1))
+    rw v.before.if1.true (ap (λ (x : ℕ). s.args.sum + x) (c.weight-of.ensures ∙ ap weight_of v.value_of.ensures ∙ value-weight s.args.confidence s.requires.1))
 
 returns-2 : tie.Need-returns-2
 returns-2 c = search rules

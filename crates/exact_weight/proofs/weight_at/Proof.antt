@@ -7,13 +7,13 @@ use Rattle.answer.specs.declared.Square.{Square}
 use Rattle.board.specs.Hits.{EdgeList, Board, edges, tables, hit}
 use Rattle.board.specs.HitsLaws.{hit-edge}
 use Rattle.board.specs.DomainLaws.{edges-ok}
-use Rattle.exact_weight.specs.WeightLaws.{weightTo, weight-none, weight-more, weight-small, weight-all}
+use Rattle.exact_weight.specs.WeightLaws.{weight_to, weight-none, weight-more, weight-small, weight-all}
 use Rattle.exact_weight.proofs.weight_at.Statement.{statement}
 use Rattle.exact_weight.proofs.weight_at.Tie as tie
 
 abbrev invariant-loop : tie.invariant-loop
 invariant-loop rows cols orientations bits confidences square h v matrix sum₀ i₀ i-end sum i =
-    (i ≤ length rows) × (sum ≡ weightTo (tables h v) (edges rows cols orientations bits confidences) square.transform square.row square.col i)
+    (i ≤ length rows) × (sum ≡ weight_to (tables h v) (edges rows cols orientations bits confidences) square.transform square.row square.col i)
 
 abbrev decreases-loop : tie.decreases-loop
 decreases-loop rows cols orientations bits confidences square h v matrix sum₀ i₀ i-end sum i = i-end - i
@@ -77,7 +77,7 @@ returns : tie.Need-returns invariant-loop decreases-loop
 returns c =
     let s = c.before.before.before.before.before.before.before.before in
     let e : c.before.loop.i ≡ length s.args.rows.now = omega (arith, c.before.loop.invariant.0, c.loop-test.false) in
-    c.before.loop.invariant.1 ∙ ap (weightTo _ _ _ _ _) e ∙ weight-all _ _ _ _ _
+    c.before.loop.invariant.1 ∙ ap (weight_to _ _ _ _ _) e ∙ weight-all _ _ _ _ _
 
 pub weight-at-spec : {M : Type 1} → statement M
 weight-at-spec =

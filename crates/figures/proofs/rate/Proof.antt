@@ -2,7 +2,7 @@ use Prim.Native.Nat.{◌-◌, ◌^◌}
 use mathlib.Core.Path.{refl}
 use lib.Dec.{le→leb}
 use lib.Ieee.{in_float}
-use Rattle.figures.specs.Figures.{rateOf}
+use Rattle.figures.specs.Figures.{rate_of}
 use native.Mathlib.Omega.{arith}
 use borrow.Author.Rules.{rules}
 use Rattle.figures.proofs.rate.Statement.{statement}
@@ -20,7 +20,7 @@ unfolding in_float
 int-to-float-result-2 c = le→leb c.before.before.args.edges (2 ^ 24) (omega arith)
 
 returns : tie.Need-returns
-unfolding rateOf
+unfolding rate_of
 returns c = refl
 
 pub rate-spec : {M : Type 1} → statement M

@@ -1,7 +1,7 @@
 -- Each finding is the definition's, at the place that its check answers.
 use mathlib.Core.Path.{ap₂, ◌∙◌}
 use native.Mathlib.Omega.{arith}
-use Rattle.findings.specs.Findings.{orElse}
+use Rattle.findings.specs.Findings.{or_else}
 use Rattle.findings.specs.FindingsLaws.{same_length, fields-found}
 use borrow.Author.Rules.{rules}
 use Rattle.findings.proofs.fields_admission.Statement.{statement}
@@ -43,7 +43,7 @@ or-else-requires-3 c κs = search rules
 returns : tie.Need-returns
 returns c =
     c.or-else3.ensures
-    ∙ ap₂ orElse c.before.before.before.before.before.before.before.before.before.refused-at.ensures (c.before.or-else2.ensures ∙ ap₂ orElse c.before.before.before.before.before.before.before.refused-at2.ensures (c.before.before.or_else.ensures ∙ ap₂ orElse c.before.before.before.before.before.refused-at3.ensures c.before.before.before.refused-at4.ensures))
+    ∙ ap₂ or_else c.before.before.before.before.before.before.before.before.before.refused-at.ensures (c.before.or-else2.ensures ∙ ap₂ or_else c.before.before.before.before.before.before.before.refused-at2.ensures (c.before.before.or_else.ensures ∙ ap₂ or_else c.before.before.before.before.before.refused-at3.ensures c.before.before.before.refused-at4.ensures))
     ∙ fields-found _ _ _ _ _ _ c.before.before.before.before.before.before.before.before.before.before.first-bad-coordinate.ensures c.before.before.before.before.before.before.before.before.first-bad-byte.ensures c.before.before.before.before.before.before.first-bad-byte2.ensures c.before.before.before.before.first-bad-confidence.ensures
 
 pub fields-admission-spec : {M : Type 1} → statement M

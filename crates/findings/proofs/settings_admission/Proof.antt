@@ -1,6 +1,6 @@
 -- Three findings, put together in the order.
 use mathlib.Core.Path.{ap₂, ◌∙◌}
-use Rattle.findings.specs.Findings.{orElse}
+use Rattle.findings.specs.Findings.{or_else}
 use Rattle.findings.specs.FindingsLaws.{settings-found}
 use borrow.Author.Rules.{rules}
 use Rattle.findings.proofs.settings_admission.Statement.{statement}
@@ -23,7 +23,7 @@ or-else-requires-2 c κs = search rules
 
 returns : tie.Need-returns
 returns c =
-    c.or-else2.ensures ∙ ap₂ orElse c.before.before.before.before.refused-if.ensures (c.before.or_else.ensures ∙ ap₂ orElse c.before.before.before.refused-if2.ensures c.before.before.refused-if3.ensures) ∙ settings-found _ _ _
+    c.or-else2.ensures ∙ ap₂ or_else c.before.before.before.before.refused-if.ensures (c.before.or_else.ensures ∙ ap₂ or_else c.before.before.before.refused-if2.ensures c.before.before.refused-if3.ensures) ∙ settings-found _ _ _
 
 pub settings-admission-spec : {M : Type 1} → statement M
 settings-admission-spec =

@@ -8,7 +8,7 @@ use borrow.Author.Tests.{eq-eqb, ne_eqb}
 use Rattle.laws.specs.First.{Searching, search-starts, search-goes-on, search-finds, search-ends}
 use Rattle.board.specs.Hits.{EdgeList, Board, edges, tables, hits}
 use Rattle.board.specs.HitsLaws.{hits-le}
-use Rattle.firsts.specs.Firsts.{has, firstCol}
+use Rattle.firsts.specs.Firsts.{has, first_col}
 use Rattle.firsts.specs.FirstsLaws.{col-is}
 use Rattle.firsts.proofs.first_col.Statement.{statement}
 use Rattle.firsts.proofs.first_col.Tie as tie
@@ -67,7 +67,7 @@ add-if1 : tie.Need-overflow-add-if1 invariant-loop decreases-loop
 add-if1 c = let a = c.before.before.before.before in omega (arith, counted c, hits-le (B a) (E a) (st a).args.t (st a).args.row a.loop.col, (st a).requires.0.list.few)
 
 returns : tie.Need-returns invariant-loop decreases-loop
-unfolding firstCol
+unfolding first_col
 returns c =
     let a = c.before.before.before.before.before in
     search-finds _ _ a.loop.col a.loop.invariant (eq-eqb (hits (B a) (E a) (st a).args.t (st a).args.row a.loop.col) (st a).args.wanted (sym (counted c.before) ∙ c.if1.true))
@@ -84,7 +84,7 @@ loop-again c =
     search-goes-on _ _ a.loop.col c.before.before.before.before.loop-test.true a.loop.invariant (ne_eqb (hits (B a) (E a) (st a).args.t (st a).args.row a.loop.col) (st a).args.wanted (λ e. c.if1.false (counted c.before ∙ e)))
 
 returns-2 : tie.Need-returns-2 invariant-loop decreases-loop
-unfolding firstCol
+unfolding first_col
 returns-2 c = search-ends _ _ c.before.loop.col c.loop-test.false c.before.loop.invariant
 
 pub first-col-spec : {M : Type 1} → statement M

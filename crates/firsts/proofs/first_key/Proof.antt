@@ -6,14 +6,14 @@ use native.Mathlib.Omega.{arith}
 use lib.ListN.{length}
 use Rattle.laws.specs.First.{Searching}
 use Rattle.board.specs.Hits.{EdgeList, Board, edges, tables}
-use Rattle.firsts.specs.Firsts.{has, keyHas, firstCol, firstKey}
+use Rattle.firsts.specs.Firsts.{has, key_has, first_col, first_key}
 use Rattle.firsts.specs.RowSearch.{row-starts, row-over, row-finds, row_ends}
 use Rattle.firsts.proofs.first_key.Statement.{statement}
 use Rattle.firsts.proofs.first_key.Tie as tie
 
 abbrev invariant-loop : tie.invariant-loop
 invariant-loop rows cols orientations bits t h v wanted tops wide row₀ row =
-    (row ≤ 3 * length h) × Searching (keyHas (tables h v) (edges rows cols orientations bits []) t wanted) (3 * length h * (3 * length v)) (row * (3 * length v))
+    (row ≤ 3 * length h) × Searching (key_has (tables h v) (edges rows cols orientations bits []) t wanted) (3 * length h * (3 * length v)) (row * (3 * length v))
 
 abbrev decreases-loop : tie.decreases-loop
 decreases-loop rows cols orientations bits t h v wanted tops wide row₀ row = 3 * length h - row
@@ -72,7 +72,7 @@ add-result : tie.Need-overflow-add-result invariant-loop decreases-loop
 add-result c = omega (arith, small c.before.before.before, c.if1.true, wide c.before.before.before)
 
 returns : tie.Need-returns invariant-loop decreases-loop
-unfolding firstKey firstCol
+unfolding first_key first_col
 returns c =
     let a = c.before.before.before in
     row-finds (N a) (W a) (p a) a.loop.row c.before.row_first.result c.before.before.loop-test.true a.loop.invariant.1 c.before.row_first.ensures c.if1.true
@@ -84,7 +84,7 @@ loop-less : tie.Need-loop-smaller invariant-loop decreases-loop
 loop-less c = omega (arith, c.before.before.loop-test.true)
 
 loop-again : tie.Need-loop-preserved invariant-loop decreases-loop
-unfolding firstCol
+unfolding first_col
 loop-again c =
     let a = c.before.before.before in
     (omega (arith, c.before.before.loop-test.true), row-over (N a) (W a) (p a) a.loop.row c.before.before.loop-test.true a.loop.invariant.1 (omega (arith, c.before.row_first.ensures, c.if1.false)))
@@ -93,7 +93,7 @@ mul-result-2 : tie.Need-overflow-mul-result-2 invariant-loop decreases-loop
 mul-result-2 c = omega (arith, small c.before)
 
 returns-2 : tie.Need-returns-2 invariant-loop decreases-loop
-unfolding firstKey
+unfolding first_key
 returns-2 c = let a = c.before in row_ends (N a) (W a) (p a) a.loop.row c.loop-test.false a.loop.invariant.1
 
 pub first-key-spec : {M : Type 1} → statement M

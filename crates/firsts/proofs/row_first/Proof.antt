@@ -8,8 +8,8 @@ use lib.Dec.{lit<}
 use lib.ListN.{length}
 use Rattle.board.specs.Hits.{EdgeList, Board, edges, tables}
 use Rattle.classes.specs.declared.Three.{Three}
-use Rattle.classes.specs.Classes.{threeOf}
-use Rattle.tops.specs.Tops.{shortTops}
+use Rattle.classes.specs.Classes.{three_of}
+use Rattle.tops.specs.Tops.{short_tops}
 use Rattle.firsts.specs.Firsts.{pick_of, most_of}
 use Rattle.firsts.specs.FirstsLaws.{row-few, row-none}
 use borrow.Author.Rules.{rules}
@@ -42,7 +42,7 @@ pick-requires : tie.Need-pick-requires
 pick-requires c κs = search rules
 
 -- what the row can have at most
-best : (c : tie.After-pick) → let s = c.before.before.before.before.before.before.before in c.before.most-of.result + c.pick.result ≡ most_of (threeOf (B s) (E s) s.args.t true (s.args.row % length s.args.h.now)) + pick_of (shortTops (B s) (E s) s.args.t (length s.args.v.now)) (s.args.row % 3)
+best : (c : tie.After-pick) → let s = c.before.before.before.before.before.before.before in c.before.most-of.result + c.pick.result ≡ most_of (three_of (B s) (E s) s.args.t true (s.args.row % length s.args.h.now)) + pick_of (short_tops (B s) (E s) s.args.t (length s.args.v.now)) (s.args.row % 3)
 best c =
     let s = c.before.before.before.before.before.before.before in
     ap₂ ◌+◌ (c.before.most-of.ensures ∙ ap most_of c.before.before.long-hits.ensures) (c.pick.ensures ∙ ap (λ (x : Three). pick_of x (s.args.row % 3)) s.requires.1)

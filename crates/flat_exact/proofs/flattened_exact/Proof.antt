@@ -1,6 +1,6 @@
 use mathlib.Core.Path.{sym, ap, ◌∙◌}
 use borrow.Author.Rules.{rules}
-use Rattle.flat_exact.specs.FlatExact.{flatExact}
+use Rattle.flat_exact.specs.FlatExact.{flat_exact}
 use Rattle.flat_exact.proofs.flattened_exact.Statement.{statement}
 use Rattle.flat_exact.proofs.flattened_exact.Tie as tie
 
@@ -17,10 +17,10 @@ refused-requires : tie.Need-refused-requires
 refused-requires c κs = search rules
 
 returns : tie.Need-returns
-returns c = c.found.ensures ∙ ap flatExact (sym c.before.before.answer.given.1)
+returns c = c.found.ensures ∙ ap flat_exact (sym c.before.before.answer.given.1)
 
 returns-2 : tie.Need-returns-2
-returns-2 c = c.refused.ensures ∙ ap flatExact (sym c.before.before.answer2.given.1)
+returns-2 c = c.refused.ensures ∙ ap flat_exact (sym c.before.before.answer2.given.1)
 
 pub flattened-exact-spec : {M : Type 1} → statement M
 flattened-exact-spec = tie.close (tie.spec enum-known-answer found-requires enum-known-answer-2 refused-requires returns returns-2)

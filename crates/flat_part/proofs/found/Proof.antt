@@ -1,6 +1,6 @@
 -- What is said of the runner-up is told first; each other field is the answer's.
 use borrow.Author.Rules.{rules}
-use Rattle.flat_part.specs.FlatPart.{partFoundWith}
+use Rattle.flat_part.specs.FlatPart.{part_found_with}
 use Rattle.flat_part.proofs.found.Statement.{statement}
 use Rattle.flat_part.proofs.found.Tie as tie
 
@@ -11,7 +11,7 @@ next-of-requires : tie.Need-next-of-requires
 next-of-requires c κs = search rules
 
 returns : tie.Need-returns
-returns c = λ i. partFoundWith c.before.before.before.args.d (c.next_of.ensures i)
+returns c = λ i. part_found_with c.before.before.before.args.d (c.next_of.ensures i)
 
 pub found-spec : {M : Type 1} → statement M
 found-spec = tie.close (tie.spec cast-transform next-of-requires returns)

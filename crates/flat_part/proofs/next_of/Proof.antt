@@ -1,5 +1,5 @@
 use mathlib.Core.Path.{◌≡◌, sym, ap, ◌∙◌}
-use Rattle.flat_part.specs.FlatPart.{nextWith, flatNext}
+use Rattle.flat_part.specs.FlatPart.{next_with, flat_next}
 use borrow.Author.Rules.{rules}
 use Rattle.flat_part.proofs.next_of.Statement.{statement}
 use Rattle.flat_part.proofs.next_of.Tie as tie
@@ -25,13 +25,13 @@ ahead-requires c κs = search rules
 
 -- src/lib.rt:46:1
 returns : tie.Need-returns
-returns c = ap (flatNext c.before.before.args.hits) (sym c.enum_told.given.1)
+returns c = ap (flat_next c.before.before.args.hits) (sym c.enum_told.given.1)
 
 -- src/lib.rt:46:1
 returns-2 : tie.Need-returns-2
 returns-2 c =
     let g = c.before.before.before.next.given in
-    (λ i. nextWith g.0.0 g.0.1.0 g.0.1.1.0 (c.ahead.ensures i)) ∙ ap (flatNext c.before.before.before.before.before.args.hits) (sym g.1)
+    (λ i. next_with g.0.0 g.0.1.0 g.0.1.1.0 (c.ahead.ensures i)) ∙ ap (flat_next c.before.before.before.before.before.args.hits) (sym g.1)
 
 pub next-of-spec : {M : Type 1} → statement M
 next-of-spec =

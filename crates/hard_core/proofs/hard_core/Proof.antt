@@ -5,7 +5,7 @@ use native.Mathlib.Omega.{arith}
 use lib.ListN.{length}
 use lib.Ieee.{of_bits}
 use Rattle.board.specs.Hits.{edges, tables, size}
-use Rattle.admission.specs.Calls.{HardCall, hardCall}
+use Rattle.admission.specs.Calls.{HardCall, hard_call}
 use Rattle.admission.specs.Accepted.{HardAccepted}
 use Rattle.hard.specs.SelectLaws.{select-beyond}
 use Rattle.hard.specs.Ready.{ready-logical, ready-physical, logical-winner, physical-winner}
@@ -19,8 +19,8 @@ module _ (s : tie.Start) where
   abbrev call : HardCall
   call =
       let a = s.args in
-      hardCall (edges a.lrows.now a.lcols.now a.lorientations.now a.lbits.now a.lconfidences.now)
-      (edges a.prows.now a.pcols.now a.porientations.now a.pbits.now a.pconfidences.now) a.transforms.now (tables a.h.now a.v.now) a.error-limit
+      hard_call (edges a.lrows.now a.lcols.now a.lorientations.now a.lbits.now a.lconfidences.now)
+      (edges a.prows.now a.pcols.now a.porientations.now a.pbits.now a.pconfidences.now) a.transforms.now (tables a.h.now a.v.now) a.error_limit
 
 -- the start, seen from the first selection
 abbrev st : tie.After-select → tie.Start
@@ -45,7 +45,7 @@ select-requires-2 c κs =
     let d = c.before.before.before.before.before.before.before.before.before in
     let s = st d in
     let l = ready-logical (call s) _ _ s.pre in
-    let b = select-beyond (call s).board (call s).logical (call s).transforms s.args.error-limit _ _ l _ _ _ d.select.ensures in
+    let b = select-beyond (call s).board (call s).logical (call s).transforms s.args.error_limit _ _ l _ _ _ d.select.ensures in
     ready-physical (call s) s.args.counts.now s.args.weights.now s.pre _ _ b.0.len b.1.len
 
 enum-known-physical : tie.Need-enum-known-physical

@@ -1,7 +1,7 @@
 use mathlib.Core.Path.{◌≡◌, ap, ◌∙◌}
 use mathlib.Core.List.{[]}
 use Rattle.board.specs.declared.edge.Edge.{Edge}
-use Rattle.board.specs.Hits.{EdgeList, edges, tables, edgeHit}
+use Rattle.board.specs.Hits.{EdgeList, edges, tables, edge_hit}
 use Rattle.board.specs.DomainLaws.{edge-ok}
 use borrow.Author.Rules.{rules}
 use Rattle.hit.proofs.hit_at.Statement.{statement}
@@ -24,7 +24,7 @@ returns : tie.Need-returns
 returns c =
     let e = c.before in
     let a = e.before.before.before.before.before.args in
-    c.is-hit.ensures ∙ ap (λ (x : Edge). edgeHit (tables a.h.now a.v.now) x a.square) e.edge_at.ensures
+    c.is-hit.ensures ∙ ap (λ (x : Edge). edge_hit (tables a.h.now a.v.now) x a.square) e.edge_at.ensures
 
 pub hit-at-spec : {M : Type 1} → statement M
 hit-at-spec = tie.close (tie.spec edge-at-requires is-hit-requires returns)

@@ -3,7 +3,7 @@ use mathlib.Core.Path.{◌≡◌, ap, ◌∙◌}
 use Prim.Native.Nat.{ℕ}
 use lib.Dec.{eqb}
 use Rattle.board.specs.declared.edge.EdgeLookup.{EdgeLookup}
-use Rattle.board.specs.Hits.{tables, predicted, edgeHit}
+use Rattle.board.specs.Hits.{tables, predicted, edge_hit}
 use borrow.Author.Rules.{rules}
 use Rattle.hit.proofs.is_hit.Statement.{statement}
 use Rattle.hit.proofs.is_hit.Tie as tie
@@ -15,7 +15,7 @@ predicted-bit-requires : tie.Need-predicted-bit-requires
 predicted-bit-requires c κs = search rules
 
 returns : tie.Need-returns
-unfolding edgeHit
+unfolding edge_hit
 returns c =
     let p = c.before in
     let a = p.before.before.before.before.args in

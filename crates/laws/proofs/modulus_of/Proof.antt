@@ -2,7 +2,7 @@ use mathlib.Core.Path.{refl}
 use native.Mathlib.Omega.{arith}
 use native.Mathlib.Nat.{div-le_self}
 use borrow.Author.Rules.{rules}
-use Rattle.laws.specs.Modulus.{modulusOf, lift-fits}
+use Rattle.laws.specs.Modulus.{modulus_of, lift-fits}
 use Rattle.laws.proofs.modulus_of.Statement.{statement}
 use Rattle.laws.proofs.modulus_of.Tie as tie
 
@@ -22,7 +22,7 @@ add-factor : tie.Need-overflow-add-factor
 add-factor c = record { fits = omega (arith, div-le_self 4294967296 c.args.n) }
 
 returns : tie.Need-returns
-unfolding modulusOf
+unfolding modulus_of
 returns c = refl
 
 pub modulus-of-spec : {M : Type 1} → statement M

@@ -5,14 +5,14 @@ use native.Mathlib.Omega.{arith}
 use lib.ListN.{get_or, length}
 use Rattle.board.specs.Hits.{EdgeList, Board, edges, tables}
 use Rattle.classes.specs.Classes.{CountReady}
-use Rattle.lead.specs.Lead.{leadAfter, peaks}
+use Rattle.lead.specs.Lead.{lead_after, peaks}
 use Rattle.lead.specs.LeadLaws.{lead-first, lead-next}
 use Rattle.lead.proofs.lead_of.Statement.{statement}
 use Rattle.lead.proofs.lead_of.Tie as tie
 
 abbrev invariant-loop : tie.invariant-loop
 invariant-loop rows cols orientations bits transforms h v lead₀ p₀ lead p =
-    (0 < p) × (p ≤ length transforms) × (lead ≡ leadAfter (peaks (tables h v) (edges rows cols orientations bits []) transforms) (p - 1))
+    (0 < p) × (p ≤ length transforms) × (lead ≡ lead_after (peaks (tables h v) (edges rows cols orientations bits []) transforms) (p - 1))
 
 abbrev decreases-loop : tie.decreases-loop
 decreases-loop rows cols orientations bits transforms h v lead₀ p₀ lead p = length transforms - p
@@ -73,7 +73,7 @@ returns c =
     let a = c.before in
     let s = a.before.before.before.before.before.before.before.before.before in
     let e : a.loop.p ≡ length s.args.transforms.now = omega (arith, a.loop.invariant.1, c.loop-test.false) in
-    a.loop.invariant.2 ∙ ap (λ (n : ℕ). leadAfter (peaks (B s) (E s) s.args.transforms.now) (n - 1)) e
+    a.loop.invariant.2 ∙ ap (λ (n : ℕ). lead_after (peaks (B s) (E s) s.args.transforms.now) (n - 1)) e
 
 pub lead-of-spec : {M : Type 1} → statement M
 lead-of-spec =

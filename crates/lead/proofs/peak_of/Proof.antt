@@ -5,10 +5,10 @@ use Prim.Native.Nat.{◌*◌, ◌≤◌, ◌<◌}
 use native.Mathlib.Omega.{arith}
 use lib.ListN.{length}
 use Rattle.board.specs.Hits.{EdgeList, Board, edges, tables, size}
-use Rattle.board.specs.Sides.{periodOf}
+use Rattle.board.specs.Sides.{period_of}
 use Rattle.grid.specs.BoardGrid.{period-h, period-v}
 use Rattle.tops.specs.declared.Top.{Top}
-use Rattle.lead.specs.Lead.{top_of, cell_of, peakFrom, peakOf}
+use Rattle.lead.specs.Lead.{top_of, cell_of, peak_from, peak_of}
 use Rattle.lead.specs.PeakLaws.{cell_in, top_in}
 use borrow.Author.Rules.{rules}
 use Rattle.lead.proofs.peak_of.Statement.{statement}
@@ -28,7 +28,7 @@ module _ (c : tie.After-side-top2) where
   few : size E ≤ 8192
   few = st.pre.list.few
 
-  is-in : (s : Bool) (x : Top) → x ≡ top_of B E st.args.t s → (x.at < periodOf B s * 3) × (x.best ≤ size E) × (x.next ≤ size E)
+  is-in : (s : Bool) (x : Top) → x ≡ top_of B E st.args.t s → (x.at < period_of B s * 3) × (x.best ≤ size E) × (x.next ≤ size E)
   is-in s x e = rw e (top_in B E st.args.t st.pre.board s)
 
   a_in : (c.before.side-top.result.at < length st.args.h.now * 3) × (c.before.side-top.result.best ≤ size E) × (c.before.side-top.result.next ≤ size E)
@@ -68,11 +68,11 @@ add-t18 : tie.Need-overflow-add-t18
 add-t18 c = let k = c.before.before.before.before.before.before.before.before.before.before in omega (arith, (a_in k).1, (b-in k).1, few k)
 
 returns : tie.Need-returns
-unfolding peakOf
+unfolding peak_of
 returns c =
     let k = c.before.before.before.before.before.before.before.before.before.before in
     rw (c.before.before.larger.ensures, c.before.before.before.before.before.before.before.key_of.ensures)
-    (ap₂ (peakFrom (length (st k).args.h.now) (length (st k).args.v.now)) k.before.side-top.ensures k.side-top2.ensures)
+    (ap₂ (peak_from (length (st k).args.h.now) (length (st k).args.v.now)) k.before.side-top.ensures k.side-top2.ensures)
 
 pub peak-of-spec : {M : Type 1} → statement M
 peak-of-spec =

@@ -10,18 +10,18 @@ use lib.Signed.{le_z, lt_z, mag}
 use mir.Val.{to_z, of_z}
 use mir.Facts.{to_z-of_z}
 use mir.Syntax.{w64}
-use Rattle.laws.specs.Words.{fold, count, second, eqZ}
+use Rattle.laws.specs.Words.{fold, count, second, eq_z}
 use Rattle.laws.specs.Counting.{count_yes, count_no}
 use Rattle.laws.specs.Second.{second-skip, second-new, second-low}
 use Rattle.laws.specs.Signed.{read, said-lt}
-use Rattle.level.specs.Level.{sAt, larger, tiedSum, levelSecond}
+use Rattle.level.specs.Level.{s_at, larger, tied_sum, level_second}
 use Rattle.level.specs.LevelLaws.{larger-weak, not_least, below_top}
 use Rattle.level.specs.SumsLaws.{read-eq}
 use Rattle.level.proofs.level_around.Statement.{statement}
 use Rattle.level.proofs.level_around.Tie as tie
 
 abbrev invariant-loop : tie.invariant-loop
-invariant-loop sums cell top n₀ k₀ u₀ i₀ n k u i = ((i ≤ length sums) × (n ≤ i)) × (n ≡ count i (tiedSum sums (to_z w64 top))) × (k < length sums) × (k ≡ second (larger (sAt sums)) cell i) × (u ≡ of_z w64 (sAt sums k)) × (mag (sAt sums k) < 2 ^ 63)
+invariant-loop sums cell top n₀ k₀ u₀ i₀ n k u i = ((i ≤ length sums) × (n ≤ i)) × (n ≡ count i (tied_sum sums (to_z w64 top))) × (k < length sums) × (k ≡ second (larger (s_at sums)) cell i) × (u ≡ of_z w64 (s_at sums k)) × (mag (s_at sums k) < 2 ^ 63)
 
 abbrev decreases-loop : tie.decreases-loop
 decreases-loop sums cell top n₀ k₀ u₀ i₀ n k u i = length sums - i
@@ -73,15 +73,15 @@ loop-less c = search rules
 counted : (c : tie.Joined3 invariant-loop decreases-loop)
     → let at = c.before.before.before.before.before in
     let xs = at.before.before.before.before.before.args.sums.now in
-    let top = to_z w64 (of_z w64 (sAt xs at.before.before.before.before.before.args.cell)) in
-    (c.if3.tied ≤ at.loop.i + 1) × (c.if3.tied ≡ count (at.loop.i + 1) (tiedSum xs top))
+    let top = to_z w64 (of_z w64 (s_at xs at.before.before.before.before.before.args.cell)) in
+    (c.if3.tied ≤ at.loop.i + 1) × (c.if3.tied ≡ count (at.loop.i + 1) (tied_sum xs top))
 counted c =
     let at = c.before.before.before.before.before in
     let a = at.before.before.before.before.before.args in
-    let x = sAt a.sums.now at.loop.i in
-    let top = to_z w64 (of_z w64 (sAt a.sums.now a.cell)) in
+    let x = s_at a.sums.now at.loop.i in
+    let top = to_z w64 (of_z w64 (s_at a.sums.now a.cell)) in
     let said = read-eq x top c.before.is_Tied.result c.before.before.before.s.given c.before.is_Tied.ensures in
-    one-tied (tiedSum a.sums.now top) at.loop.i at.loop.tied c.if3.tied at.loop.invariant.0.1 at.loop.invariant.1
+    one-tied (tied_sum a.sums.now top) at.loop.i at.loop.tied c.if3.tied at.loop.invariant.0.1 at.loop.invariant.1
     (⊎_elim (λ v. inl (sym said ∙ v.0.taken, v.1)) (λ v. inr (sym said ∙ v.0.left, v.1)) c.if3.branch)
 
 loop-again : tie.Need-loop-preserved invariant-loop decreases-loop
@@ -92,27 +92,27 @@ loop-again c =
     let start = at.before.before.before.before.before in
     let a = start.args in
     let xs = a.sums.now in
-    let x = sAt xs l.i in
-    let top = to_z w64 (of_z w64 (sAt xs a.cell)) in
-    let same : top ≡ sAt xs a.cell = to_z-of_z {w = w64} {z = sAt xs a.cell} (record { sfits = at.before.before.before.before.top.given }) in
+    let x = s_at xs l.i in
+    let top = to_z w64 (of_z w64 (s_at xs a.cell)) in
+    let same : top ≡ s_at xs a.cell = to_z-of_z {w = w64} {z = s_at xs a.cell} (record { sfits = at.before.before.before.before.top.given }) in
     let held = ap (λ y. lt_z (to_z w64 y) (read w64 x)) (sym inv.4) in
-    let told = said-lt w64 (sAt xs l.second) x (record { sfits = inv.5 }) (record { sfits = c.before.s.given }) in
+    let told = said-lt w64 (s_at xs l.second) x (record { sfits = inv.5 }) (record { sfits = c.before.s.given }) in
     ⊎_elim
     (λ w.
     let n = counted (record { before = record { before = record { before = c.before; if2 = w.0 }; is_Tied = w.1 }; if3 = w.2 }) in
-    ((omega arith, omega (arith, w.5, n.0)), w.5 ∙ n.1, omega (arith, w.6), w.6 ∙ second-new _ _ _ _ inv.3 w.4.taken (told true (held ∙ w.3.taken)), w.7 ∙ ap (λ (k : ℕ). of_z w64 (sAt xs k)) (sym w.6), subst (λ (k : ℕ). mag (sAt xs k) < 2 ^ 63) (sym w.6) c.before.s.given))
+    ((omega arith, omega (arith, w.5, n.0)), w.5 ∙ n.1, omega (arith, w.6), w.6 ∙ second-new _ _ _ _ inv.3 w.4.taken (told true (held ∙ w.3.taken)), w.7 ∙ ap (λ (k : ℕ). of_z w64 (s_at xs k)) (sym w.6), subst (λ (k : ℕ). mag (s_at xs k) < 2 ^ 63) (sym w.6) c.before.s.given))
     (⊎_elim
     (λ w.
     let n = counted (record { before = record { before = record { before = c.before; if2 = w.0 }; is_Tied = w.1 }; if3 = w.2 }) in
-    ((omega arith, omega (arith, w.5, n.0)), w.5 ∙ n.1, omega (arith, w.6), w.6 ∙ second-skip _ _ _ _ inv.3 w.4.left, w.7 ∙ inv.4 ∙ ap (λ (k : ℕ). of_z w64 (sAt xs k)) (sym w.6), subst (λ (k : ℕ). mag (sAt xs k) < 2 ^ 63) (sym w.6) inv.5))
+    ((omega arith, omega (arith, w.5, n.0)), w.5 ∙ n.1, omega (arith, w.6), w.6 ∙ second-skip _ _ _ _ inv.3 w.4.left, w.7 ∙ inv.4 ∙ ap (λ (k : ℕ). of_z w64 (s_at xs k)) (sym w.6), subst (λ (k : ℕ). mag (s_at xs k) < 2 ^ 63) (sym w.6) inv.5))
     (⊎_elim
     (λ w.
     let n = counted (record { before = record { before = record { before = c.before; if2 = w.0 }; is_Tied = w.1 }; if3 = w.2 }) in
-    ((omega arith, omega (arith, w.4, n.0)), w.4 ∙ n.1, omega (arith, w.5), w.5 ∙ second-low _ _ _ _ inv.3 (told false (held ∙ w.3.left)), w.6 ∙ inv.4 ∙ ap (λ (k : ℕ). of_z w64 (sAt xs k)) (sym w.5), subst (λ (k : ℕ). mag (sAt xs k) < 2 ^ 63) (sym w.5) inv.5))
+    ((omega arith, omega (arith, w.4, n.0)), w.4 ∙ n.1, omega (arith, w.5), w.5 ∙ second-low _ _ _ _ inv.3 (told false (held ∙ w.3.left)), w.6 ∙ inv.4 ∙ ap (λ (k : ℕ). of_z w64 (s_at xs k)) (sym w.5), subst (λ (k : ℕ). mag (s_at xs k) < 2 ^ 63) (sym w.5) inv.5))
     (λ w.
-    let under = not_least x (sAt xs l.second) (ap₂ le_z (sym (to_z-of_z {w = w64} {z = sAt xs l.second} (record { sfits = inv.5 }))) (sym (to_z-of_z {w = w64} {z = x} (record { sfits = c.before.s.given }))) ∙ ap (λ y. le_z (to_z w64 y) (read w64 x)) (sym inv.4) ∙ w.0.left) in
-    let n = one-tied (tiedSum xs top) l.i l.tied l.tied inv.0.1 inv.1 (inr (ap (eqZ x) same ∙ below_top xs a.cell l.second x start.requires.2 inv.2 under, refl)) in
-    ((omega arith, omega (arith, w.1, n.0)), w.1 ∙ n.1, omega (arith, w.2), w.2 ∙ second-low _ _ _ _ inv.3 ((larger-weak (length xs) (sAt xs)).asym l.second l.i inv.2 c.before.before.loop-test.true under), w.3 ∙ inv.4 ∙ ap (λ (k : ℕ). of_z w64 (sAt xs k)) (sym w.2), subst (λ (k : ℕ). mag (sAt xs k) < 2 ^ 63) (sym w.2) inv.5))))
+    let under = not_least x (s_at xs l.second) (ap₂ le_z (sym (to_z-of_z {w = w64} {z = s_at xs l.second} (record { sfits = inv.5 }))) (sym (to_z-of_z {w = w64} {z = x} (record { sfits = c.before.s.given }))) ∙ ap (λ y. le_z (to_z w64 y) (read w64 x)) (sym inv.4) ∙ w.0.left) in
+    let n = one-tied (tied_sum xs top) l.i l.tied l.tied inv.0.1 inv.1 (inr (ap (eq_z x) same ∙ below_top xs a.cell l.second x start.requires.2 inv.2 under, refl)) in
+    ((omega arith, omega (arith, w.1, n.0)), w.1 ∙ n.1, omega (arith, w.2), w.2 ∙ second-low _ _ _ _ inv.3 ((larger-weak (length xs) (s_at xs)).asym l.second l.i inv.2 c.before.before.loop-test.true under), w.3 ∙ inv.4 ∙ ap (λ (k : ℕ). of_z w64 (s_at xs k)) (sym w.2), subst (λ (k : ℕ). mag (s_at xs k) < 2 ^ 63) (sym w.2) inv.5))))
     c.if2.branch
 
 returns : tie.Need-returns invariant-loop decreases-loop
@@ -122,10 +122,10 @@ returns c =
     let a = start.args in
     let xs = a.sums.now in
     let e : l.i ≡ length xs = omega arith in
-    let t : to_z w64 (of_z w64 (sAt xs a.cell)) ≡ sAt xs a.cell = to_z-of_z {w = w64} {z = sAt xs a.cell} (record { sfits = c.before.before.before.before.before.top.given }) in
-    let n : l.tied ≡ count (length xs) (tiedSum xs (sAt xs a.cell)) = rw (← e) (rw t at l.invariant.1) in
-    let k : l.second ≡ levelSecond xs a.cell = rw (← e) l.invariant.3 in
-    let u : to_z w64 l.under ≡ sAt xs (levelSecond xs a.cell) = ap (to_z w64) l.invariant.4 ∙ to_z-of_z {w = w64} {z = sAt xs l.second} (record { sfits = l.invariant.5 }) ∙ ap (sAt xs) k in
+    let t : to_z w64 (of_z w64 (s_at xs a.cell)) ≡ s_at xs a.cell = to_z-of_z {w = w64} {z = s_at xs a.cell} (record { sfits = c.before.before.before.before.before.top.given }) in
+    let n : l.tied ≡ count (length xs) (tied_sum xs (s_at xs a.cell)) = rw (← e) (rw t at l.invariant.1) in
+    let k : l.second ≡ level_second xs a.cell = rw (← e) l.invariant.3 in
+    let u : to_z w64 l.under ≡ s_at xs (level_second xs a.cell) = ap (to_z w64) l.invariant.4 ∙ to_z-of_z {w = w64} {z = s_at xs l.second} (record { sfits = l.invariant.5 }) ∙ ap (s_at xs) k in
     λ j. record { cell = a.cell; top = t j; tied = n j; second = k j; under = u j }
 
 pub level-around-spec : {M : Type 1} → statement M

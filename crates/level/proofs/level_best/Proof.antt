@@ -8,15 +8,15 @@ use lib.ListN.{length}
 use lib.Signed.{lt_z, mag}
 use mir.Val.{to_z, of_z}
 use mir.Syntax.{w64}
-use Rattle.laws.specs.Words.{firstBest}
+use Rattle.laws.specs.Words.{first_best}
 use Rattle.laws.specs.Best.{best-new, best-old}
 use Rattle.laws.specs.Signed.{read, said-lt}
-use Rattle.level.specs.Level.{sAt, larger}
+use Rattle.level.specs.Level.{s_at, larger}
 use Rattle.level.proofs.level_best.Statement.{statement}
 use Rattle.level.proofs.level_best.Tie as tie
 
 abbrev invariant-loop : tie.invariant-loop
-invariant-loop sums best₀ top₀ i₀ best top i = (i ≤ length sums) × (best < length sums) × (best ≡ firstBest (larger (sAt sums)) i) × (top ≡ of_z w64 (sAt sums best)) × (mag (sAt sums best) < 2 ^ 63)
+invariant-loop sums best₀ top₀ i₀ best top i = (i ≤ length sums) × (best < length sums) × (best ≡ first_best (larger (s_at sums)) i) × (top ≡ of_z w64 (s_at sums best)) × (mag (s_at sums best) < 2 ^ 63)
 
 abbrev decreases-loop : tie.decreases-loop
 decreases-loop sums best₀ top₀ i₀ best top i = length sums - i
@@ -25,7 +25,7 @@ shared-slice-copy-out-top : tie.Need-shared-slice-copy-out-top invariant-loop de
 shared-slice-copy-out-top c = search rules
 
 loop-holds : tie.Need-loop-init invariant-loop decreases-loop
-unfolding firstBest
+unfolding first_best
 loop-holds c = (search rules, search rules, refl, refl, c.top.given)
 
 mul-s : tie.Need-overflow-mul-s invariant-loop decreases-loop
@@ -45,11 +45,11 @@ loop-again c =
     let at = c.before.before.before in
     let inv = at.loop.invariant in
     let xs = at.before.before.args.sums.now in
-    let told = said-lt w64 (sAt xs at.loop.best) (sAt xs at.loop.i) (record { sfits = inv.4 }) (record { sfits = c.before.s.given }) in
-    let held = ap (λ x. lt_z (to_z w64 x) (read w64 (sAt xs at.loop.i))) (sym inv.3) in
+    let told = said-lt w64 (s_at xs at.loop.best) (s_at xs at.loop.i) (record { sfits = inv.4 }) (record { sfits = c.before.s.given }) in
+    let held = ap (λ x. lt_z (to_z w64 x) (read w64 (s_at xs at.loop.i))) (sym inv.3) in
     ⊎_elim
-    (λ w. (omega arith, omega (arith, w.1), w.1 ∙ best-new _ _ _ inv.2 (told true (held ∙ w.0.taken)), w.2 ∙ ap (λ (k : ℕ). of_z w64 (sAt xs k)) (sym w.1), subst (λ (k : ℕ). mag (sAt xs k) < 2 ^ 63) (sym w.1) c.before.s.given))
-    (λ w. (omega arith, omega (arith, w.1), w.1 ∙ best-old _ _ _ inv.2 (told false (held ∙ w.0.left)), w.2 ∙ inv.3 ∙ ap (λ (k : ℕ). of_z w64 (sAt xs k)) (sym w.1), subst (λ (k : ℕ). mag (sAt xs k) < 2 ^ 63) (sym w.1) inv.4))
+    (λ w. (omega arith, omega (arith, w.1), w.1 ∙ best-new _ _ _ inv.2 (told true (held ∙ w.0.taken)), w.2 ∙ ap (λ (k : ℕ). of_z w64 (s_at xs k)) (sym w.1), subst (λ (k : ℕ). mag (s_at xs k) < 2 ^ 63) (sym w.1) c.before.s.given))
+    (λ w. (omega arith, omega (arith, w.1), w.1 ∙ best-old _ _ _ inv.2 (told false (held ∙ w.0.left)), w.2 ∙ inv.3 ∙ ap (λ (k : ℕ). of_z w64 (s_at xs k)) (sym w.1), subst (λ (k : ℕ). mag (s_at xs k) < 2 ^ 63) (sym w.1) inv.4))
     c.if1.branch
 
 returns : tie.Need-returns invariant-loop decreases-loop

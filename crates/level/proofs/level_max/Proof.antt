@@ -1,5 +1,5 @@
 use mathlib.Core.Path.{sym, ap, subst, ◌∙◌}
-use Rattle.level.specs.Level.{levelAround, levelOf}
+use Rattle.level.specs.Level.{level_around, level_of}
 use Rattle.level.specs.LevelLaws.{Top, largest}
 use borrow.Author.Rules.{rules}
 use Rattle.level.proofs.level_max.Statement.{statement}
@@ -14,8 +14,8 @@ level-around-requires c κs =
     (s.requires, c.level-best.ensures.1, subst (Top s.args.sums.now) (sym c.level-best.ensures.0) (largest s.args.sums.now s.requires))
 
 returns : tie.Need-returns
-unfolding levelOf
-returns c = c.level-around.ensures ∙ ap (levelAround c.before.before.args.sums.now) c.before.level-best.ensures.0
+unfolding level_of
+returns c = c.level-around.ensures ∙ ap (level_around c.before.before.args.sums.now) c.before.level-best.ensures.0
 
 pub level-max-spec : {M : Type 1} → statement M
 level-max-spec = tie.close (tie.spec level-best-requires level-around-requires returns)

@@ -5,14 +5,14 @@ use Prim.Native.Nat.{ℕ, ◌≤◌}
 use native.Mathlib.Omega.{arith}
 use lib.ListN.{length}
 use lib.Ieee.{Float, eq, of_bits, binary32}
-use Rattle.laws.specs.Words.{zeroF}
+use Rattle.laws.specs.Words.{zero_f}
 use Rattle.board.specs.Hits.{EdgeList, Board, edges, tables, size}
 use Rattle.board.specs.DomainLaws.{edges-ok}
-use Rattle.figures.specs.Figures.{noConfidence}
-use Rattle.hard.specs.SelectTheorems.{hitsAtKey}
+use Rattle.figures.specs.Figures.{no_confidence}
+use Rattle.hard.specs.SelectTheorems.{hits_at_key}
 use Rattle.lead.specs.declared.Lead.{Lead}
 use Rattle.lead.specs.LeadLaws.{Leading}
-use Rattle.locate.specs.Located.{originsOf}
+use Rattle.locate.specs.Located.{origins_of}
 use Rattle.locate.specs.LocatedLaws.{leads, keys-small, runner-in, best-few, answers-10, answers-11, answers-13, answers-found}
 use borrow.Author.Rules.{rules}
 use Rattle.locate.proofs.locate_accepted.Statement.{statement}
@@ -33,9 +33,9 @@ module _ (c : tie.After-total-confidence) where
   ts = st.args.transforms.now
 
   -- the test is of the total confidence
-  told : (t : Bool) → eq c.total-confidence.result (of_bits binary32 0) ≡ t → noConfidence E ≡ t
-  unfolding of_bits noConfidence
-  told t e = ap (λ (x : Float). eq x zeroF) (sym c.total-confidence.ensures) ∙ e
+  told : (t : Bool) → eq c.total-confidence.result (of_bits binary32 0) ≡ t → no_confidence E ≡ t
+  unfolding of_bits no_confidence
+  told t e = ap (λ (x : Float). eq x zero_f) (sym c.total-confidence.ensures) ∙ e
 
 -- the lead
 module _ (c : tie.After-lead-of) where
@@ -45,13 +45,13 @@ module _ (c : tie.After-lead-of) where
   abbrev S : Lead
   S = c.lead-of.result
 
-  A : Leading (length (ts k)) (originsOf (B k)) (hitsAtKey (B k) (E k) (ts k)) S
+  A : Leading (length (ts k)) (origins_of (B k)) (hits_at_key (B k) (E k) (ts k)) S
   A = leads (B k) (E k) (ts k) (st k).pre.board (st k).pre.transforms.some S c.lead-of.ensures
 
   few : size (E k) ≤ 8192
   few = (st k).pre.list.few
 
-  some : noConfidence (E k) ≡ false
+  some : no_confidence (E k) ≡ false
   some = told k false c.before.if1.false
 
 total-confidence-requires : tie.Need-total-confidence-requires
@@ -61,7 +61,7 @@ refuse-requires : tie.Need-refuse-requires
 refuse-requires c κs = search rules
 
 returns : tie.Need-returns
-returns c = let j = c.before.before in answers-10 (B j) (E j) (ts j) (st j).args.error-limit _ (told j true c.before.if1.true) c.refuse.ensures
+returns c = let j = c.before.before in answers-10 (B j) (E j) (ts j) (st j).args.error_limit _ (told j true c.before.if1.true) c.refuse.ensures
 
 lead-of-requires : tie.Need-lead-of-requires
 lead-of-requires c κs = search rules
@@ -70,7 +70,7 @@ cast-edges : tie.Need-overflow-cast-edges
 cast-edges c = search rules
 
 over-limit-requires : tie.Need-over-limit-requires
-over-limit-requires c κs = let j = k c in (omega (arith, best-few (B j) (E j) (ts j) (S c) (A c) (st j).args.error-limit (few c) (some c), (A c).under), few c)
+over-limit-requires c κs = let j = k c in (omega (arith, best-few (B j) (E j) (ts j) (S c) (A c) (st j).args.error_limit (few c) (some c), (A c).under), few c)
 
 refuse-requires-2 : tie.Need-refuse-requires-2
 refuse-requires-2 c κs = search rules
@@ -79,7 +79,7 @@ returns-2 : tie.Need-returns-2
 returns-2 c =
     let l = c.before.before.before in
     let j = k l in
-    answers-11 (B j) (E j) (ts j) (S l) (A l) (st j).args.error-limit (few l) (some l) _ (sym c.before.before.over-limit.ensures ∙ c.before.if2.true) c.refuse2.ensures
+    answers-11 (B j) (E j) (ts j) (S l) (A l) (st j).args.error_limit (few l) (some l) _ (sym c.before.before.over-limit.ensures ∙ c.before.if2.true) c.refuse2.ensures
 
 passes-requires : tie.Need-passes-requires
 passes-requires c κs = search rules
@@ -116,7 +116,7 @@ returns-3 c =
     let g = c.before.before.before.before.before in
     let l = g.before.before.before.before in
     let j = k l in
-    answers-found (B j) (E j) (ts j) (S l) (A l) (st j).args.error-limit (few l) (some l) (sym g.before.before.before.over-limit.ensures ∙ g.before.before.if2.false)
+    answers-found (B j) (E j) (ts j) (S l) (A l) (st j).args.error_limit (few l) (some l) (sym g.before.before.before.over-limit.ensures ∙ g.before.before.if2.false)
     c.before.before.before.first_key.result _ _ (sym g.before.passes.ensures ∙ g.if3.true) c.before.before.before.first_key.ensures c.before.square-at.ensures c.square-at2.ensures
 
 refuse-requires-3 : tie.Need-refuse-requires-3
@@ -127,7 +127,7 @@ returns-4 c =
     let g = c.before in
     let l = g.before.before.before.before in
     let j = k l in
-    answers-13 (B j) (E j) (ts j) (S l) (A l) (st j).args.error-limit (few l) (some l) (sym g.before.before.before.over-limit.ensures ∙ g.before.before.if2.false) _
+    answers-13 (B j) (E j) (ts j) (S l) (A l) (st j).args.error_limit (few l) (some l) (sym g.before.before.before.over-limit.ensures ∙ g.before.before.if2.false) _
     (sym g.before.passes.ensures ∙ g.if3.false) c.refuse3.ensures
 
 pub locate-accepted-spec : {M : Type 1} → statement M

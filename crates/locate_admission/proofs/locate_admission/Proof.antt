@@ -2,7 +2,7 @@ use mathlib.Core.Path.{ap₂, ◌∙◌}
 use mathlib.Core.Bool.{not}
 use lib.Ieee.{of_bits}
 use Rattle.refusals.specs.Order.{earlier}
-use Rattle.findings.specs.Findings.{firstFound, settingsFindings}
+use Rattle.findings.specs.Findings.{first_found, settings_findings}
 use Rattle.locate_admission.specs.LocateAdmissionLaws.{locate-parts}
 use borrow.Author.Rules.{rules}
 use Rattle.locate_admission.proofs.locate_admission.Statement.{statement}
@@ -31,7 +31,7 @@ unfolding of_bits
 returns c =
     c.first_of.ensures
     ∙ ap₂ earlier c.before.before.before.before.before.list-admission.ensures
-    (c.before.settings-admission.ensures ∙ (λ i. firstFound (settingsFindings (c.before.before.before.before.transforms-bad.ensures i) (c.before.before.before.tables-bad.ensures i) (not (c.before.before.in-range.ensures i)))))
+    (c.before.settings-admission.ensures ∙ (λ i. first_found (settings_findings (c.before.before.before.before.transforms-bad.ensures i) (c.before.before.before.tables-bad.ensures i) (not (c.before.before.in-range.ensures i)))))
     ∙ locate-parts _ _ _ _
 
 pub locate-admission-spec : {M : Type 1} → statement M

@@ -9,7 +9,7 @@ use mir.Syntax.{w32}
 use mir.Val.{SFits}
 use Rattle.laws.specs.Signed.{read, fit_at, read_at}
 use Rattle.laws.specs.Whole.{abs-add}
-use Rattle.board.specs.Transform.{mat, mapped, joined, lookupOf, lookupOfEnds}
+use Rattle.board.specs.Transform.{mat, mapped, joined, lookup_of, lookup_of_ends}
 use Rattle.board.specs.TransformLaws.{mat-unit, mapped-abs, next-col, next_row}
 use Rattle.lookup.proofs.transform_edge_lookup.Statement.{statement}
 use Rattle.lookup.proofs.transform_edge_lookup.Tie as tie
@@ -85,13 +85,13 @@ module _ (c : tie.After-apply2) where
   near-row = subst (λ (z : ℤ). nat_abs z ≤ 2000001) (sym row_is) (omega (arith, small 1))
 
   -- the edge along a row, and along a column
-  along : lookupOfEnds (at 0) (at 1) (at 0 +ℤ mat t 0 0) (at 1 +ℤ mat t 1 0) ≡ joined t s.args.edge.col s.args.edge.row (s.args.edge.col +ℤ pos 1) s.args.edge.row
+  along : lookup_of_ends (at 0) (at 1) (at 0 +ℤ mat t 0 0) (at 1 +ℤ mat t 1 0) ≡ joined t s.args.edge.col s.args.edge.row (s.args.edge.col +ℤ pos 1) s.args.edge.row
   unfolding joined
-  along = ap₂ (lookupOfEnds (at 0) (at 1)) (sym (next-col t 0 s.args.edge.col s.args.edge.row)) (sym (next-col t 1 s.args.edge.col s.args.edge.row))
+  along = ap₂ (lookup_of_ends (at 0) (at 1)) (sym (next-col t 0 s.args.edge.col s.args.edge.row)) (sym (next-col t 1 s.args.edge.col s.args.edge.row))
 
-  down : lookupOfEnds (at 0) (at 1) (at 0 +ℤ mat t 0 1) (at 1 +ℤ mat t 1 1) ≡ joined t s.args.edge.col s.args.edge.row s.args.edge.col (s.args.edge.row +ℤ pos 1)
+  down : lookup_of_ends (at 0) (at 1) (at 0 +ℤ mat t 0 1) (at 1 +ℤ mat t 1 1) ≡ joined t s.args.edge.col s.args.edge.row s.args.edge.col (s.args.edge.row +ℤ pos 1)
   unfolding joined
-  down = ap₂ (lookupOfEnds (at 0) (at 1)) (sym (next_row t 0 s.args.edge.col s.args.edge.row)) (sym (next_row t 1 s.args.edge.col s.args.edge.row))
+  down = ap₂ (lookup_of_ends (at 0) (at 1)) (sym (next_row t 0 s.args.edge.col s.args.edge.row)) (sym (next_row t 1 s.args.edge.col s.args.edge.row))
 
 add-lookup-of-ends : tie.Need-overflow-add-lookup-of-ends
 add-lookup-of-ends c = let k = c.before.before.before in fits_moved k 0 _ k.before.apply.result _ (col-is k) c.entry.ensures
@@ -116,22 +116,22 @@ lookup-of-ends-requires-2 c κs =
     (near-col k, near-row k, near-moved k 0 _ k.before.apply.result _ (col-is k) c.before.entry3.ensures, near-moved k 1 _ k.apply2.result _ (row_is k) c.entry4.ensures)
 
 returns : tie.Need-returns
-unfolding lookupOf
+unfolding lookup_of
 returns c =
     let e = c.before in
     let k = e.before.before.before.before in
     c.lookup-of-ends.ensures
-    ∙ (λ i. lookupOfEnds (col-is k i) (row_is k i) (is-moved k 0 _ k.before.apply.result _ (col-is k) e.before.entry.ensures i) (is-moved k 1 _ k.apply2.result _ (row_is k) e.entry2.ensures i))
+    ∙ (λ i. lookup_of_ends (col-is k i) (row_is k i) (is-moved k 0 _ k.before.apply.result _ (col-is k) e.before.entry.ensures i) (is-moved k 1 _ k.apply2.result _ (row_is k) e.entry2.ensures i))
     ∙ along k
     ∙ sym (rw (eq-eqb (s k).args.edge.orientation 0 e.before.before.if1.true))
 
 returns-2 : tie.Need-returns-2
-unfolding lookupOf
+unfolding lookup_of
 returns-2 c =
     let e = c.before in
     let k = e.before.before.before.before in
     c.lookup-of-ends2.ensures
-    ∙ (λ i. lookupOfEnds (col-is k i) (row_is k i) (is-moved k 0 _ k.before.apply.result _ (col-is k) e.before.entry3.ensures i) (is-moved k 1 _ k.apply2.result _ (row_is k) e.entry4.ensures i))
+    ∙ (λ i. lookup_of_ends (col-is k i) (row_is k i) (is-moved k 0 _ k.before.apply.result _ (col-is k) e.before.entry3.ensures i) (is-moved k 1 _ k.apply2.result _ (row_is k) e.entry4.ensures i))
     ∙ down k
     ∙ sym (rw (ne_eqb (s k).args.edge.orientation 0 e.before.before.if1.false))
 

@@ -1,5 +1,5 @@
 use borrow.Author.Tests.{le-leb, lt-leb}
-use Rattle.part.specs.Part.{runsOf}
+use Rattle.part.specs.Part.{runs_of}
 use borrow.Author.Rules.{rules}
 use Rattle.part.proofs.runs_of.Statement.{statement}
 use Rattle.part.proofs.runs_of.Tie as tie
@@ -12,7 +12,7 @@ add-end c = search rules
 
 -- src/lib.rt:51:9
 returns : tie.Need-returns
-unfolding runsOf
+unfolding runs_of
 returns c = simp (le-leb _ _ c.if1.true)
 
 -- src/lib.rt:58:16
@@ -21,7 +21,7 @@ sub-t5 c = search rules
 
 -- src/lib.rt:44:1
 returns-2 : tie.Need-returns-2
-unfolding runsOf
+unfolding runs_of
 returns-2 c = simp (lt-leb _ _ c.if1.false)
 
 pub runs-of-spec : {M : Type 1} → statement M

@@ -1,5 +1,5 @@
 use lib.ListN.{length}
-use Rattle.exact.specs.Select.{unitsTo}
+use Rattle.exact.specs.Select.{units_to}
 use Rattle.part_core.specs.PartCoreLaws.{winners-judged}
 use borrow.Author.Rules.{rules}
 use Rattle.part_core.proofs.judge_winners.Statement.{statement}
@@ -35,7 +35,7 @@ returns c =
     let f = c.before.before.before in
     let u = f.before in
     let a = u.before.before.before.args in
-    winners-judged (length a.rows.now) (unitsTo a.confidences.now (length a.confidences.now)) a.transforms.now a.w a.next a.p u.unit-sum.result f.shown-beside.result _ u.unit-sum.ensures f.shown-beside.ensures c.judge-part.ensures
+    winners-judged (length a.rows.now) (units_to a.confidences.now (length a.confidences.now)) a.transforms.now a.w a.next a.p u.unit-sum.result f.shown-beside.result _ u.unit-sum.ensures f.shown-beside.ensures c.judge-part.ensures
 
 pub judge-winners-spec : {M : Type 1} → statement M
 judge-winners-spec =

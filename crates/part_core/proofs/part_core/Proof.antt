@@ -2,7 +2,7 @@ use mathlib.Core.Path.{sym, ◌∙◌}
 use lib.ListN.{length}
 use lib.Ieee.{of_bits}
 use Rattle.board.specs.Hits.{edges, tables}
-use Rattle.admission.specs.Calls.{HardCall, hardCall}
+use Rattle.admission.specs.Calls.{HardCall, hard_call}
 use Rattle.part_core.specs.PartReady.{logical-asks, physical-asks, judge-asks}
 use Rattle.part_core.specs.PartCoreLaws.{still-room, core-refused, core-physical-refused, core-judged}
 use borrow.Author.Rules.{rules}
@@ -14,8 +14,8 @@ module _ (s : tie.Start) where
   abbrev call : HardCall
   call =
       let a = s.args in
-      hardCall (edges a.lrows.now a.lcols.now a.lorientations.now a.lbits.now a.lconfidences.now)
-      (edges a.prows.now a.pcols.now a.porientations.now a.pbits.now a.pconfidences.now) a.transforms.now (tables a.h.now a.v.now) a.error-limit
+      hard_call (edges a.lrows.now a.lcols.now a.lorientations.now a.lbits.now a.lconfidences.now)
+      (edges a.prows.now a.pcols.now a.porientations.now a.pbits.now a.pconfidences.now) a.transforms.now (tables a.h.now a.v.now) a.error_limit
 
 -- the start, seen from the first selection; the first selection, seen from the second
 abbrev st : tie.After-select-part → tie.Start

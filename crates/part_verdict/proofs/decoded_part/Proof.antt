@@ -1,4 +1,4 @@
-use Rattle.part_verdict.specs.PartVerdict.{partDecodedOf}
+use Rattle.part_verdict.specs.PartVerdict.{part_decoded_of}
 use borrow.Author.Rules.{rules}
 use Rattle.part_verdict.proofs.decoded_part.Statement.{statement}
 use Rattle.part_verdict.proofs.decoded_part.Tie as tie
@@ -12,7 +12,7 @@ rate-requires c κs = search rules
 
 -- src/lib.rt:24:1
 returns : tie.Need-returns
-unfolding partDecodedOf
+unfolding part_decoded_of
 returns c = rw c.rate.ensures
 
 pub decoded-part-spec : {M : Type 1} → statement M

@@ -1,4 +1,4 @@
-use Rattle.ranges.specs.Ranges.{verticalBad}
+use Rattle.ranges.specs.Ranges.{vertical_bad}
 use borrow.Author.Rules.{rules}
 use Rattle.ranges.proofs.vertical_bad.Statement.{statement}
 use Rattle.ranges.proofs.vertical_bad.Tie as tie
@@ -7,7 +7,7 @@ patterns-bad-requires : tie.Need-patterns-bad-requires
 patterns-bad-requires c κs = search rules
 
 returns : tie.Need-returns
-unfolding verticalBad
+unfolding vertical_bad
 returns c = c.patterns-bad.ensures
 
 pub vertical-bad-spec : {M : Type 1} → statement M

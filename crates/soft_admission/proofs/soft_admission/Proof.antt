@@ -2,7 +2,7 @@ use mathlib.Core.Path.{◌≡◌, sym, ap, ap₂, ◌∙◌}
 use mathlib.Core.Bool.{Bool, not}
 use Rattle.refusals.specs.Order.{earlier}
 use Rattle.refusals.specs.Numbers as why
-use Rattle.findings.specs.Findings.{refusedIf, firstFound, settingsFindings}
+use Rattle.findings.specs.Findings.{refused_if, first_found, settings_findings}
 use Rattle.admission.specs.RefusalLaws.{soft-parts}
 use borrow.Author.Rules.{rules}
 use Rattle.soft_admission.proofs.soft_admission.Statement.{statement}
@@ -50,10 +50,10 @@ first-of-requires-4 c κs = search rules
 returns : tie.Need-returns
 returns c =
     c.first-of4.ensures
-    ∙ ap₂ earlier (c.before.before.before.before.before.before.before.before.before.before.before.refused-if.ensures ∙ ap (λ (b : Bool). refusedIf b why.roomTooShort) c.before.before.before.before.before.before.before.before.before.before.before.before.soft-room-short.ensures)
+    ∙ ap₂ earlier (c.before.before.before.before.before.before.before.before.before.before.before.refused-if.ensures ∙ ap (λ (b : Bool). refused_if b why.room_too_short) c.before.before.before.before.before.before.before.before.before.before.before.before.soft-room-short.ensures)
     (c.before.first-of3.ensures
     ∙ ap₂ earlier (c.before.before.first-of2.ensures ∙ ap₂ earlier (c.before.before.before.first_of.ensures ∙ ap₂ earlier c.before.before.before.before.before.before.before.before.before.before.list-admission.ensures c.before.before.before.before.before.before.before.before.before.list-admission2.ensures) c.before.before.before.before.before.before.before.before.likelihood-admission.ensures)
-    (c.before.before.before.before.settings-admission.ensures ∙ (λ i. firstFound (settingsFindings (c.before.before.before.before.before.before.before.transforms-bad.ensures i) (c.before.before.before.before.before.before.tables-bad.ensures i) (c.before.before.before.before.before.limits-bad.ensures i)))))
+    (c.before.before.before.before.settings-admission.ensures ∙ (λ i. first_found (settings_findings (c.before.before.before.before.before.before.before.transforms-bad.ensures i) (c.before.before.before.before.before.before.tables-bad.ensures i) (c.before.before.before.before.before.limits-bad.ensures i)))))
     ∙ soft-parts _ _ _ _
 
 pub soft-admission-spec : {M : Type 1} → statement M

@@ -5,11 +5,11 @@ use Prim.Native.Nat.{ℕ, ◌≤◌, ◌<◌}
 use native.Mathlib.Omega.{arith}
 use lib.ListN.{length}
 use lib.Ieee.{Float, eq, of_bits, binary32}
-use Rattle.laws.specs.Words.{zeroF}
+use Rattle.laws.specs.Words.{zero_f}
 use Rattle.board.specs.Hits.{edges, tables, size}
-use Rattle.admission.specs.Calls.{SoftCall, softCall}
+use Rattle.admission.specs.Calls.{SoftCall, soft_call}
 use Rattle.likelihood.specs.Likelihood.{likelihoods}
-use Rattle.figures.specs.Figures.{totalConfidence}
+use Rattle.figures.specs.Figures.{total_confidence}
 use Rattle.soft_core.specs.SoftLaws.{ready-soft, first-listed, second-listed, choice-told, core-none, core-nothing, core-below, core-logical}
 use borrow.Author.Rules.{rules}
 use Rattle.soft_core.proofs.soft_core.Statement.{statement}
@@ -20,18 +20,18 @@ module _ (s : tie.Start) where
   abbrev call : SoftCall
   call =
       let a = s.args in
-      softCall (edges a.lrows.now a.lcols.now a.lorientations.now a.lbits.now a.lconfidences.now)
+      soft_call (edges a.lrows.now a.lcols.now a.lorientations.now a.lbits.now a.lconfidences.now)
       (edges a.prows.now a.pcols.now a.porientations.now a.pbits.now a.pconfidences.now) (likelihoods a.matches.now a.mismatches.now) a.transforms.now
-      (tables a.h.now a.v.now) a.error-limit a.soft-margin
+      (tables a.h.now a.v.now) a.error_limit a.soft-margin
 
 -- the start, seen from the total confidence
 abbrev st : tie.After-total-confidence → tie.Start
 st c = c.before.before.before.before.before.before.before.before.before.before.before.before.before.before
 
 -- the test is of the physical list's total confidence
-told : (c : tie.After-total-confidence) (t : Bool) → eq c.total-confidence.result (of_bits binary32 0) ≡ t → eq (totalConfidence (call (st c)).hard.physical) zeroF ≡ t
+told : (c : tie.After-total-confidence) (t : Bool) → eq c.total-confidence.result (of_bits binary32 0) ≡ t → eq (total_confidence (call (st c)).hard.physical) zero_f ≡ t
 unfolding of_bits
-told c t e = ap (λ (x : Float). eq x zeroF) (sym c.total-confidence.ensures) ∙ e
+told c t e = ap (λ (x : Float). eq x zero_f) (sym c.total-confidence.ensures) ∙ e
 
 total-confidence-requires : tie.Need-total-confidence-requires
 total-confidence-requires c κs = search rules

@@ -4,7 +4,7 @@ use Prim.Native.Nat.{ℕ, ◌≤◌, ◌<◌}
 use native.Mathlib.Omega.{arith}
 use lib.ListN.{length}
 use Rattle.board.specs.Hits.{edges, tables, size}
-use Rattle.admission.specs.Calls.{HardCall, hardCall}
+use Rattle.admission.specs.Calls.{HardCall, hard_call}
 use Rattle.hard.specs.Ready.{ready-logical, logical-winner}
 use Rattle.soft_logical.specs.LogicalLaws.{logical-refused, fit-ready, verdict-refused, own-few, verdict-found}
 use borrow.Author.Rules.{rules}
@@ -16,8 +16,8 @@ module _ (s : tie.Start) where
   abbrev call : HardCall
   call =
       let a = s.args in
-      hardCall (edges a.lrows.now a.lcols.now a.lorientations.now a.lbits.now a.lconfidences.now)
-      (edges a.prows.now a.pcols.now a.porientations.now a.pbits.now a.pconfidences.now) a.transforms.now (tables a.h.now a.v.now) a.error-limit
+      hard_call (edges a.lrows.now a.lcols.now a.lorientations.now a.lbits.now a.lconfidences.now)
+      (edges a.prows.now a.pcols.now a.porientations.now a.pbits.now a.pconfidences.now) a.transforms.now (tables a.h.now a.v.now) a.error_limit
 
 -- the start, seen from the selection
 abbrev st : tie.After-select → tie.Start

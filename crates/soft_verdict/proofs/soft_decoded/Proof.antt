@@ -4,7 +4,7 @@ use native.Mathlib.Omega.{arith}
 use lib.Dec.{le→leb}
 use lib.IntN.{pos}
 use lib.Ieee.{in_float, of_int, div, binary32}
-use Rattle.soft_verdict.specs.SoftVerdict.{softDecodedOf}
+use Rattle.soft_verdict.specs.SoftVerdict.{soft_decoded_of}
 use borrow.Author.Rules.{rules}
 use Rattle.soft_verdict.proofs.soft_decoded.Statement.{statement}
 use Rattle.soft_verdict.proofs.soft_decoded.Tie as tie
@@ -20,7 +20,7 @@ mean-requires : tie.Need-mean-requires
 mean-requires c κs = search rules
 
 returns : tie.Need-returns
-unfolding softDecodedOf
+unfolding soft_decoded_of
 returns c = rw (c.before.rate.ensures, c.mean.ensures)
 
 pub soft-decoded-spec : {M : Type 1} → statement M

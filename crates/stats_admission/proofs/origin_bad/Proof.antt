@@ -1,7 +1,7 @@
 use Prim.Native.Nat.{ℕ, ◌*◌, ◌/◌, ◌≤◌, ◌<◌}
 use native.Mathlib.Omega.{arith}
 use borrow.Author.Tests.{lt-ltb, le-ltb}
-use Rattle.checks.specs.Checks.{originBad}
+use Rattle.checks.specs.Checks.{origin_bad}
 use Rattle.stats_admission.proofs.origin_bad.Statement.{statement}
 use Rattle.stats_admission.proofs.origin_bad.Tie as tie
 
@@ -13,11 +13,11 @@ below : (l row : ℕ) → row / 3 < l → row < 3 * l
 below l row h = omega arith
 
 returns : tie.Need-returns
-unfolding originBad
+unfolding origin_bad
 returns c = simp (le-ltb _ _ (above _ _ c.if1.true))
 
 returns-2 : tie.Need-returns-2
-unfolding originBad
+unfolding origin_bad
 returns-2 c = simp (lt-ltb _ _ (below _ _ c.if1.false))
 
 pub origin-bad-spec : {M : Type 1} → statement M

@@ -1,7 +1,7 @@
 use mathlib.Core.Bool.{Bool}
 use mathlib.Core.Path.{◌≡◌, sym, ap, ap₂, ◌∙◌}
 use Rattle.refusals.specs.Order.{earlier}
-use Rattle.findings.specs.Findings.{firstFound, settingsFindings}
+use Rattle.findings.specs.Findings.{first_found, settings_findings}
 use Rattle.admission.specs.RefusalLaws.{stats-parts}
 use lib.Dec.{ltb}
 use borrow.Author.Rules.{rules}
@@ -26,7 +26,7 @@ first-of-requires c κs = search rules
 returns : tie.Need-returns
 returns c =
     c.first_of.ensures
-    ∙ ap₂ earlier c.before.before.before.before.list-admission.ensures (c.before.settings-admission.ensures ∙ ap₂ (λ (x y : Bool). firstFound (settingsFindings (ltb 7 c.before.before.before.before.before.before.before.before.before.before.args.transform) x y)) c.before.before.before.tables-bad.ensures c.before.before.origin-bad.ensures)
+    ∙ ap₂ earlier c.before.before.before.before.list-admission.ensures (c.before.settings-admission.ensures ∙ ap₂ (λ (x y : Bool). first_found (settings_findings (ltb 7 c.before.before.before.before.before.before.before.before.before.before.args.transform) x y)) c.before.before.before.tables-bad.ensures c.before.before.origin-bad.ensures)
     ∙ stats-parts _ _ _ _ _
 
 pub stats-admission-spec : {M : Type 1} → statement M

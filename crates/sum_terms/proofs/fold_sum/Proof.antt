@@ -9,20 +9,20 @@ use mir.Syntax.{w64}
 use mir.Val.{to_z}
 use Rattle.laws.specs.Words.{fold}
 use Rattle.laws.specs.Signed.{read, fit_at, read_at}
-use Rattle.terms.specs.Terms.{termSum}
-use Rattle.sum_terms.specs.SumTerms.{placesZ, termZ}
+use Rattle.terms.specs.Terms.{term_sum}
+use Rattle.sum_terms.specs.SumTerms.{places_z, term_z}
 use Rattle.sum_terms.specs.SumTermsLaws.{term-more, read-match, read-mismatch, term-small}
 use Rattle.sum_terms.proofs.fold_sum.Statement.{statement}
 use Rattle.sum_terms.proofs.fold_sum.Tie as tie
 
 abbrev invariant-loop : tie.invariant-loop
-invariant-loop sums from also pattern s sum₀ j₀ sum j = (j ≤ 6) × (to_z w64 sum ≡ termZ j (placesZ from sums) (placesZ also sums) pattern s)
+invariant-loop sums from also pattern s sum₀ j₀ sum j = (j ≤ 6) × (to_z w64 sum ≡ term_z j (places_z from sums) (places_z also sums) pattern s)
 
 abbrev decreases-loop : tie.decreases-loop
 decreases-loop sums from also pattern s sum₀ j₀ sum j = 6 - j
 
 loop-holds : tie.Need-loop-init invariant-loop decreases-loop
-unfolding termSum fold
+unfolding term_sum fold
 loop-holds c = (omega arith, refl)
 
 add-pattern-bit : tie.Need-overflow-add-pattern-bit invariant-loop decreases-loop
@@ -51,7 +51,7 @@ module _ (c : tie.Joined1 invariant-loop decreases-loop) where
       let h = c.before.before.loop-test.true in
       ⊎_elim (λ w. omega (arith, w.1, p.match, p.mismatch)) (λ w. omega (arith, w.1, p.match, p.mismatch)) c.if1.branch
 
-  next : to_z w64 l.loop.sum +ℤ old ≡ termZ (l.loop.j + 1) (placesZ st.args.from st.args.sums.now) (placesZ st.args.also st.args.sums.now) st.args.pattern st.args.s
+  next : to_z w64 l.loop.sum +ℤ old ≡ term_z (l.loop.j + 1) (places_z st.args.from st.args.sums.now) (places_z st.args.also st.args.sums.now) st.args.pattern st.args.s
   next =
       let a = st.args in
       let b = c.before.pattern-bit in
@@ -62,11 +62,11 @@ module _ (c : tie.Joined1 invariant-loop decreases-loop) where
       c.if1.branch)
       ∙ sym (term-more a.sums.now a.from a.also a.pattern a.s l.loop.j)
 
-  next_small : nat_abs (termZ (l.loop.j + 1) (placesZ st.args.from st.args.sums.now) (placesZ st.args.also st.args.sums.now) st.args.pattern st.args.s) < 2 ^ 63
+  next_small : nat_abs (term_z (l.loop.j + 1) (places_z st.args.from st.args.sums.now) (places_z st.args.also st.args.sums.now) st.args.pattern st.args.s) < 2 ^ 63
   next_small =
       let a = st.args in
       let h = c.before.before.loop-test.true in
-      omega (arith, term-small (placesZ a.from a.sums.now) (placesZ a.also a.sums.now) (l.loop.j + 1) a.pattern a.s (λ i k. st.pre.0.small i (omega arith)) (omega arith))
+      omega (arith, term-small (places_z a.from a.sums.now) (places_z a.also a.sums.now) (l.loop.j + 1) a.pattern a.s (λ i k. st.pre.0.small i (omega arith)) (omega arith))
 
 cast-sum : tie.Need-overflow-cast-sum invariant-loop decreases-loop
 cast-sum c = omega arith
@@ -82,7 +82,7 @@ shared-slice-copy-out-sum c = omega (arith, inside c.before)
 
 -- the sum that is kept
 kept : (c : tie.After-sum invariant-loop decreases-loop) → to_z w64 (l c.before.before).loop.sum +ℤ read w64 (old c.before.before)
-    ≡ termZ ((l c.before.before).loop.j + 1) (placesZ (st c.before.before).args.from (st c.before.before).args.sums.now) (placesZ (st c.before.before).args.also (st c.before.before).args.sums.now) (st c.before.before).args.pattern (st c.before.before).args.s
+    ≡ term_z ((l c.before.before).loop.j + 1) (places_z (st c.before.before).args.from (st c.before.before).args.sums.now) (places_z (st c.before.before).args.also (st c.before.before).args.sums.now) (st c.before.before).args.pattern (st c.before.before).args.s
 kept c = ap (λ (z : ℤ). to_z w64 (l c.before.before).loop.sum +ℤ z) back ∙ next c.before.before
   where
     back : read w64 (old c.before.before) ≡ old c.before.before
@@ -105,7 +105,7 @@ returns c =
     let l = c.before.loop in
     let a = c.before.before.args in
     let e : l.j ≡ 6 = omega arith in
-    l.invariant.1 ∙ ap (λ (n : ℕ). termZ n (placesZ a.from a.sums.now) (placesZ a.also a.sums.now) a.pattern a.s) e
+    l.invariant.1 ∙ ap (λ (n : ℕ). term_z n (places_z a.from a.sums.now) (places_z a.also a.sums.now) a.pattern a.s) e
 
 pub fold-sum-spec : {M : Type 1} → statement M
 fold-sum-spec =

@@ -3,7 +3,7 @@ use native.Mathlib.Omega.{arith}
 use lib.IntN.{nat_abs}
 use mir.Syntax.{w64}
 use Rattle.laws.specs.Signed.{read_at}
-use Rattle.sum_terms.specs.SumTerms.{placesZ, termZ}
+use Rattle.sum_terms.specs.SumTerms.{places_z, term_z}
 use Rattle.sum_terms.specs.SumTermsLaws.{term-small}
 use borrow.Author.Rules.{rules}
 use Rattle.sum_terms.proofs.fold_sum_row.Statement.{statement}
@@ -19,8 +19,8 @@ fold-sum-requires-3 : tie.Need-fold-sum-requires-3
 fold-sum-requires-3 c κs = search rules
 
 -- a term is small, so it is kept as it is
-small : (c : tie.Start) (s : ℕ) → nat_abs (termZ 6 (placesZ c.args.from c.args.sums.now) (placesZ c.args.also c.args.sums.now) c.args.pattern s) < 2 ^ 63
-small c s = omega (arith, term-small (placesZ c.args.from c.args.sums.now) (placesZ c.args.also c.args.sums.now) 6 c.args.pattern s c.requires.small (omega arith))
+small : (c : tie.Start) (s : ℕ) → nat_abs (term_z 6 (places_z c.args.from c.args.sums.now) (places_z c.args.also c.args.sums.now) c.args.pattern s) < 2 ^ 63
+small c s = omega (arith, term-small (places_z c.args.from c.args.sums.now) (places_z c.args.also c.args.sums.now) 6 c.args.pattern s c.requires.small (omega arith))
 
 returns : tie.Need-returns
 returns c =

@@ -3,12 +3,12 @@ use Prim.Native.Nat.{◌-◌, ◌≤◌}
 use native.Mathlib.Omega.{arith}
 use borrow.Author.Rules.{rules}
 use Rattle.laws.specs.Written.{Written, written_none, written-more}
-use Rattle.sum_terms.specs.SumTerms.{placesZ, rowZ}
+use Rattle.sum_terms.specs.SumTerms.{places_z, row_z}
 use Rattle.sum_terms.proofs.fold_sums.Statement.{statement}
 use Rattle.sum_terms.proofs.fold_sums.Tie as tie
 
 abbrev invariant-loop : tie.invariant-loop
-invariant-loop sums from also terms₀ pattern₀ terms pattern = (pattern ≤ 8) × Written [] (rowZ (placesZ from sums) (placesZ also sums)) terms₀ terms pattern
+invariant-loop sums from also terms₀ pattern₀ terms pattern = (pattern ≤ 8) × Written [] (row_z (places_z from sums) (places_z also sums)) terms₀ terms pattern
 
 abbrev decreases-loop : tie.decreases-loop
 decreases-loop sums from also terms₀ pattern₀ terms pattern = 8 - pattern

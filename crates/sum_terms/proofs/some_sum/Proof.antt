@@ -8,19 +8,19 @@ use lib.IntN.{ℤ, pos, nat_abs}
 use mir.Syntax.{w64}
 use mir.Val.{to_z, of_z}
 use Rattle.laws.specs.Signed.{read_at}
-use Rattle.sum_terms.specs.SumTerms.{placesZ, someSum}
+use Rattle.sum_terms.specs.SumTerms.{places_z, some_sum}
 use Rattle.sum_terms.specs.SumTermsLaws.{some-sum-none, some-sum-more, some-sum-here}
 use Rattle.sum_terms.proofs.some_sum.Statement.{statement}
 use Rattle.sum_terms.proofs.some_sum.Tie as tie
 
 abbrev invariant-loop : tie.invariant-loop
-invariant-loop sums from also j₀ j = (j ≤ 6) × (someSum j (placesZ from sums) (placesZ also sums) ≡ false)
+invariant-loop sums from also j₀ j = (j ≤ 6) × (some_sum j (places_z from sums) (places_z also sums) ≡ false)
 
 abbrev decreases-loop : tie.decreases-loop
 decreases-loop sums from also j₀ j = 6 - j
 
 loop-holds : tie.Need-loop-init invariant-loop decreases-loop
-loop-holds c = let a = c.args in (omega arith, some-sum-none (placesZ a.from a.sums.now) (placesZ a.also a.sums.now))
+loop-holds c = let a = c.args in (omega arith, some-sum-none (places_z a.from a.sums.now) (places_z a.also a.sums.now))
 
 add-if1 : tie.Need-overflow-add-if1 invariant-loop decreases-loop
 add-if1 c = omega arith
@@ -40,7 +40,7 @@ returns c =
     let l = c.before.before.before in
     let a = l.before.args in
     let j = l.loop.j in
-    sym (some-sum-here (placesZ a.from a.sums.now) (placesZ a.also a.sums.now) 6 j c.before.before.loop-test.true (inl (some_at (placesZ a.from a.sums.now j) c.if1.true)))
+    sym (some-sum-here (places_z a.from a.sums.now) (places_z a.also a.sums.now) 6 j c.before.before.loop-test.true (inl (some_at (places_z a.from a.sums.now j) c.if1.true)))
 
 add-if2 : tie.Need-overflow-add-if2 invariant-loop decreases-loop
 add-if2 c = omega arith
@@ -56,7 +56,7 @@ returns-2 c =
     let l = c.before.before.before.before.before in
     let a = l.before.args in
     let j = l.loop.j in
-    sym (some-sum-here (placesZ a.from a.sums.now) (placesZ a.also a.sums.now) 6 j c.before.before.before.before.loop-test.true (inr (some_at (placesZ a.also a.sums.now j) c.if2.true)))
+    sym (some-sum-here (places_z a.from a.sums.now) (places_z a.also a.sums.now) 6 j c.before.before.before.before.loop-test.true (inr (some_at (places_z a.also a.sums.now j) c.if2.true)))
 
 add-j : tie.Need-overflow-add-j invariant-loop decreases-loop
 add-j c = omega arith
@@ -73,7 +73,7 @@ loop-again c =
     let a = c.before.before.before.before.before.before.args in
     let l = c.before.before.before.before.before.loop in
     let t = c.before.before.before.before.before.before.requires.small l.j c.before.before.before.before.loop-test.true in
-    (omega arith, some-sum-more (placesZ a.from a.sums.now) (placesZ a.also a.sums.now) l.j l.invariant.1 (zero-at (placesZ a.from a.sums.now l.j) (omega (arith, t.0)) c.before.before.if1.false) (zero-at (placesZ a.also a.sums.now l.j) (omega (arith, t.1)) c.if2.false))
+    (omega arith, some-sum-more (places_z a.from a.sums.now) (places_z a.also a.sums.now) l.j l.invariant.1 (zero-at (places_z a.from a.sums.now l.j) (omega (arith, t.0)) c.before.before.if1.false) (zero-at (places_z a.also a.sums.now l.j) (omega (arith, t.1)) c.if2.false))
 
 done : (n : ℕ) → n ≤ 6 → 6 ≤ n → n ≡ 6
 done n a b = omega arith
@@ -82,7 +82,7 @@ returns-3 : tie.Need-returns-3 invariant-loop decreases-loop
 returns-3 c =
     let a = c.before.before.args in
     let l = c.before.loop in
-    sym (subst (λ (n : ℕ). someSum n (placesZ a.from a.sums.now) (placesZ a.also a.sums.now) ≡ false) (done l.j l.invariant.0 c.loop-test.false) l.invariant.1)
+    sym (subst (λ (n : ℕ). some_sum n (places_z a.from a.sums.now) (places_z a.also a.sums.now) ≡ false) (done l.j l.invariant.0 c.loop-test.false) l.invariant.1)
 
 pub some-sum-spec : {M : Type 1} → statement M
 some-sum-spec =

@@ -3,7 +3,7 @@ use mathlib.Core.Bool.{Bool}
 use Prim.Native.Nat.{◌+◌, ◌-◌}
 use Rattle.laws.specs.Words.{put}
 use Rattle.tally.specs.TallyLaws.{tally-eq}
-use Rattle.tally.specs.Tally.{withEdge}
+use Rattle.tally.specs.Tally.{with_edge}
 use borrow.Author.Rules.{rules}
 use Rattle.tally.proofs.with_edge.Statement.{statement}
 use Rattle.tally.proofs.with_edge.Tie as tie
@@ -39,7 +39,7 @@ abbrev start : tie.After-more-if4 → tie.Start
 start c = c.before.before.before.before.before.before.before.before.before.before
 
 returns : tie.Need-returns
-unfolding withEdge
+unfolding with_edge
 returns c =
     tally-eq _ refl
     (c.before.before.before.before.before.before.more-if.ensures ∙ ap (λ (x : Bool). put ◌+◌ x (start c).args.tally.horizontal_hits 1) c.before.before.before.before.before.before.before.belongs.ensures)

@@ -3,7 +3,7 @@ use mathlib.Core.Bool.{Bool}
 use Prim.Native.Nat.{◌+◌, ◌-◌}
 use Rattle.laws.specs.Words.{put}
 use Rattle.tally.specs.TallyLaws.{tally-eq}
-use Rattle.tally.specs.Tally.{withoutEdge}
+use Rattle.tally.specs.Tally.{without_edge}
 use borrow.Author.Rules.{rules}
 use Rattle.tally.proofs.without_edge.Statement.{statement}
 use Rattle.tally.proofs.without_edge.Tie as tie
@@ -39,7 +39,7 @@ abbrev start : tie.After-less-if5 → tie.Start
 start c = c.before.before.before.before.before.before.before.before.before.before
 
 returns : tie.Need-returns
-unfolding withoutEdge
+unfolding without_edge
 returns c =
     tally-eq _ c.before.before.before.before.before.before.before.before.less-if.ensures
     (c.before.before.before.before.before.before.less-if2.ensures ∙ ap (λ (x : Bool). put ◌-◌ x (start c).args.tally.horizontal_hits 1) c.before.before.before.before.before.before.before.belongs.ensures)

@@ -8,7 +8,7 @@ use mir.Val.{to_z, of_z}
 use Rattle.board.specs.Hits.{EdgeList, edges, size}
 use Rattle.tally_checks.specs.JudgedLaws.{RecordOk, add-taken-ok}
 use Rattle.tally_checks.specs.Edited.{edit-refused, edit-taken}
-use Rattle.tally_add.specs.Added.{addedTo}
+use Rattle.tally_add.specs.Added.{added_to}
 use borrow.Author.Rules.{rules}
 use Rattle.tally_add.proofs.tally_add.Statement.{statement}
 use Rattle.tally_add.proofs.tally_add.Tie as tie
@@ -101,7 +101,7 @@ same-length-10 : tie.Need-same-length-10
 same-length-10 c = search rules
 
 returns-2 : tie.Need-returns-2
-unfolding addedTo
+unfolding added_to
 returns-2 c = let a = c.before.before.before.before.before.before.before.before.before.before.before.before.before.before.before.before.before.before.args in edit-taken _ _ _ _ c.before.before.before.before.before.before.before.judge-add.result c.before.before.before.before.before.before.before.judge-add.ensures c.before.before.before.before.before.judged2.given.0.0 _ _ c.before.before.before.before.before.judged2.given.1 c.with-edge.ensures (ap₂ (λ (x y : ℤ). edges (set a.rows.now a.tally.edges x) (set a.cols.now a.tally.edges y) (set a.orientations.now a.tally.edges a.edge.orientation) (set a.bits.now a.tally.edges a.edge.bit) (set a.confidences.now a.tally.edges a.confidence)) (row_back c.before.before.before.before.before.before.before.before.before.before.before.before.before.before.before.before.before.before) (col-back c.before.before.before.before.before.before.before.before.before.before.before.before.before.before.before.before.before.before))
 
 pub tally-add-spec : {M : Type 1} → statement M

@@ -3,7 +3,7 @@ use lib.IntN.{ℤ}
 use mir.Syntax.{w32}
 use mir.Val.{to_z, of_z}
 use Rattle.board.specs.Hits.{tables}
-use Rattle.stats.specs.Stats.{statsAnswer}
+use Rattle.stats.specs.Stats.{stats_answer}
 use Rattle.tally_checks.specs.Judged.{alone}
 use Rattle.tally_checks.specs.JudgedLaws.{judged-refused, judged-counted}
 use borrow.Author.Rules.{rules}
@@ -18,12 +18,12 @@ col-back : (s : tie.Start) → to_z w32 (of_z w32 s.args.edge.col) ≡ s.args.ed
 col-back s = search rules
 
 -- what match statistics answered of the edge alone
-answered : (c : tie.After-match-stats) → let a = c.before.before.before.before.before.before.before.before.before.before.args in c.match-stats.result ≡ statsAnswer (alone a.edge a.confidence) a.square.transform a.square.row a.square.col (tables a.h.now a.v.now)
+answered : (c : tie.After-match-stats) → let a = c.before.before.before.before.before.before.before.before.before.before.args in c.match-stats.result ≡ stats_answer (alone a.edge a.confidence) a.square.transform a.square.row a.square.col (tables a.h.now a.v.now)
 answered c =
     let s = c.before.before.before.before.before.before.before.before.before.before in
     let a = s.args in
     c.match-stats.ensures
-    ∙ ap₂ (λ (x y : ℤ). statsAnswer (alone (record { row = x; col = y; orientation = a.edge.orientation; bit = a.edge.bit }) a.confidence) a.square.transform a.square.row a.square.col (tables a.h.now a.v.now)) (row_back s) (col-back s)
+    ∙ ap₂ (λ (x y : ℤ). stats_answer (alone (record { row = x; col = y; orientation = a.edge.orientation; bit = a.edge.bit }) a.confidence) a.square.transform a.square.row a.square.col (tables a.h.now a.v.now)) (row_back s) (col-back s)
 
 slice-aggregate-match-stats : tie.Need-slice-aggregate-match-stats
 slice-aggregate-match-stats c = search rules

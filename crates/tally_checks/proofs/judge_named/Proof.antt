@@ -2,7 +2,7 @@ use Rattle.board.specs.Hits.{edges, tables}
 use native.Mathlib.Omega.{arith}
 use Rattle.board.specs.declared.edge.Edge.{Edge}
 use Rattle.board.specs.Hits.{EdgeList, edges, tables}
-use Rattle.tally_checks.specs.Judged.{judgedThere, confidenceAt}
+use Rattle.tally_checks.specs.Judged.{judged_there, confidence_at}
 use Rattle.tally_checks.specs.JudgedLaws.{RecordOk, record-ok, named-record, named-missing, named-there}
 use mathlib.Core.Path.{sym, ap, ◌∙◌}
 use Rattle.tally_checks.specs.JudgedLaws.{named-record, named-missing, named-there}
@@ -51,7 +51,7 @@ returns-2 : tie.Need-returns-2
 returns-2 c = named-record _ _ _ _ c.before.before.before.record-admission.result c.before.before.before.record-admission.ensures c.before.admitted.given.0.0 c.before.admitted.given.1
 
 returns-3 : tie.Need-returns-3
-returns-3 c = c.judge-there.ensures ∙ ap (λ (e : Edge). judgedThere e (confidenceAt (E (start c)) (start c).args.position) (start c).args.position (start c).args.tally (tables (start c).args.h.now (start c).args.v.now)) c.before.before.edge_at.ensures ∙ named-there _ _ _ _ c.before.before.before.before.before.before.before.record-admission.result c.before.before.before.before.before.before.before.record-admission.ensures c.before.before.before.before.before.enum_told.given.1 c.before.before.before.if1.false
+returns-3 c = c.judge-there.ensures ∙ ap (λ (e : Edge). judged_there e (confidence_at (E (start c)) (start c).args.position) (start c).args.position (start c).args.tally (tables (start c).args.h.now (start c).args.v.now)) c.before.before.edge_at.ensures ∙ named-there _ _ _ _ c.before.before.before.before.before.before.before.record-admission.result c.before.before.before.before.before.before.before.record-admission.ensures c.before.before.before.before.before.enum_told.given.1 c.before.before.before.if1.false
 
 pub judge-named-spec : {M : Type 1} → statement M
 judge-named-spec =

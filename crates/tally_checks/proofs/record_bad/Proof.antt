@@ -1,5 +1,5 @@
 use borrow.Author.Tests.{lt-ltb, le-ltb}
-use Rattle.tally_checks.specs.Judged.{recordBad}
+use Rattle.tally_checks.specs.Judged.{record_bad}
 use borrow.Author.Rules.{rules}
 use Rattle.tally_checks.proofs.record_bad.Statement.{statement}
 use Rattle.tally_checks.proofs.record_bad.Tie as tie
@@ -8,7 +8,7 @@ cast-if1 : tie.Need-overflow-cast-if1
 cast-if1 c = search rules
 
 returns : tie.Need-returns
-unfolding recordBad
+unfolding record_bad
 returns c = simp (lt-ltb _ _ c.if1.true)
 
 cast-horizontal : tie.Need-overflow-cast-horizontal
@@ -36,7 +36,7 @@ cast-result : tie.Need-overflow-cast-result
 cast-result c = search rules
 
 returns-2 : tie.Need-returns-2
-unfolding recordBad
+unfolding record_bad
 returns-2 c = simp (le-ltb _ _ c.before.before.before.before.before.if1.false)
 
 pub record-bad-spec : {M : Type 1} → statement M

@@ -4,11 +4,11 @@ use Prim.Native.Nat.{ℕ, ◌-◌, ◌<◌}
 use native.Mathlib.Omega.{arith}
 use Rattle.board.specs.Hits.{EdgeList, edges, tables}
 use Rattle.tally.specs.declared.Tally.{Tally}
-use Rattle.tally.specs.Tally.{Adds, withEdge, withoutEdge}
-use Rattle.tally.specs.Counted.{listedAs, hitAt}
+use Rattle.tally.specs.Tally.{Adds, with_edge, without_edge}
+use Rattle.tally.specs.Counted.{listed_as, hit_at}
 use Rattle.tally_checks.specs.JudgedLaws.{NamedOk, named-taken-ok}
 use Rattle.tally_checks.specs.Edited.{edit-refused, edit-taken}
-use Rattle.tally_flip.specs.Flipped.{turned, flippedIn, still-adds}
+use Rattle.tally_flip.specs.Flipped.{turned, flipped_in, still-adds}
 use borrow.Author.Rules.{rules}
 use Rattle.tally_flip.proofs.tally_flip.Statement.{statement}
 use Rattle.tally_flip.proofs.tally_flip.Tie as tie
@@ -22,7 +22,7 @@ fits : (s : tie.Start) → s.args.tally.edges < 4294967296
 fits s = search rules
 
 -- the edge was taken: it exists
-known : (c : tie.After-judged2) → let s = c.before.before.before.before.before.before.before.before.before in NamedOk (E s) s.args.tally s.args.position (tables s.args.h.now s.args.v.now) × (c.judged2.given.0.0 ≡ hitAt (tables s.args.h.now s.args.v.now) (E s) s.args.tally.square s.args.position)
+known : (c : tie.After-judged2) → let s = c.before.before.before.before.before.before.before.before.before in NamedOk (E s) s.args.tally s.args.position (tables s.args.h.now s.args.v.now) × (c.judged2.given.0.0 ≡ hit_at (tables s.args.h.now s.args.v.now) (E s) s.args.tally.square s.args.position)
 known c = named-taken-ok _ _ _ _ c.judged2.given.0.0 (sym c.judged2.given.1 ∙ c.before.before.judge-named.ensures)
 
 judge-named-requires : tie.Need-judge-named-requires
@@ -62,8 +62,8 @@ same-length-2 : tie.Need-same-length-2
 same-length-2 c = search rules
 
 returns-2 : tie.Need-returns-2
-unfolding turned flippedIn
-returns-2 c = edit-taken _ _ _ _ c.before.before.before.before.before.before.before.judge-named.result c.before.before.before.before.before.before.before.judge-named.ensures c.before.before.before.before.before.judged2.given.0.0 _ _ c.before.before.before.before.before.judged2.given.1 (c.with-edge.ensures ∙ ap (λ (T : Tally). withEdge T (listedAs (E c.before.before.before.before.before.before.before.before.before.before.before.before.before.before) c.before.before.before.before.before.before.before.before.before.before.before.before.before.before.args.position) (not c.before.before.before.before.before.judged2.given.0.0)) c.before.without-edge.ensures) refl
+unfolding turned flipped_in
+returns-2 c = edit-taken _ _ _ _ c.before.before.before.before.before.before.before.judge-named.result c.before.before.before.before.before.before.before.judge-named.ensures c.before.before.before.before.before.judged2.given.0.0 _ _ c.before.before.before.before.before.judged2.given.1 (c.with-edge.ensures ∙ ap (λ (T : Tally). with_edge T (listed_as (E c.before.before.before.before.before.before.before.before.before.before.before.before.before.before) c.before.before.before.before.before.before.before.before.before.before.before.before.before.before.args.position) (not c.before.before.before.before.before.judged2.given.0.0)) c.before.without-edge.ensures) refl
 
 pub tally-flip-spec : {M : Type 1} → statement M
 tally-flip-spec =

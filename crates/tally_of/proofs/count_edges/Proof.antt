@@ -5,7 +5,7 @@ use Rattle.answer.specs.declared.Square.{Square}
 use Rattle.board.specs.Hits.{EdgeList, Board, edges, tables}
 use Rattle.board.specs.HitsLaws.{hit-edge}
 use Rattle.board.specs.DomainLaws.{edges-ok}
-use Rattle.tally.specs.Counted.{hitAt}
+use Rattle.tally.specs.Counted.{hit_at}
 use Rattle.tally_of.specs.BegunLaws.{Counting, counting-none, counting-edges, counting_more, counting-done}
 use Rattle.tally_of.proofs.count_edges.Statement.{statement}
 use Rattle.tally_of.proofs.count_edges.Tie as tie
@@ -55,7 +55,7 @@ loop-less : tie.Need-loop-smaller invariant-loop decreases-loop
 loop-less c = omega arith
 
 -- the hit of this turn, by the definition
-hit-here : (c : tie.After-hit-at invariant-loop decreases-loop) → let l = c.before in c.hit-at.result ≡ hitAt (B l) (E l) (q l) (at l)
+hit-here : (c : tie.After-hit-at invariant-loop decreases-loop) → let l = c.before in c.hit-at.result ≡ hit_at (B l) (E l) (q l) (at l)
 hit-here c = let l = c.before in c.hit-at.ensures ∙ hit-edge (B l) (E l) (q l).transform (q l).row (q l).col (at l)
 
 loop-again : tie.Need-loop-preserved invariant-loop decreases-loop

@@ -3,7 +3,7 @@ use native.Mathlib.Omega.{arith}
 use Rattle.board.specs.Hits.{EdgeList, edges, tables}
 use Rattle.tally_checks.specs.JudgedLaws.{NamedOk, named-taken-ok}
 use Rattle.tally_checks.specs.Edited.{edit-refused, edit-taken}
-use Rattle.tally_remove.specs.Removed.{removedFrom, edges-eq}
+use Rattle.tally_remove.specs.Removed.{removed_from, edges-eq}
 use borrow.Author.Rules.{rules}
 use Rattle.tally_remove.proofs.tally_remove.Statement.{statement}
 use Rattle.tally_remove.proofs.tally_remove.Tie as tie
@@ -83,7 +83,7 @@ same-length-10 : tie.Need-same-length-10
 same-length-10 c = search rules
 
 returns-2 : tie.Need-returns-2
-unfolding removedFrom
+unfolding removed_from
 returns-2 c = edit-taken _ _ _ _ c.before.before.before.before.before.before.before.before.before.before.before.before.before.before.before.before.before.before.before.before.before.before.before.before.judge-named.result c.before.before.before.before.before.before.before.before.before.before.before.before.before.before.before.before.before.before.before.before.before.before.before.before.judge-named.ensures c.before.before.before.before.before.before.before.before.before.before.before.before.before.before.before.before.before.before.before.before.before.before.judged2.given.0.0 _ _ c.before.before.before.before.before.before.before.before.before.before.before.before.before.before.before.before.before.before.before.before.before.before.judged2.given.1 c.without-edge.ensures (edges-eq c.before.before.before.before.before.before.before.before.before.before.before.before.before.before.before.before.before.close-i32.ensures c.before.before.before.before.before.before.before.before.before.before.before.before.before.before.close-i322.ensures c.before.before.before.before.before.before.before.before.before.before.before.close-u8.ensures c.before.before.before.before.before.before.before.close-u82.ensures c.before.before.before.close-f32.ensures)
 
 pub tally-remove-spec : {M : Type 1} → statement M

@@ -2,13 +2,13 @@ use mathlib.Core.List.{[]}
 use Prim.Native.Nat.{◌-◌, ◌≤◌}
 use native.Mathlib.Omega.{arith}
 use Rattle.laws.specs.Written.{Written, written_none, written-more}
-use Rattle.terms.specs.Terms.{placesN, placesF, row}
+use Rattle.terms.specs.Terms.{places_n, places_f, row}
 use borrow.Author.Rules.{rules}
 use Rattle.terms.proofs.fold_family.Statement.{statement}
 use Rattle.terms.proofs.fold_family.Tie as tie
 
 abbrev invariant-loop : tie.invariant-loop
-invariant-loop counts weights from terms₀ pattern₀ terms pattern = (pattern ≤ 8) × Written [] (row (placesN from counts) (placesF from weights)) terms₀ terms pattern
+invariant-loop counts weights from terms₀ pattern₀ terms pattern = (pattern ≤ 8) × Written [] (row (places_n from counts) (places_f from weights)) terms₀ terms pattern
 
 abbrev decreases-loop : tie.decreases-loop
 decreases-loop counts weights from terms₀ pattern₀ terms pattern = 8 - pattern

@@ -4,19 +4,19 @@ use Prim.Native.Nat.{ℕ, ◌+◌, ◌-◌, ◌≤◌}
 use native.Mathlib.Omega.{arith}
 use lib.Ieee.{add, binary32}
 use Rattle.laws.specs.Words.{fold}
-use Rattle.terms.specs.Terms.{termSum, termC, termW, term, placesN, placesF}
+use Rattle.terms.specs.Terms.{term_sum, term_c, term_w, term, places_n, places_f}
 use Rattle.terms.specs.TermsLaws.{so_far, term-empty, term-no, term-yes}
 use Rattle.terms.proofs.fold_term.Statement.{statement}
 use Rattle.terms.proofs.fold_term.Tie as tie
 
 abbrev invariant-loop : tie.invariant-loop
-invariant-loop counts weights from pattern s count₀ weight₀ j₀ count weight j = (j ≤ 6) × (count ≡ termC j (placesN from counts) pattern s) × (weight ≡ termW j (placesN from counts) (placesF from weights) pattern s)
+invariant-loop counts weights from pattern s count₀ weight₀ j₀ count weight j = (j ≤ 6) × (count ≡ term_c j (places_n from counts) pattern s) × (weight ≡ term_w j (places_n from counts) (places_f from weights) pattern s)
 
 abbrev decreases-loop : tie.decreases-loop
 decreases-loop counts weights from pattern s count₀ weight₀ j₀ count weight j = 6 - j
 
 loop-holds : tie.Need-loop-init invariant-loop decreases-loop
-unfolding termSum fold lib.Ieee.of_bits
+unfolding term_sum fold lib.Ieee.of_bits
 loop-holds c = (omega arith, refl, refl)
 
 cast-at : tie.Need-overflow-cast-at invariant-loop decreases-loop
@@ -45,7 +45,7 @@ add-count c =
     let st = c.before.before.before.before.before.before.before.before in
     let a = st.args in
     let l = c.before.before.before.before.before.loop in
-    omega (arith, l.invariant.1, so_far (placesN a.from a.counts.now) a.pattern a.s l.j (omega arith), st.requires.0.few)
+    omega (arith, l.invariant.1, so_far (places_n a.from a.counts.now) a.pattern a.s l.j (omega arith), st.requires.0.few)
 
 mul-weight : tie.Need-overflow-mul-weight invariant-loop decreases-loop
 mul-weight c = omega arith
@@ -63,8 +63,8 @@ loop-again : tie.Need-loop-preserved invariant-loop decreases-loop
 loop-again c =
     let a = c.before.before.before.before.before.before.args in
     let l = c.before.before.before.loop in
-    let cs = placesN a.from a.counts.now in
-    let ws = placesF a.from a.weights.now in
+    let cs = places_n a.from a.counts.now in
+    let ws = places_f a.from a.weights.now in
     ⊎_elim
     (λ w.
     let t = term-yes cs ws a.pattern a.s l.j w.1.result w.0.taken w.1.ensures w.2.taken in

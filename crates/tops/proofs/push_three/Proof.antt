@@ -1,4 +1,4 @@
-use Rattle.tops.specs.Tops.{pushedThree}
+use Rattle.tops.specs.Tops.{pushed_three}
 use borrow.Author.Rules.{rules}
 use Rattle.tops.proofs.push_three.Statement.{statement}
 use Rattle.tops.proofs.push_three.Tie as tie
@@ -22,7 +22,7 @@ push-requires-3 : tie.Need-push-requires-3
 push-requires-3 c κs = search rules
 
 returns : tie.Need-returns
-unfolding pushedThree
+unfolding pushed_three
 returns c = rw (c.push3.ensures, c.before.push2.ensures, c.before.before.push.ensures)
 
 pub push-three-spec : {M : Type 1} → statement M

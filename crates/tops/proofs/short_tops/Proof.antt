@@ -4,14 +4,14 @@ use Prim.Native.Nat.{◌-◌, ◌≤◌, ◌<◌}
 use native.Mathlib.Omega.{arith}
 use lib.ListN.{length}
 use Rattle.board.specs.Hits.{EdgeList, Board, edges, tables}
-use Rattle.tops.specs.Tops.{shortTops}
+use Rattle.tops.specs.Tops.{short_tops}
 use Rattle.tops.specs.TopsLaws.{short_none, short-more}
 use Rattle.tops.proofs.short_tops.Statement.{statement}
 use Rattle.tops.proofs.short_tops.Tie as tie
 
 abbrev invariant-loop : tie.invariant-loop
 invariant-loop rows cols orientations bits t h v period top₀ long₀ top long =
-    (long ≤ period) × (top ≡ shortTops (tables h v) (edges rows cols orientations bits []) t long)
+    (long ≤ period) × (top ≡ short_tops (tables h v) (edges rows cols orientations bits []) t long)
 
 abbrev decreases-loop : tie.decreases-loop
 decreases-loop rows cols orientations bits t h v period top₀ long₀ top long = period - long
@@ -58,7 +58,7 @@ returns c =
     let a = c.before in
     let s = a.before.before.before.before.before in
     let e : a.loop.long ≡ length s.args.v.now = omega (arith, a.loop.invariant.0, c.loop-test.false) in
-    a.loop.invariant.1 ∙ ap (shortTops _ _ _) e
+    a.loop.invariant.1 ∙ ap (short_tops _ _ _) e
 
 pub short-tops-spec : {M : Type 1} → statement M
 short-tops-spec =

@@ -4,23 +4,23 @@ use mathlib.Core.List.{[]}
 use Prim.Native.Nat.{ℕ, ◌*◌, ◌-◌, ◌≤◌, ◌<◌}
 use native.Mathlib.Omega.{arith}
 use Rattle.board.specs.Hits.{EdgeList, Board, edges, tables}
-use Rattle.board.specs.Sides.{periodOf}
+use Rattle.board.specs.Sides.{period_of}
 use Rattle.board.specs.Domain.{BoardOk}
-use Rattle.classes.specs.Classes.{classHits}
-use Rattle.tops.specs.Tops.{topTo}
+use Rattle.classes.specs.Classes.{class_hits}
+use Rattle.tops.specs.Tops.{top_to}
 use Rattle.tops.specs.TopsLaws.{top-none, top-three}
 use Rattle.tops.proofs.side_top.Statement.{statement}
 use Rattle.tops.proofs.side_top.Tie as tie
 
 abbrev invariant-loop : tie.invariant-loop
 invariant-loop rows cols orientations bits t horizontal h v period top₀ long₀ top long =
-    (long ≤ period) × (top ≡ topTo (classHits (tables h v) (edges rows cols orientations bits []) t horizontal) (long * 3))
+    (long ≤ period) × (top ≡ top_to (class_hits (tables h v) (edges rows cols orientations bits []) t horizontal) (long * 3))
 
 abbrev decreases-loop : tie.decreases-loop
 decreases-loop rows cols orientations bits t horizontal h v period top₀ long₀ top long = period - long
 
 -- a table has at most 500 patterns
-few : (B : Board) → BoardOk B → (s : Bool) → periodOf B s ≤ 500
+few : (B : Board) → BoardOk B → (s : Bool) → period_of B s ≤ 500
 few B ok true = ok.h.few
 few B ok false = ok.v.few
 
@@ -68,9 +68,9 @@ returns : tie.Need-returns invariant-loop decreases-loop
 returns c =
     let a = c.before in
     let s = a.before.before.before.before.before.before in
-    let e : a.loop.long ≡ periodOf (tables s.args.h.now s.args.v.now) s.args.horizontal = omega (arith, a.loop.invariant.0, c.loop-test.false, a.before.period-of.ensures) in
+    let e : a.loop.long ≡ period_of (tables s.args.h.now s.args.v.now) s.args.horizontal = omega (arith, a.loop.invariant.0, c.loop-test.false, a.before.period-of.ensures) in
     let x = s.args in
-    a.loop.invariant.1 ∙ ap (λ (n : ℕ). topTo (classHits (tables x.h.now x.v.now) (edges x.rows.now x.cols.now x.orientations.now x.bits.now []) x.t x.horizontal) (n * 3)) e
+    a.loop.invariant.1 ∙ ap (λ (n : ℕ). top_to (class_hits (tables x.h.now x.v.now) (edges x.rows.now x.cols.now x.orientations.now x.bits.now []) x.t x.horizontal) (n * 3)) e
 
 pub side-top-spec : {M : Type 1} → statement M
 side-top-spec =

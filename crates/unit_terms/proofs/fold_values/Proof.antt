@@ -4,13 +4,13 @@ use Prim.Native.Nat.{◌-◌, ◌≤◌}
 use native.Mathlib.Omega.{arith}
 use borrow.Author.Rules.{rules}
 use Rattle.laws.specs.Written.{Written, written_none, written-more}
-use Rattle.terms.specs.Terms.{placesN}
-use Rattle.unit_terms.specs.UnitTerms.{valueRow}
+use Rattle.terms.specs.Terms.{places_n}
+use Rattle.unit_terms.specs.UnitTerms.{value_row}
 use Rattle.unit_terms.proofs.fold_values.Statement.{statement}
 use Rattle.unit_terms.proofs.fold_values.Tie as tie
 
 abbrev invariant-loop : tie.invariant-loop
-invariant-loop values from terms₀ pattern₀ terms pattern = (pattern ≤ 8) × Written [] (valueRow (placesN from values)) terms₀ terms pattern
+invariant-loop values from terms₀ pattern₀ terms pattern = (pattern ≤ 8) × Written [] (value_row (places_n from values)) terms₀ terms pattern
 
 abbrev decreases-loop : tie.decreases-loop
 decreases-loop values from terms₀ pattern₀ terms pattern = 8 - pattern

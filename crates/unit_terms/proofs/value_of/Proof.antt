@@ -7,7 +7,7 @@ use lib.Ieee.{Float}
 use mir.Syntax.{w64}
 use Rattle.laws.specs.Signed.{read, read_at}
 use Rattle.likelihood.specs.Signs.{cast-size}
-use Rattle.unit_terms.specs.Values.{unit_of, oneHit}
+use Rattle.unit_terms.specs.Values.{unit_of, one_hit}
 use Rattle.unit_terms.specs.ValuesLaws.{weight-acceptable, quantised-unit, unit-small, value-is}
 use Rattle.unit_terms.proofs.value_of.Statement.{statement}
 use Rattle.unit_terms.proofs.value_of.Tie as tie
@@ -33,7 +33,7 @@ add-result : tie.Need-overflow-add-result
 add-result c = omega (arith, few c, ap nat_abs (back c))
 
 returns : tie.Need-returns
-returns c = ap (λ z. oneHit + nat_abs z) (back c) ∙ sym (value-is (x c))
+returns c = ap (λ z. one_hit + nat_abs z) (back c) ∙ sym (value-is (x c))
 
 pub value-of-spec : {M : Type 1} → statement M
 value-of-spec = tie.close (tie.spec quantize-ll-requires cast-units add-result returns)

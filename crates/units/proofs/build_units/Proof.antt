@@ -1,6 +1,6 @@
 -- Stage by stage: the used room is cleared, the groups are filled, then the horizontal cells stand, then the vertical ones.
 use Rattle.board.specs.Hits.{EdgeList, Board, edges, tables}
-use Rattle.units.specs.UnitsStages.{periods-okU, groups-readyU, h-readyU, v-readyU, units-built}
+use Rattle.units.specs.UnitsStages.{periods-ok_u, groups-ready_u, h-ready_u, v-ready_u, units-built}
 use borrow.Author.Rules.{rules}
 use Rattle.units.proofs.build_units.Statement.{statement}
 use Rattle.units.proofs.build_units.Tie as tie
@@ -29,7 +29,7 @@ fill-units-requires : tie.Need-fill-units-requires
 fill-units-requires c κs =
     let o = c.before in
     let k = o.before.before.before in
-    groups-readyU (board k) (list k) _ _ (st k).requires _ k.before.before.used-by-tables.ensures _ k.clear-u64.ensures _ o.horizontal.ensures
+    groups-ready_u (board k) (list k) _ _ (st k).requires _ k.before.before.used-by-tables.ensures _ k.clear-u64.ensures _ o.horizontal.ensures
 
 -- filled: the horizontal side as `horizontal` told of it
 module _ (f : tie.After-fill-units) where
@@ -42,20 +42,20 @@ module _ (f : tie.After-fill-units) where
 build-unit-side-requires : tie.Need-build-unit-side-requires
 build-unit-side-requires c κs =
     let f = c.before.before.before in
-    h-readyU (board (k f)) (list (k f)) _ _ (st (k f)).pre _ (k f).before.before.used-by-tables.ensures _ (k f).clear-u64.ensures _ (o f).horizontal.ensures _ f.fill-units.ensures
+    h-ready_u (board (k f)) (list (k f)) _ _ (st (k f)).pre _ (k f).before.before.used-by-tables.ensures _ (k f).clear-u64.ensures _ (o f).horizontal.ensures _ f.fill-units.ensures
 
 vertical-requires : tie.Need-vertical-requires
 vertical-requires c κs =
     let b = c.before.before in
     let f = b.before.before.before.before in
-    periods-okU (board (k f)) (list (k f)) _ _ (st (k f)).pre
+    periods-ok_u (board (k f)) (list (k f)) _ _ (st (k f)).pre
 
 build-unit-side-requires-2 : tie.Need-build-unit-side-requires-2
 build-unit-side-requires-2 c κs =
     let n = c.before in
     let b = n.before.before.before in
     let f = b.before.before.before.before in
-    v-readyU (board (k f)) (list (k f)) _ _ (st (k f)).pre _ (k f).before.before.used-by-tables.ensures _ (k f).clear-u64.ensures _ (o f).horizontal.ensures _ f.fill-units.ensures _ b.build-unit-side.ensures _ n.vertical.ensures
+    v-ready_u (board (k f)) (list (k f)) _ _ (st (k f)).pre _ (k f).before.before.used-by-tables.ensures _ (k f).clear-u64.ensures _ (o f).horizontal.ensures _ f.fill-units.ensures _ b.build-unit-side.ensures _ n.vertical.ensures
 
 -- the room at the end
 done : tie.Need-returns

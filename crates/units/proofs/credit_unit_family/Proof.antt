@@ -1,7 +1,7 @@
 -- A family whose six values are 0 together has terms of 0, so that storing nothing is crediting it.
 use mathlib.Core.Path.{sym, ◌∙◌}
 use Rattle.board.specs.Hits.{tables}
-use Rattle.units.specs.UnitPartsLaws.{family-emptyU}
+use Rattle.units.specs.UnitPartsLaws.{family-empty_u}
 use borrow.Author.Rules.{rules}
 use Rattle.units.proofs.credit_unit_family.Statement.{statement}
 use Rattle.units.proofs.credit_unit_family.Tie as tie
@@ -31,7 +31,7 @@ same-length-2 c = search rules
 returns-2 : tie.Need-returns-2
 returns-2 c =
     let a = c.before.before.before.before.before.before.before.args in
-    family-emptyU (tables a.h.now a.v.now) a.side a.family a.units.now (sym c.before.values-held.ensures ∙ c.if1.false)
+    family-empty_u (tables a.h.now a.v.now) a.side a.family a.units.now (sym c.before.values-held.ensures ∙ c.if1.false)
 
 pub credit-unit-family-spec : {M : Type 1} → statement M
 credit-unit-family-spec =

@@ -7,11 +7,11 @@ use native.Mathlib.Nat.{le_refl, le_trans, le-add_left, lt_of_le_of_lt, add-le-a
 use native.Mathlib.Omega.{arith}
 use lib.ListN.{length, drop, length-drop}
 use Rattle.board.specs.Hits.{Board, tables}
-use Rattle.board.specs.Sides.{table_of, periodOf}
-use Rattle.room.specs.Room.{isHorizontal}
+use Rattle.board.specs.Sides.{table_of, period_of}
+use Rattle.room.specs.Room.{is_horizontal}
 use Rattle.cells.specs.RunLaws.{first-stride}
 use Rattle.units.specs.UnitParts.{RunCreditedU}
-use Rattle.units.specs.UnitPartsLaws.{first-readyU, second-readyU, family-creditedU}
+use Rattle.units.specs.UnitPartsLaws.{first-ready_u, second-ready_u, family-credited_u}
 use borrow.Author.Rules.{rules}
 use Rattle.units.proofs.credit_unit_held.Statement.{statement}
 use Rattle.units.proofs.credit_unit_held.Tie as tie
@@ -37,7 +37,7 @@ module _ (c : tie.After-patterns-from) where
   B = tables st.args.h.now st.args.v.now
 
   abbrev s : Bool
-  s = isHorizontal st.args.side
+  s = is_horizontal st.args.side
 
   abbrev ps : List ℕ
   ps = table_of B s
@@ -52,7 +52,7 @@ credit-unit-run-requires : tie.Need-credit-unit-run-requires
 credit-unit-run-requires c κs =
     let p = c.before in
     let a = (st p).args in
-    rw (read p) (first-readyU (B p) a.side a.family a.units.now (st p).requires p.before.fold-values.result p.before.fold-values.ensures _ (length-drop a.family (ps p)))
+    rw (read p) (first-ready_u (B p) a.side a.family a.units.now (st p).requires p.before.fold-values.result p.before.fold-values.ensures _ (length-drop a.family (ps p)))
 
 patterns-from-requires-2 : tie.Need-patterns-from-requires-2
 patterns-from-requires-2 c κs = search rules
@@ -62,7 +62,7 @@ module _ (c : tie.After-credit-unit-run) where
   abbrev found : tie.After-patterns-from
   found = c.before.before
 
-  into : length found.patterns-from.result.now * (st found).args.side.stride ≤ 3 * periodOf (B found) (s found)
+  into : length found.patterns-from.result.now * (st found).args.side.stride ≤ 3 * period_of (B found) (s found)
   into =
       let a = (st found).args in
       rw (long found) (first-stride (B found) a.side a.family (st found).pre.places)
@@ -89,7 +89,7 @@ credit-unit-run-requires-2 c κs =
     let r = c.before.before.before.before in
     let p = found r in
     let a = (st p).args in
-    rw c.before.patterns-from2.ensures (second-readyU (B p) a.side a.family a.units.now (st p).pre p.before.fold-values.result p.before.fold-values.ensures _ (first r) _ (ap (λ (n : ℕ). a.side.cells + n * a.side.stride) (long p)))
+    rw c.before.patterns-from2.ensures (second-ready_u (B p) a.side a.family a.units.now (st p).pre p.before.fold-values.result p.before.fold-values.ensures _ (first r) _ (ap (λ (n : ℕ). a.side.cells + n * a.side.stride) (long p)))
 
 same_length : tie.Need-same-length
 same_length c = search rules
@@ -101,7 +101,7 @@ returns c =
     let r = q.before.before.before in
     let p = found r in
     let a = (st p).args in
-    family-creditedU (B p) a.side a.family a.units.now (st p).pre p.before.fold-values.result p.before.fold-values.ensures _ (first r) _ (rw (q.patterns-from2.ensures, long p) at e.credit-unit-run2.ensures)
+    family-credited_u (B p) a.side a.family a.units.now (st p).pre p.before.fold-values.result p.before.fold-values.ensures _ (first r) _ (rw (q.patterns-from2.ensures, long p) at e.credit-unit-run2.ensures)
 
 pub credit-unit-held-spec : {M : Type 1} → statement M
 credit-unit-held-spec =

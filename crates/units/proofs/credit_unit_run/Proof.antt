@@ -8,7 +8,7 @@ use lib.ListN.{length, get_or, set}
 use Rattle.cells.specs.Credit.{entry}
 use Rattle.cells.specs.RunLaws.{run-place}
 use Rattle.tables.specs.Runs.{run_none, run_room, run_more}
-use Rattle.units.specs.UnitParts.{takesU, RunCellsU}
+use Rattle.units.specs.UnitParts.{takes_u, RunCellsU}
 use Rattle.units.proofs.credit_unit_run.Statement.{statement}
 use Rattle.units.proofs.credit_unit_run.Tie as tie
 
@@ -19,7 +19,7 @@ abbrev decreases-loop : tie.decreases-loop
 decreases-loop units₀ part n at stride across terms i₀ units i = n - i
 
 loop-holds : tie.Need-loop-init invariant-loop decreases-loop
-loop-holds c = (omega arith, run_none 0 ◌+◌ takesU _ _ _ _ _ _ _ c.before.before.requires)
+loop-holds c = (omega arith, run_none 0 ◌+◌ takes_u _ _ _ _ _ _ _ c.before.before.requires)
 
 shared-slice-read-pattern : tie.Need-shared-slice-read-pattern invariant-loop decreases-loop
 shared-slice-read-pattern c = omega arith
@@ -35,8 +35,8 @@ module _ (c : tie.In-loop invariant-loop decreases-loop) where
   small : get_or st.args.part.now i 0 < 8
   small = st.pre.places.small i c.loop-test.true
 
-  abbrev termOf : ℕ → ℕ
-  termOf j = entry 0 st.args.t2 (get_or st.args.part.now i 0) j
+  abbrev term_of : ℕ → ℕ
+  term_of j = entry 0 st.args.t2 (get_or st.args.part.now i 0) j
 
   -- where its cells stand
   inside : (j : ℕ) → j < 3 → st.args.at + (i * st.args.stride + j * st.args.across) < length st.args.units.now
@@ -46,33 +46,33 @@ module _ (c : tie.In-loop invariant-loop decreases-loop) where
   cell = st.args.at + i * st.args.stride
 
   -- the first cell's room, and the run with it
-  room₀ : (cell < length c.before.loop.units) × (get_or c.before.loop.units cell 0 + termOf 0 < 2 ^ 64)
-  room₀ = run_room 0 ◌+◌ takesU _ _ _ _ _ _ _ st.pre i 0 (i * 3) cell (termOf 0) c.loop-test.true (lit< tt) (omega arith) (omega arith) refl _ c.before.loop.invariant.1
+  room₀ : (cell < length c.before.loop.units) × (get_or c.before.loop.units cell 0 + term_of 0 < 2 ^ 64)
+  room₀ = run_room 0 ◌+◌ takes_u _ _ _ _ _ _ _ st.pre i 0 (i * 3) cell (term_of 0) c.loop-test.true (lit< tt) (omega arith) (omega arith) refl _ c.before.loop.invariant.1
 
-  more₀ : (a : List ℕ) → a ≡ set c.before.loop.units cell (get_or c.before.loop.units cell 0 + termOf 0) → RunCellsU st.args.t2 st.args.part.now st.args.at st.args.stride st.args.across (i * 3 + 1) st.args.units.now a
-  more₀ a p = run_more 0 ◌+◌ takesU _ _ _ _ _ _ _ st.pre i 0 (i * 3) cell (termOf 0) c.loop-test.true (lit< tt) (omega arith) (omega arith) refl _ c.before.loop.invariant.1 (i * 3 + 1) refl a p
+  more₀ : (a : List ℕ) → a ≡ set c.before.loop.units cell (get_or c.before.loop.units cell 0 + term_of 0) → RunCellsU st.args.t2 st.args.part.now st.args.at st.args.stride st.args.across (i * 3 + 1) st.args.units.now a
+  more₀ a p = run_more 0 ◌+◌ takes_u _ _ _ _ _ _ _ st.pre i 0 (i * 3) cell (term_of 0) c.loop-test.true (lit< tt) (omega arith) (omega arith) refl _ c.before.loop.invariant.1 (i * 3 + 1) refl a p
 
   -- the second
-  module _ (a₁ : List ℕ) (p₁ : a₁ ≡ set c.before.loop.units cell (get_or c.before.loop.units cell 0 + termOf 0)) where
+  module _ (a₁ : List ℕ) (p₁ : a₁ ≡ set c.before.loop.units cell (get_or c.before.loop.units cell 0 + term_of 0)) where
     abbrev cell₁ : ℕ
     cell₁ = cell + st.args.across
 
-    room₁ : (cell₁ < length a₁) × (get_or a₁ cell₁ 0 + termOf 1 < 2 ^ 64)
-    room₁ = run_room 0 ◌+◌ takesU _ _ _ _ _ _ _ st.pre i 1 (i * 3 + 1) cell₁ (termOf 1) c.loop-test.true (lit< tt) (omega arith) (omega arith) refl _ (more₀ a₁ p₁)
+    room₁ : (cell₁ < length a₁) × (get_or a₁ cell₁ 0 + term_of 1 < 2 ^ 64)
+    room₁ = run_room 0 ◌+◌ takes_u _ _ _ _ _ _ _ st.pre i 1 (i * 3 + 1) cell₁ (term_of 1) c.loop-test.true (lit< tt) (omega arith) (omega arith) refl _ (more₀ a₁ p₁)
 
-    more₁ : (a : List ℕ) → a ≡ set a₁ cell₁ (get_or a₁ cell₁ 0 + termOf 1) → RunCellsU st.args.t2 st.args.part.now st.args.at st.args.stride st.args.across (i * 3 + 2) st.args.units.now a
-    more₁ a p = run_more 0 ◌+◌ takesU _ _ _ _ _ _ _ st.pre i 1 (i * 3 + 1) cell₁ (termOf 1) c.loop-test.true (lit< tt) (omega arith) (omega arith) refl _ (more₀ a₁ p₁) (i * 3 + 2) (omega arith) a p
+    more₁ : (a : List ℕ) → a ≡ set a₁ cell₁ (get_or a₁ cell₁ 0 + term_of 1) → RunCellsU st.args.t2 st.args.part.now st.args.at st.args.stride st.args.across (i * 3 + 2) st.args.units.now a
+    more₁ a p = run_more 0 ◌+◌ takes_u _ _ _ _ _ _ _ st.pre i 1 (i * 3 + 1) cell₁ (term_of 1) c.loop-test.true (lit< tt) (omega arith) (omega arith) refl _ (more₀ a₁ p₁) (i * 3 + 2) (omega arith) a p
 
     -- the third
-    module _ (a₂ : List ℕ) (p₂ : a₂ ≡ set a₁ cell₁ (get_or a₁ cell₁ 0 + termOf 1)) where
+    module _ (a₂ : List ℕ) (p₂ : a₂ ≡ set a₁ cell₁ (get_or a₁ cell₁ 0 + term_of 1)) where
       abbrev cell₂ : ℕ
       cell₂ = cell + 2 * st.args.across
 
-      room₂ : (cell₂ < length a₂) × (get_or a₂ cell₂ 0 + termOf 2 < 2 ^ 64)
-      room₂ = run_room 0 ◌+◌ takesU _ _ _ _ _ _ _ st.pre i 2 (i * 3 + 2) cell₂ (termOf 2) c.loop-test.true (lit< tt) (omega arith) (omega arith) refl _ (more₁ a₂ p₂)
+      room₂ : (cell₂ < length a₂) × (get_or a₂ cell₂ 0 + term_of 2 < 2 ^ 64)
+      room₂ = run_room 0 ◌+◌ takes_u _ _ _ _ _ _ _ st.pre i 2 (i * 3 + 2) cell₂ (term_of 2) c.loop-test.true (lit< tt) (omega arith) (omega arith) refl _ (more₁ a₂ p₂)
 
-      more₂ : (a : List ℕ) → a ≡ set a₂ cell₂ (get_or a₂ cell₂ 0 + termOf 2) → RunCellsU st.args.t2 st.args.part.now st.args.at st.args.stride st.args.across ((i + 1) * 3) st.args.units.now a
-      more₂ a p = run_more 0 ◌+◌ takesU _ _ _ _ _ _ _ st.pre i 2 (i * 3 + 2) cell₂ (termOf 2) c.loop-test.true (lit< tt) (omega arith) (omega arith) refl _ (more₁ a₂ p₂) ((i + 1) * 3) (omega arith) a p
+      more₂ : (a : List ℕ) → a ≡ set a₂ cell₂ (get_or a₂ cell₂ 0 + term_of 2) → RunCellsU st.args.t2 st.args.part.now st.args.at st.args.stride st.args.across ((i + 1) * 3) st.args.units.now a
+      more₂ a p = run_more 0 ◌+◌ takes_u _ _ _ _ _ _ _ st.pre i 2 (i * 3 + 2) cell₂ (term_of 2) c.loop-test.true (lit< tt) (omega arith) (omega arith) refl _ (more₁ a₂ p₂) ((i + 1) * 3) (omega arith) a p
 
 cast-pattern : tie.Need-overflow-cast-pattern invariant-loop decreases-loop
 cast-pattern c = omega (arith, small c.before)

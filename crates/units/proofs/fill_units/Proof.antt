@@ -8,12 +8,12 @@ use Rattle.laws.specs.declared.Modulus.{Modulus}
 use Rattle.laws.specs.Modulus.{modulus-n, modulus-ok}
 use Rattle.board.specs.Hits.{EdgeList, edges}
 use Rattle.board.specs.DomainLaws.{edges-ok, edge-ok}
-use Rattle.room.specs.Room.{rowLength}
-use Rattle.groups.specs.Fill.{placeAt}
+use Rattle.room.specs.Room.{row_length}
+use Rattle.groups.specs.Fill.{place_at}
 use Rattle.groups.specs.FillLaws.{place-held}
 use Rattle.units.specs.Units.{value_at}
 use Rattle.units.specs.UnitParts.{UnitsFillReady, UnitsFilled}
-use Rattle.units.specs.UnitPartsLaws.{ready-heldU, filled-heldU, units-none, unit-room, units-more}
+use Rattle.units.specs.UnitPartsLaws.{ready-held_u, filled-held_u, units-none, unit-room, units-more}
 use Rattle.units.proofs.fill_units.Statement.{statement}
 use Rattle.units.proofs.fill_units.Tie as tie
 
@@ -61,7 +61,7 @@ module _ (c : tie.After-modulus-of2 invariant-loop decreases-loop) where
   v-is = modulus-n _ _ c.modulus-of2.ensures
 
   ready : UnitsFillReady h.n v.n E st.args.t st.args.base st.args.units.now
-  ready = ready-heldU _ _ _ _ E _ _ h-is v-is _ st.pre
+  ready = ready-held_u _ _ _ _ E _ _ h-is v-is _ st.pre
 
 loop-holds : tie.Need-loop-init invariant-loop decreases-loop
 loop-holds c = (omega arith, units-none _ _ (E c) _ _ _ (ready c))
@@ -101,7 +101,7 @@ module _ (c : tie.After-group-place invariant-loop decreases-loop) where
   abbrev at : ℕ
   at = (st made).args.base + p
 
-  told : (p ≡ placeAt (h made).n (v made).n (E made) (st made).args.t i) × (p < rowLength (h made).n (v made).n)
+  told : (p ≡ place_at (h made).n (v made).n (E made) (st made).args.t i) × (p < row_length (h made).n (v made).n)
   told = place-held _ _ _ _ (E made) (st made).args.t i _ p refl refl c.before.edge_at.ensures c.group-place.ensures
 
   room : (at < length units) × (get_or units at 0 + value_at (E made) i < 2 ^ 64)
@@ -156,7 +156,7 @@ returns c =
     let m = c.before.before in
     let a = (st m).args in
     let e : l.i ≡ length a.rows.now = omega (arith, l.invariant.0, c.loop-test.false) in
-    filled-heldU _ _ _ _ (E m) a.t a.base (h-is m) (v-is m) _ _ e _ _ l.invariant.1
+    filled-held_u _ _ _ _ (E m) a.t a.base (h-is m) (v-is m) _ _ e _ _ l.invariant.1
 
 pub fill-units-spec : {M : Type 1} → statement M
 fill-units-spec =

@@ -22,7 +22,7 @@ allowed-requires : tie.Need-allowed-requires
 allowed-requires c κs = search rules
 
 returns : tie.Need-returns
-returns c = let s = c.before.before.before.before.before.before in told-yes (E s) s.args.error-limit s.args.stop (sym c.before.allowed.ensures ∙ c.if1.true)
+returns c = let s = c.before.before.before.before.before.before in told-yes (E s) s.args.error_limit s.args.stop (sym c.before.allowed.ensures ∙ c.if1.true)
 
 sub-allowed : tie.Need-overflow-sub-allowed
 sub-allowed c = search rules
@@ -38,7 +38,7 @@ fault-at-requires c κs =
     let e = c.before.before.before in
     let a = e.before in
     let s = a.before.before.before.before.before in
-    (s.requires.0, open-below (length s.args.rows.now) s.args.error-limit s.args.stop.read s.args.stop.hits s.requires.1.1 (sym a.allowed.ensures ∙ e.if1.false) (sym c.before.allowed2.ensures ∙ c.if2.true))
+    (s.requires.0, open-below (length s.args.rows.now) s.args.error_limit s.args.stop.read s.args.stop.hits s.requires.1.1 (sym a.allowed.ensures ∙ e.if1.false) (sym c.before.allowed2.ensures ∙ c.if2.true))
 
 edge-refusal-requires : tie.Need-edge-refusal-requires
 edge-refusal-requires c κs = search rules
@@ -50,14 +50,14 @@ returns-2 c =
     let a = e.before in
     let s = a.before.before.before.before.before in
     ap Refused c.edge-refusal.ensures
-    ∙ told-fault (E s) s.args.error-limit s.args.stop (sym a.allowed.ensures ∙ e.if1.false) _ c.before.fault-at.ensures (sym d.before.allowed2.ensures ∙ d.if2.true)
+    ∙ told-fault (E s) s.args.error_limit s.args.stop (sym a.allowed.ensures ∙ e.if1.false) _ c.before.fault-at.ensures (sym d.before.allowed2.ensures ∙ d.if2.true)
 
 returns-3 : tie.Need-returns-3
 returns-3 c =
     let e = c.before.before.before in
     let a = e.before in
     let s = a.before.before.before.before.before in
-    told-no (E s) s.args.error-limit s.args.stop (sym a.allowed.ensures ∙ e.if1.false) (sym c.before.allowed2.ensures ∙ c.if2.false)
+    told-no (E s) s.args.error_limit s.args.stop (sym a.allowed.ensures ∙ e.if1.false) (sym c.before.allowed2.ensures ∙ c.if2.false)
 
 pub conclude-spec : {M : Type 1} → statement M
 conclude-spec =

@@ -1,6 +1,6 @@
 use mathlib.Core.Path.{ap, ◌∙◌}
 use Rattle.board.specs.declared.edge.Edge.{Edge}
-use Rattle.board.specs.Hits.{EdgeList, Board, edges, tables, edgeHit}
+use Rattle.board.specs.Hits.{EdgeList, Board, edges, tables, edge_hit}
 use Rattle.board.specs.HitsLaws.{hit-edge}
 use Rattle.within_admission.specs.WithinAdmissionLaws.{fault-edge-at}
 use borrow.Author.Rules.{rules}
@@ -29,7 +29,7 @@ returns c =
     let e = c.before in
     let s = e.before.before.before.before.before.before in
     let q = s.args.square in
-    c.is-hit.ensures ∙ ap (λ (x : Edge). edgeHit (B s) x q) e.edge_at.ensures ∙ hit-edge (B s) (E s) q.transform q.row q.col s.args.i
+    c.is-hit.ensures ∙ ap (λ (x : Edge). edge_hit (B s) x q) e.edge_at.ensures ∙ hit-edge (B s) (E s) q.transform q.row q.col s.args.i
 
 pub hit-here-spec : {M : Type 1} → statement M
 hit-here-spec = tie.close (tie.spec edge-at-requires is-hit-requires returns)

@@ -19,13 +19,13 @@ is-certain-requires : tie.Need-is-certain-requires
 is-certain-requires c κs = search rules
 
 returns : tie.Need-returns
-returns c = let s = c.before.before.before.before.before in stops-certain (E s) s.args.error-limit s.args.i s.args.hits (sym c.if1.true ∙ c.before.is-certain.ensures)
+returns c = let s = c.before.before.before.before.before in stops-certain (E s) s.args.error_limit s.args.i s.args.hits (sym c.if1.true ∙ c.before.is-certain.ensures)
 
 fault-at-requires : tie.Need-fault-at-requires
 fault-at-requires c κs = search rules
 
 returns-2 : tie.Need-returns-2
-returns-2 c = let s = c.before.before.before.before.before.before in stops-fault (E s) s.args.error-limit s.args.i s.args.hits (sym c.before.before.is-certain.ensures ∙ c.before.if1.false) _ c.fault-at.ensures
+returns-2 c = let s = c.before.before.before.before.before.before in stops-fault (E s) s.args.error_limit s.args.i s.args.hits (sym c.before.before.is-certain.ensures ∙ c.before.if1.false) _ c.fault-at.ensures
 
 pub stops-spec : {M : Type 1} → statement M
 stops-spec =

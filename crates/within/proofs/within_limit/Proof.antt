@@ -19,7 +19,7 @@ module _ (c : tie.After-enum-told) where
   B = tables st.args.h.now st.args.v.now
 
   -- it was accepted
-  accepted : let a = st.args in WithinAccepted E a.transform a.row a.col B a.error-limit
+  accepted : let a = st.args in WithinAccepted E a.transform a.row a.col B a.error_limit
   accepted = within-accepted _ _ _ _ _ _ (sym c.before.before.within-admission.ensures ∙ c.enum_told.given.1)
 
 within-admission-requires : tie.Need-within-admission-requires
@@ -35,7 +35,7 @@ walk-requires : tie.Need-walk-requires
 walk-requires c κs = accepted c
 
 conclude-requires : tie.Need-conclude-requires
-conclude-requires c κs = let e = c.before in let a = (st e).args in ((accepted e).columns, stop-inside (E e) a.transform a.row a.col (B e) a.error-limit _ c.walk.ensures)
+conclude-requires c κs = let e = c.before in let a = (st e).args in ((accepted e).columns, stop-inside (E e) a.transform a.row a.col (B e) a.error_limit _ c.walk.ensures)
 
 returns : tie.Need-returns
 returns c = let a = c.before.before.before.within-admission in within-refused _ _ _ _ _ _ a.result a.ensures c.before.admitted.given.0.0 c.before.admitted.given.1

@@ -3,7 +3,7 @@ use mathlib.Core.Bool.{Bool, not}
 use lib.Ieee.{of_bits}
 use Rattle.refusals.specs.Order.{earlier}
 use Rattle.refusals.specs.Numbers as why
-use Rattle.findings.specs.Findings.{refusedIf, firstFound, settingsFindings}
+use Rattle.findings.specs.Findings.{refused_if, first_found, settings_findings}
 use Rattle.admission.specs.RefusalLaws.{hard-parts}
 use borrow.Author.Rules.{rules}
 use Rattle.admission.proofs.refusal.hard_admission.Statement.{statement}
@@ -46,10 +46,10 @@ returns : tie.Need-returns
 unfolding of_bits
 returns c =
     c.first-of3.ensures
-    ∙ ap₂ earlier (c.before.before.before.before.before.before.before.before.before.refused-if.ensures ∙ ap (λ (b : Bool). refusedIf b why.roomTooShort) c.before.before.before.before.before.before.before.before.before.before.room-short.ensures)
+    ∙ ap₂ earlier (c.before.before.before.before.before.before.before.before.before.refused-if.ensures ∙ ap (λ (b : Bool). refused_if b why.room_too_short) c.before.before.before.before.before.before.before.before.before.before.room-short.ensures)
     (c.before.first-of2.ensures
     ∙ ap₂ earlier (c.before.before.first_of.ensures ∙ ap₂ earlier c.before.before.before.before.before.before.before.before.list-admission.ensures c.before.before.before.before.before.before.before.list-admission2.ensures)
-    (c.before.before.before.settings-admission.ensures ∙ (λ i. firstFound (settingsFindings (c.before.before.before.before.before.before.transforms-bad.ensures i) (c.before.before.before.before.before.tables-bad.ensures i) (not (c.before.before.before.before.in-range.ensures i))))))
+    (c.before.before.before.settings-admission.ensures ∙ (λ i. first_found (settings_findings (c.before.before.before.before.before.before.transforms-bad.ensures i) (c.before.before.before.before.before.tables-bad.ensures i) (not (c.before.before.before.before.in-range.ensures i))))))
     ∙ hard-parts _ _ _
 
 pub hard-admission-spec : {M : Type 1} → statement M

@@ -9,14 +9,14 @@ use lib.ListN.{length}
 use Rattle.laws.specs.Words.{fold, count, above, second}
 use Rattle.laws.specs.Counting.{count_yes, count_no}
 use Rattle.laws.specs.Second.{second-skip, second-new, second-low}
-use Rattle.best.specs.CellTables.{c_at, wAt}
-use Rattle.best.specs.Lex.{tiedCount, optimal, lexSecond}
+use Rattle.best.specs.CellTables.{c_at, w_at}
+use Rattle.best.specs.Lex.{tied_count, optimal, lex_second}
 use native.Mathlib.Omega.{arith}
 use Rattle.best.proofs.lex.lex_around.Statement.{statement}
 use Rattle.best.proofs.lex.lex_around.Tie as tie
 
 abbrev invariant-loop : tie.invariant-loop
-invariant-loop counts weights cell top heavy m₀ n₀ k₀ u₀ i₀ m n k u i = ((i ≤ length counts) × (m ≤ i) × (n ≤ i)) × (m ≡ count i (tiedCount counts top)) × (n ≡ count i (optimal counts weights top heavy)) × (k < length counts) × (k ≡ second (above (c_at counts)) cell i) × (u ≡ c_at counts k)
+invariant-loop counts weights cell top heavy m₀ n₀ k₀ u₀ i₀ m n k u i = ((i ≤ length counts) × (m ≤ i) × (n ≤ i)) × (m ≡ count i (tied_count counts top)) × (n ≡ count i (optimal counts weights top heavy)) × (k < length counts) × (k ≡ second (above (c_at counts)) cell i) × (u ≡ c_at counts k)
 
 abbrev decreases-loop : tie.decreases-loop
 decreases-loop counts weights cell top heavy m₀ n₀ k₀ u₀ i₀ m n k u i = length counts - i
@@ -78,7 +78,7 @@ counted : (c : tie.Joined3 invariant-loop decreases-loop)
     let cs = a.counts.now in
     let ws = a.weights.now in
     let top = c_at cs a.cell in
-    ((c.if3.tied ≤ l.i + 1) × (c.if3.optimal ≤ l.i + 1)) × (c.if3.tied ≡ count (l.i + 1) (tiedCount cs top)) × (c.if3.optimal ≡ count (l.i + 1) (optimal cs ws top (wAt ws a.cell)))
+    ((c.if3.tied ≤ l.i + 1) × (c.if3.optimal ≤ l.i + 1)) × (c.if3.tied ≡ count (l.i + 1) (tied_count cs top)) × (c.if3.optimal ≡ count (l.i + 1) (optimal cs ws top (w_at ws a.cell)))
 counted c =
     let inv = c.before.before.before.before.loop.invariant in
     ⊎_elim
@@ -118,11 +118,11 @@ returns c =
     let cs = a.counts.now in
     let ws = a.weights.now in
     let e : l.i ≡ length cs = omega arith in
-    let m : l.tied ≡ count (length cs) (tiedCount cs (c_at cs a.cell)) = rw (← e) l.invariant.1 in
-    let n : l.optimal ≡ count (length cs) (optimal cs ws (c_at cs a.cell) (wAt ws a.cell)) = rw (← e) l.invariant.2 in
-    let k : l.second ≡ lexSecond cs a.cell = rw (← e) l.invariant.4 in
-    let u : l.under ≡ c_at cs (lexSecond cs a.cell) = l.invariant.5 ∙ ap (c_at cs) k in
-    λ j. record { cell = a.cell; count = c_at cs a.cell; weight = wAt ws a.cell; tied = m j; optimal = n j; second = k j; under = u j }
+    let m : l.tied ≡ count (length cs) (tied_count cs (c_at cs a.cell)) = rw (← e) l.invariant.1 in
+    let n : l.optimal ≡ count (length cs) (optimal cs ws (c_at cs a.cell) (w_at ws a.cell)) = rw (← e) l.invariant.2 in
+    let k : l.second ≡ lex_second cs a.cell = rw (← e) l.invariant.4 in
+    let u : l.under ≡ c_at cs (lex_second cs a.cell) = l.invariant.5 ∙ ap (c_at cs) k in
+    λ j. record { cell = a.cell; count = c_at cs a.cell; weight = w_at ws a.cell; tied = m j; optimal = n j; second = k j; under = u j }
 
 pub lex-around-spec : {M : Type 1} → statement M
 lex-around-spec =

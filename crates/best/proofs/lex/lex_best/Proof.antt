@@ -3,16 +3,16 @@ use Prim.Native.Nat.{◌≤◌, ◌<◌, ◌-◌}
 use mathlib.Core.Path.{◌≡◌, refl, sym, ap, ap₂, ◌∙◌}
 use mathlib.Core.Logic.{⊎_elim}
 use lib.ListN.{length}
-use Rattle.laws.specs.Words.{firstBest, heavier}
+use Rattle.laws.specs.Words.{first_best, heavier}
 use Rattle.laws.specs.Best.{lex-not, best-new, best-old}
-use Rattle.best.specs.CellTables.{c_at, wAt}
+use Rattle.best.specs.CellTables.{c_at, w_at}
 use Rattle.best.specs.Lex.{wins, order}
 use native.Mathlib.Omega.{arith}
 use Rattle.best.proofs.lex.lex_best.Statement.{statement}
 use Rattle.best.proofs.lex.lex_best.Tie as tie
 
 abbrev invariant-loop : tie.invariant-loop
-invariant-loop counts weights best₀ top₀ heavy₀ i₀ best top heavy i = (i ≤ length counts) × (best < length counts) × (best ≡ firstBest (order counts weights) i) × (top ≡ c_at counts best) × (heavy ≡ wAt weights best)
+invariant-loop counts weights best₀ top₀ heavy₀ i₀ best top heavy i = (i ≤ length counts) × (best < length counts) × (best ≡ first_best (order counts weights) i) × (top ≡ c_at counts best) × (heavy ≡ w_at weights best)
 
 abbrev decreases-loop : tie.decreases-loop
 decreases-loop counts weights best₀ top₀ heavy₀ i₀ best top heavy i = length counts - i
@@ -24,7 +24,7 @@ shared-slice-read-heavy : tie.Need-shared-slice-read-heavy invariant-loop decrea
 shared-slice-read-heavy c = search rules
 
 loop-holds : tie.Need-loop-init invariant-loop decreases-loop
-unfolding firstBest
+unfolding first_best
 loop-holds c = (search rules, search rules, refl, refl, refl)
 
 mul-c : tie.Need-overflow-mul-c invariant-loop decreases-loop
@@ -53,12 +53,12 @@ loop-again c =
     let l = c.before.before.before.loop in
     let inv = l.invariant in
     let a = c.before.before.before.before.before.before.before.before.args in
-    let told : order a.counts.now a.weights.now l.i l.best ≡ wins (c_at a.counts.now l.i) (wAt a.weights.now l.i) l.top l.heavy = ap₂ (wins (c_at a.counts.now l.i) (wAt a.weights.now l.i)) (sym inv.3) (sym inv.4) in
+    let told : order a.counts.now a.weights.now l.i l.best ≡ wins (c_at a.counts.now l.i) (w_at a.weights.now l.i) l.top l.heavy = ap₂ (wins (c_at a.counts.now l.i) (w_at a.weights.now l.i)) (sym inv.3) (sym inv.4) in
     ⊎_elim
-    (λ w. (omega arith, omega (arith, w.4), w.4 ∙ best-new _ _ _ inv.2 (told ∙ sym w.2.ensures ∙ w.3.taken), w.5 ∙ ap (c_at a.counts.now) (sym w.4), w.6 ∙ ap (wAt a.weights.now) (sym w.4)))
+    (λ w. (omega arith, omega (arith, w.4), w.4 ∙ best-new _ _ _ inv.2 (told ∙ sym w.2.ensures ∙ w.3.taken), w.5 ∙ ap (c_at a.counts.now) (sym w.4), w.6 ∙ ap (w_at a.weights.now) (sym w.4)))
     (⊎_elim
-    (λ w. (omega arith, omega (arith, w.4), w.4 ∙ best-old _ _ _ inv.2 (told ∙ sym w.2.ensures ∙ w.3.left), w.5 ∙ inv.3 ∙ ap (c_at a.counts.now) (sym w.4), w.6 ∙ inv.4 ∙ ap (wAt a.weights.now) (sym w.4)))
-    (λ w. (omega arith, omega (arith, w.1), w.1 ∙ best-old _ _ _ inv.2 (lex-not (c_at a.counts.now) (heavier (wAt a.weights.now)) l.i l.best (omega (arith, w.0.left, inv.3)) (λ e. absurd (omega (arith, w.0.left, inv.3)))), w.2 ∙ inv.3 ∙ ap (c_at a.counts.now) (sym w.1), w.3 ∙ inv.4 ∙ ap (wAt a.weights.now) (sym w.1))))
+    (λ w. (omega arith, omega (arith, w.4), w.4 ∙ best-old _ _ _ inv.2 (told ∙ sym w.2.ensures ∙ w.3.left), w.5 ∙ inv.3 ∙ ap (c_at a.counts.now) (sym w.4), w.6 ∙ inv.4 ∙ ap (w_at a.weights.now) (sym w.4)))
+    (λ w. (omega arith, omega (arith, w.1), w.1 ∙ best-old _ _ _ inv.2 (lex-not (c_at a.counts.now) (heavier (w_at a.weights.now)) l.i l.best (omega (arith, w.0.left, inv.3)) (λ e. absurd (omega (arith, w.0.left, inv.3)))), w.2 ∙ inv.3 ∙ ap (c_at a.counts.now) (sym w.1), w.3 ∙ inv.4 ∙ ap (w_at a.weights.now) (sym w.1))))
     c.if1.branch
 
 returns : tie.Need-returns invariant-loop decreases-loop

@@ -1,5 +1,5 @@
 use mathlib.Core.Path.{sym, ap, subst, ◌∙◌}
-use Rattle.best.specs.Lex.{lexAround, lexOf}
+use Rattle.best.specs.Lex.{lex_around, lex_of}
 use Rattle.best.specs.LexLaws.{Most, best-most}
 use borrow.Author.Rules.{rules}
 use Rattle.best.proofs.lex.lex_max.Statement.{statement}
@@ -14,8 +14,8 @@ lex-around-requires c κs =
     (s.requires, c.lex-best.ensures.1, subst (Most s.args.counts.now) (sym c.lex-best.ensures.0) (best-most s.args.counts.now s.args.weights.now))
 
 returns : tie.Need-returns
-unfolding lexOf
-returns c = c.lex-around.ensures ∙ ap (lexAround c.before.before.before.before.args.counts.now c.before.before.before.before.args.weights.now) c.before.lex-best.ensures.0
+unfolding lex_of
+returns c = c.lex-around.ensures ∙ ap (lex_around c.before.before.before.before.args.counts.now c.before.before.before.before.args.weights.now) c.before.lex-best.ensures.0
 
 pub lex-max-spec : {M : Type 1} → statement M
 lex-max-spec = tie.close (tie.spec lex-best-requires lex-around-requires returns)

@@ -6,7 +6,7 @@ use native.Mathlib.Omega.{arith}
 use lib.Dec.{lit<}
 use lib.ListN.{length, get_or, set}
 use Rattle.cells.specs.Spread.{Spread, spread_none, place-takes, place-more}
-use Rattle.cells.specs.Credit.{stepped, termIn}
+use Rattle.cells.specs.Credit.{stepped, term_in}
 use borrow.Author.Rules.{rules}
 use Rattle.cells.proofs.add.add_class_counts.Statement.{statement}
 use Rattle.cells.proofs.add.add_class_counts.Tie as tie
@@ -19,7 +19,7 @@ module _ (s : tie.Start) where
   place = stepped s.args.k s.args.step
 
   abbrev term : ℕ → ℕ
-  term j = (termIn s.args.t4 j).count
+  term j = (term_in s.args.t4 j).count
 
   within : (j : ℕ) → j < 3 → place j < length old
   within = s.pre.inside

@@ -7,7 +7,7 @@ use lib.Dec.{lit<}
 use lib.ListN.{length, get_or, set}
 use lib.Ieee.{Float, nan, binary32, add}
 use Rattle.cells.specs.Spread.{Spread, spread_none, place-takes, place-more}
-use Rattle.cells.specs.Credit.{stepped, termIn}
+use Rattle.cells.specs.Credit.{stepped, term_in}
 use borrow.Author.Rules.{rules}
 use Rattle.cells.proofs.add.add_class_weights.Statement.{statement}
 use Rattle.cells.proofs.add.add_class_weights.Tie as tie
@@ -20,7 +20,7 @@ module _ (s : tie.Start) where
   place = stepped s.args.k s.args.step
 
   abbrev term : ℕ → Float
-  term j = (termIn s.args.t4 j).weight
+  term j = (term_in s.args.t4 j).weight
 
   within : (j : ℕ) → j < 3 → place j < length old
   within = s.pre.inside

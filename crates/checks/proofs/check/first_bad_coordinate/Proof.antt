@@ -4,12 +4,12 @@ use mathlib.Core.Path.{◌≡◌, sym, ap, ◌∙◌}
 use native.Mathlib.Omega.{arith}
 use lib.ListN.{length}
 use Rattle.laws.specs.First.{Searching, search-starts, search-goes-on, search-finds, search-ends}
-use Rattle.checks.specs.Checks.{badCoordinate, firstBadCoordinate}
+use Rattle.checks.specs.Checks.{bad_coordinate, first_bad_coordinate}
 use Rattle.checks.proofs.check.first_bad_coordinate.Statement.{statement}
 use Rattle.checks.proofs.check.first_bad_coordinate.Tie as tie
 
 abbrev invariant-loop : tie.invariant-loop
-invariant-loop rows cols i₀ i = Searching (badCoordinate rows cols) (length rows) i
+invariant-loop rows cols i₀ i = Searching (bad_coordinate rows cols) (length rows) i
 
 abbrev decreases-loop : tie.decreases-loop
 decreases-loop rows cols i₀ i = length rows - i
@@ -21,7 +21,7 @@ bad-coordinate-at-requires : tie.Need-bad-coordinate-at-requires invariant-loop 
 bad-coordinate-at-requires c κs = search rules
 
 returns : tie.Need-returns invariant-loop decreases-loop
-unfolding firstBadCoordinate
+unfolding first_bad_coordinate
 returns c = search-finds _ _ _ c.before.before.before.loop.invariant (sym c.before.bad-coordinate-at.ensures ∙ c.if1.true)
 
 add-i : tie.Need-overflow-add-i invariant-loop decreases-loop
@@ -34,7 +34,7 @@ loop-again : tie.Need-loop-preserved invariant-loop decreases-loop
 loop-again c = search-goes-on _ _ _ (omega arith) c.before.before.before.loop.invariant (sym c.before.bad-coordinate-at.ensures ∙ c.if1.false)
 
 returns-2 : tie.Need-returns-2 invariant-loop decreases-loop
-unfolding firstBadCoordinate
+unfolding first_bad_coordinate
 returns-2 c = search-ends _ _ _ (omega arith) c.before.loop.invariant
 
 pub first-bad-coordinate-spec : {M : Type 1} → statement M

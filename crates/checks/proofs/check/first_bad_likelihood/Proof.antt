@@ -4,12 +4,12 @@ use mathlib.Core.Path.{◌≡◌, sym, ap, ◌∙◌}
 use native.Mathlib.Omega.{arith}
 use lib.ListN.{length}
 use Rattle.laws.specs.First.{Searching, search-starts, search-goes-on, search-finds, search-ends}
-use Rattle.checks.specs.Checks.{badLikelihood, firstBadLikelihood}
+use Rattle.checks.specs.Checks.{bad_likelihood, first_bad_likelihood}
 use Rattle.checks.proofs.check.first_bad_likelihood.Statement.{statement}
 use Rattle.checks.proofs.check.first_bad_likelihood.Tie as tie
 
 abbrev invariant-loop : tie.invariant-loop
-invariant-loop matches mismatches i₀ i = Searching (badLikelihood matches mismatches) (length matches) i
+invariant-loop matches mismatches i₀ i = Searching (bad_likelihood matches mismatches) (length matches) i
 
 abbrev decreases-loop : tie.decreases-loop
 decreases-loop matches mismatches i₀ i = length matches - i
@@ -21,7 +21,7 @@ bad-likelihood-at-requires : tie.Need-bad-likelihood-at-requires invariant-loop 
 bad-likelihood-at-requires c κs = search rules
 
 returns : tie.Need-returns invariant-loop decreases-loop
-unfolding firstBadLikelihood
+unfolding first_bad_likelihood
 returns c = search-finds _ _ _ c.before.before.before.loop.invariant (sym c.before.bad-likelihood-at.ensures ∙ c.if1.true)
 
 add-i : tie.Need-overflow-add-i invariant-loop decreases-loop
@@ -34,7 +34,7 @@ loop-again : tie.Need-loop-preserved invariant-loop decreases-loop
 loop-again c = search-goes-on _ _ _ (omega arith) c.before.before.before.loop.invariant (sym c.before.bad-likelihood-at.ensures ∙ c.if1.false)
 
 returns-2 : tie.Need-returns-2 invariant-loop decreases-loop
-unfolding firstBadLikelihood
+unfolding first_bad_likelihood
 returns-2 c = search-ends _ _ _ (omega arith) c.before.loop.invariant
 
 pub first-bad-likelihood-spec : {M : Type 1} → statement M

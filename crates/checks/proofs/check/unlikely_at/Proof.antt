@@ -17,7 +17,7 @@ is-likelihood-requires : tie.Need-is-likelihood-requires
 is-likelihood-requires c κs = search rules
 
 returns : tie.Need-returns
-returns c = ap not c.is-likelihood.ensures
+returns c = ap not c.is_likelihood.ensures
 
 returns-2 : tie.Need-returns-2
 unfolding acceptable le lt eq

@@ -6,12 +6,12 @@ use native.Mathlib.Nat.{mod-lt, mul-le-mul}
 use lib.Dec.{lit<}
 use lib.Ieee.{Float, add, div, binary32}
 use lib.ListN.{length}
-use Rattle.best.specs.CellTables.{cells, c_at, wAt}
+use Rattle.best.specs.CellTables.{cells, c_at, w_at}
 use Rattle.scan.specs.Scan.{takes}
 use Rattle.scan.specs.ScanLaws.{behind-left, offered-left}
-use Rattle.direct.specs.Direct.{hardCandidate, tried}
+use Rattle.direct.specs.Direct.{hard_candidate, tried}
 use Rattle.direct.specs.DirectLaws.{RowTurn, row-start, row_next, row-turn}
-use Rattle.scan.specs.Lead.{leadOf, ahead_of, ahead-takes, below-behind}
+use Rattle.scan.specs.Lead.{lead_of, ahead_of, ahead-takes, below-behind}
 use Rattle.scan.specs.declared.record.Lead.{Lead}
 use Rattle.scan.specs.declared.scan.Candidate.{Candidate}
 use borrow.Author.Rules.{rules}
@@ -20,7 +20,7 @@ use Rattle.direct.proofs.direct.scan_row.Statement.{statement}
 use Rattle.direct.proofs.direct.scan_row.Tie as tie
 
 abbrev invariant-loop : tie.invariant-loop
-invariant-loop hc hw vc vw periods row ha va asked listed hbase vbase kept₀ lead₀ hb₀ vb₀ col₀ kept lead hb vb col = RowTurn periods.h periods.v hbase vbase hb vb col × (kept ≡ tried periods.h periods.v asked.edges asked.confidence asked.error_limit listed (cells hc hw vc vw) (row * (3 * periods.v)) kept₀ col) × (lead ≡ leadOf kept)
+invariant-loop hc hw vc vw periods row ha va asked listed hbase vbase kept₀ lead₀ hb₀ vb₀ col₀ kept lead hb vb col = RowTurn periods.h periods.v hbase vbase hb vb col × (kept ≡ tried periods.h periods.v asked.edges asked.confidence asked.error_limit listed (cells hc hw vc vw) (row * (3 * periods.v)) kept₀ col) × (lead ≡ lead_of kept)
 
 abbrev decreases-loop : tie.decreases-loop
 decreases-loop hc hw vc vw periods row ha va asked listed hbase vbase kept₀ lead₀ hb₀ vb₀ col₀ kept lead hb vb col = length vc - col
@@ -101,19 +101,19 @@ loop-again c =
     let h = a.ha * 3 + t.hb in
     let v = a.va * a.periods.v + t.vb in
     let n : ℕ = c_at a.hc.now h + c_at a.vc.now v in
-    let w : Float = add binary32 (wAt a.hw.now h) (wAt a.vw.now v) in
-    let k : Candidate = hardCandidate n w a.asked.confidence a.row t.col a.listed in
+    let w : Float = add binary32 (w_at a.hw.now h) (w_at a.vw.now v) in
+    let k : Candidate = hard_candidate n w a.asked.confidence a.row t.col a.listed in
     let l : t.col < 3 * a.periods.v = omega (arith, c.before.before.before.before.before.before.before.before.before.before.before.before.before.before.requires.0.2.vcs) in
     let next = row_next _ _ _ _ _ _ _ _ _ inv.0 l c.before.next-class.ensures c.next-class2.ensures in
     ⊎_elim
-    (λ z. (next, row-turn a.periods.h a.periods.v a.asked.edges a.asked.confidence a.asked.error_limit a.listed (cells a.hc.now a.hw.now a.vc.now a.vw.now) a.row t.col a.ha a.va t.hb t.vb a.start t.auto _ l s.1 s.2 inv.0.h-class inv.0.v-class inv.1 (z.8 ∙ z.6.ensures), z.9 ∙ z.7.ensures ∙ ap leadOf (sym z.8)))
+    (λ z. (next, row-turn a.periods.h a.periods.v a.asked.edges a.asked.confidence a.asked.error_limit a.listed (cells a.hc.now a.hw.now a.vc.now a.vw.now) a.row t.col a.ha a.va t.hb t.vb a.start t.auto _ l s.1 s.2 inv.0.h_class inv.0.v_class inv.1 (z.8 ∙ z.6.ensures), z.9 ∙ z.7.ensures ∙ ap lead_of (sym z.8)))
     (⊎_elim
     (λ z.
     let o : takes t.auto n (div binary32 w a.asked.confidence) ≡ false = ahead-takes t.auto n (div binary32 w a.asked.confidence) ∙ ap (λ (x : Lead). ahead_of x n (div binary32 w a.asked.confidence)) (sym inv.2) ∙ sym z.4.ensures ∙ z.5.left in
-    (next, row-turn a.periods.h a.periods.v a.asked.edges a.asked.confidence a.asked.error_limit a.listed (cells a.hc.now a.hw.now a.vc.now a.vw.now) a.row t.col a.ha a.va t.hb t.vb a.start t.auto _ l s.1 s.2 inv.0.h-class inv.0.v-class inv.1 (z.6 ∙ sym (offered-left a.asked.edges a.asked.error_limit t.auto k o)), z.7 ∙ inv.2 ∙ ap leadOf (sym z.6)))
+    (next, row-turn a.periods.h a.periods.v a.asked.edges a.asked.confidence a.asked.error_limit a.listed (cells a.hc.now a.hw.now a.vc.now a.vw.now) a.row t.col a.ha a.va t.hb t.vb a.start t.auto _ l s.1 s.2 inv.0.h_class inv.0.v_class inv.1 (z.6 ∙ sym (offered-left a.asked.edges a.asked.error_limit t.auto k o)), z.7 ∙ inv.2 ∙ ap lead_of (sym z.6)))
     (λ z.
     let o : takes t.auto n (div binary32 w a.asked.confidence) ≡ false = behind-left t.auto n (div binary32 w a.asked.confidence) (below-behind t.auto n (subst (λ (x : Lead). n < x.hits) inv.2 z.0.left)) in
-    (next, row-turn a.periods.h a.periods.v a.asked.edges a.asked.confidence a.asked.error_limit a.listed (cells a.hc.now a.hw.now a.vc.now a.vw.now) a.row t.col a.ha a.va t.hb t.vb a.start t.auto _ l s.1 s.2 inv.0.h-class inv.0.v-class inv.1 (z.1 ∙ sym (offered-left a.asked.edges a.asked.error_limit t.auto k o)), z.2 ∙ inv.2 ∙ ap leadOf (sym z.1))))
+    (next, row-turn a.periods.h a.periods.v a.asked.edges a.asked.confidence a.asked.error_limit a.listed (cells a.hc.now a.hw.now a.vc.now a.vw.now) a.row t.col a.ha a.va t.hb t.vb a.start t.auto _ l s.1 s.2 inv.0.h_class inv.0.v_class inv.1 (z.1 ∙ sym (offered-left a.asked.edges a.asked.error_limit t.auto k o)), z.2 ∙ inv.2 ∙ ap lead_of (sym z.1))))
     c.before.before.if1.branch
 
 returns : tie.Need-returns invariant-loop decreases-loop

@@ -4,18 +4,18 @@ use Prim.Native.Nat.{ℕ, ◌+◌, ◌*◌, ◌-◌}
 use native.Mathlib.Omega.{arith}
 use lib.ListN.{take, drop}
 use borrow.Author.Rules.{rules}
-use Rattle.exact_scan.specs.Exact.{ValueTables, valueTables, ValuesOk, foldExact}
-use Rattle.exact.specs.SelectLaws.{roomValues}
+use Rattle.exact_scan.specs.Exact.{ValueTables, value_tables, ValuesOk, fold_exact}
+use Rattle.exact.specs.SelectLaws.{room_values}
 use Rattle.exact.proofs.select.fold_value_room.Statement.{statement}
 use Rattle.exact.proofs.select.fold_value_room.Tie as tie
 
 -- the parts that are lent are the tables in the room
-parts : (L M : ℕ) (a : List ℕ) → valueTables (take (3 * L - 0) (drop 0 a)) (take (3 * L + 3 * M - 3 * L) (drop (3 * L) a)) ≡ roomValues L M a
-unfolding roomValues
+parts : (L M : ℕ) (a : List ℕ) → value_tables (take (3 * L - 0) (drop 0 a)) (take (3 * L + 3 * M - 3 * L) (drop (3 * L) a)) ≡ room_values L M a
+unfolding room_values
 parts L M a =
     let h : 3 * L - 0 ≡ 3 * L = omega arith in
     let v : 3 * L + 3 * M - 3 * L ≡ 3 * M = omega arith in
-    λ i. valueTables (take (h i) (drop 0 a)) (take (v i) (drop (3 * L) a))
+    λ i. value_tables (take (h i) (drop 0 a)) (take (v i) (drop (3 * L) a))
 
 mul-a : tie.Need-overflow-mul-a
 mul-a c = search rules
@@ -57,7 +57,7 @@ fold-values-requires c κs =
 returns : tie.Need-returns
 returns c =
     let a = c.before.before.before.before.before.before.args in
-    c.fold-values.ensures ∙ ap (λ (X : ValueTables). foldExact a.periods.h a.periods.v a.transform X a.scan) (parts a.periods.h a.periods.v a.units.now)
+    c.fold-values.ensures ∙ ap (λ (X : ValueTables). fold_exact a.periods.h a.periods.v a.transform X a.scan) (parts a.periods.h a.periods.v a.units.now)
 
 pub fold-value-room-spec : {M : Type 1} → statement M
 fold-value-room-spec =

@@ -26,7 +26,7 @@ unit-sum-requires : tie.Need-unit-sum-requires
 unit-sum-requires c κs = let s = c.before.before.before.before.before.before.before in list-units (E s) s.requires.list
 
 returns : tie.Need-returns
-returns c = let s = c.before.before.before.before.before.before.before.before.before in exact-refused (B s) (E s) (ts s) s.args.error-limit (room s) (sym c.before.unit-sum.ensures ∙ c.if1.true)
+returns c = let s = c.before.before.before.before.before.before.before.before.before in exact-refused (B s) (E s) (ts s) s.args.error_limit (room s) (sym c.before.unit-sum.ensures ∙ c.if1.true)
 
 cast-edges : tie.Need-overflow-cast-edges
 cast-edges c = let s = c.before.before.before.before.before.before.before.before.before in omega (arith, s.requires.list.few)
@@ -38,7 +38,7 @@ finish-exact-requires : tie.Need-finish-exact-requires
 finish-exact-requires c κs =
     let d = c.before.before in
     let s = d.before.before.before.before.before.before.before.before.before.before.before in
-    scan-sound (B s) (E s) (ts s) s.args.error-limit (room s) s.requires _ d.scan-values.result d.scan-values.ensures
+    scan-sound (B s) (E s) (ts s) s.args.error_limit (room s) s.requires _ d.scan-values.result d.scan-values.ensures
 
 same_length : tie.Need-same-length
 same_length c = search rules
@@ -47,7 +47,7 @@ returns-2 : tie.Need-returns-2
 returns-2 c =
     let d = c.before.before.before in
     let s = d.before.before.before.before.before.before.before.before.before.before.before in
-    exact-finished (B s) (E s) (ts s) s.args.error-limit (room s) _ d.scan-values.result c.finish-exact.result (λ e. d.before.before.if1.false (d.before.before.before.unit-sum.ensures ∙ e)) d.scan-values.ensures c.finish-exact.ensures
+    exact-finished (B s) (E s) (ts s) s.args.error_limit (room s) _ d.scan-values.result c.finish-exact.result (λ e. d.before.before.if1.false (d.before.before.before.unit-sum.ensures ∙ e)) d.scan-values.ensures c.finish-exact.ensures
 
 pub select-exact-spec : {M : Type 1} → statement M
 select-exact-spec =

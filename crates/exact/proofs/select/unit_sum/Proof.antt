@@ -3,14 +3,14 @@ use Prim.Native.Nat.{ℕ, ◌+◌, ◌≤◌, ◌-◌}
 use native.Mathlib.Omega.{arith}
 use borrow.Author.Rules.{rules}
 use lib.ListN.{length}
-use Rattle.values.specs.Values.{weightOf}
-use Rattle.exact.specs.Select.{unitsTo}
+use Rattle.values.specs.Values.{weight_of}
+use Rattle.exact.specs.Select.{units_to}
 use Rattle.exact.specs.SelectLaws.{units-none, units-more, units_small}
 use Rattle.exact.proofs.select.unit_sum.Statement.{statement}
 use Rattle.exact.proofs.select.unit_sum.Tie as tie
 
 abbrev invariant-loop : tie.invariant-loop
-invariant-loop confidences sum₀ i₀ i-end sum i = (i ≤ length confidences) × (sum ≡ unitsTo confidences i)
+invariant-loop confidences sum₀ i₀ i-end sum i = (i ≤ length confidences) × (sum ≡ units_to confidences i)
 
 abbrev decreases-loop : tie.decreases-loop
 decreases-loop confidences sum₀ i₀ i-end sum i = i-end - i
@@ -34,11 +34,11 @@ weight-of-requires c κs = search rules
 summed : (c : tie.After-weight-of invariant-loop decreases-loop)
     → let l = c.before.before.before.before.loop in
     let s = c.before.before.before.before.before.before in
-    l.sum + c.weight-of.result ≡ unitsTo s.args.confidences.now (l.i + 1)
+    l.sum + c.weight-of.result ≡ units_to s.args.confidences.now (l.i + 1)
 summed c =
     let l = c.before.before.before.before.loop in
     let s = c.before.before.before.before.before.before in
-    ap (λ (x : ℕ). l.sum + x) (c.weight-of.ensures ∙ ap weightOf c.before.value_of.ensures) ∙ units-more s.args.confidences.now l.i l.sum (s.requires.confidence l.i c.before.before.before.loop-test.true) l.invariant.1
+    ap (λ (x : ℕ). l.sum + x) (c.weight-of.ensures ∙ ap weight_of c.before.value_of.ensures) ∙ units-more s.args.confidences.now l.i l.sum (s.requires.confidence l.i c.before.before.before.loop-test.true) l.invariant.1
 
 add-sum : tie.Need-overflow-add-sum invariant-loop decreases-loop
 add-sum c =
@@ -57,7 +57,7 @@ loop-again : tie.Need-loop-preserved invariant-loop decreases-loop
 loop-again c = (omega arith, summed c)
 
 returns : tie.Need-returns invariant-loop decreases-loop
-returns c = let s = c.before.before.before in let e : c.before.loop.i ≡ length s.args.confidences.now = omega arith in c.before.loop.invariant.1 ∙ ap (unitsTo s.args.confidences.now) e
+returns c = let s = c.before.before.before in let e : c.before.loop.i ≡ length s.args.confidences.now = omega arith in c.before.loop.invariant.1 ∙ ap (units_to s.args.confidences.now) e
 
 pub unit-sum-spec : {M : Type 1} → statement M
 unit-sum-spec =

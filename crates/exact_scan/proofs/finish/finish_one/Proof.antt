@@ -20,7 +20,7 @@ returns : tie.Need-returns
 returns c =
     let s = c.before.before.before.before in
     let h = c.before.before.before.hits-of in
-    c.none_within.ensures ∙ finish-over s.args.edges s.args.error-limit s.args.positions s.args.best h.result h.ensures (sym c.before.before.over-limit.ensures ∙ c.before.if1.true)
+    c.none_within.ensures ∙ finish-over s.args.edges s.args.error_limit s.args.positions s.args.best h.result h.ensures (sym c.before.before.over-limit.ensures ∙ c.before.if1.true)
 
 weight-of-requires : tie.Need-weight-of-requires
 weight-of-requires c κs = search rules
@@ -32,7 +32,7 @@ returns-2 : tie.Need-returns-2
 returns-2 c =
     let s = c.before.before.before.before.before.before in
     let h = c.before.before.before.before.before.hits-of in
-    finish-within s.args.edges s.args.error-limit s.args.positions s.args.best h.result h.ensures c.before.before.weight-of.result c.runner-up.result (sym c.before.before.before.before.over-limit.ensures ∙ c.before.before.before.if1.false) c.before.before.weight-of.ensures c.runner-up.ensures
+    finish-within s.args.edges s.args.error_limit s.args.positions s.args.best h.result h.ensures c.before.before.weight-of.result c.runner-up.result (sym c.before.before.before.before.over-limit.ensures ∙ c.before.before.before.if1.false) c.before.before.weight-of.ensures c.runner-up.ensures
 
 pub finish-one-spec : {M : Type 1} → statement M
 finish-one-spec =

@@ -1,6 +1,6 @@
 use native.Mathlib.Omega.{arith}
 use borrow.Author.Rules.{rules}
-use Rattle.exact_scan.specs.Exact.{ValueTables, valueTables}
+use Rattle.exact_scan.specs.Exact.{ValueTables, value_tables}
 use Rattle.exact_scan.specs.ExactLaws.{ExactSaid, said-top, said_ok, folded}
 use Rattle.exact_scan.proofs.fold.fold_values.Statement.{statement}
 use Rattle.exact_scan.proofs.fold.fold_values.Tie as tie
@@ -11,7 +11,7 @@ module _ (c : tie.After-first-origin) where
   st = c.before.before.before.before.before
 
   abbrev X : ValueTables
-  X = valueTables st.args.hs.now st.args.vs.now
+  X = value_tables st.args.hs.now st.args.vs.now
 
   told : ExactSaid st.args.periods.h st.args.periods.v c.before.before.value-max.result c.before.value-max2.result c.first-origin.result
   told = said_ok st.args.periods.h st.args.periods.v st.pre.0.0 st.pre.0.1 X st.pre.0.2 c.before.before.value-max.result c.before.value-max2.result c.first-origin.result c.before.before.value-max.ensures c.before.value-max2.ensures c.first-origin.ensures
@@ -26,7 +26,7 @@ first-origin-requires : tie.Need-first-origin-requires
 first-origin-requires c κs =
     let s = c.before.before.before.before in
     let p = s.requires.0 in
-    (p.0, p.1, said-top s.args.periods.h s.args.periods.v p.0 p.1 (valueTables s.args.hs.now s.args.vs.now) p.2 c.before.value-max.result c.value-max2.result c.before.value-max.ensures c.value-max2.ensures)
+    (p.0, p.1, said-top s.args.periods.h s.args.periods.v p.0 p.1 (value_tables s.args.hs.now s.args.vs.now) p.2 c.before.value-max.result c.value-max2.result c.before.value-max.ensures c.value-max2.ensures)
 
 add-value : tie.Need-overflow-add-value
 add-value c = record { fits = omega (arith, (told c.before.before).value) }

@@ -1,6 +1,6 @@
 use mathlib.Core.Path.{sym, ap, ◌∙◌}
 use borrow.Author.Rules.{rules}
-use Rattle.flat.specs.FlatSoft.{flatSoft}
+use Rattle.flat.specs.FlatSoft.{flat_soft}
 use Rattle.flat.proofs.flat_soft.flattened_soft.Statement.{statement}
 use Rattle.flat.proofs.flat_soft.flattened_soft.Tie as tie
 
@@ -17,10 +17,10 @@ refused-requires : tie.Need-refused-requires
 refused-requires c κs = search rules
 
 returns : tie.Need-returns
-returns c = c.found.ensures ∙ ap flatSoft (sym c.before.before.answer.given.1)
+returns c = c.found.ensures ∙ ap flat_soft (sym c.before.before.answer.given.1)
 
 returns-2 : tie.Need-returns-2
-returns-2 c = c.refused.ensures ∙ ap flatSoft (sym c.before.before.answer2.given.1)
+returns-2 c = c.refused.ensures ∙ ap flat_soft (sym c.before.before.answer2.given.1)
 
 pub flattened-soft-spec : {M : Type 1} → statement M
 flattened-soft-spec = tie.close (tie.spec enum-known-answer found-requires enum-known-answer-2 refused-requires returns returns-2)

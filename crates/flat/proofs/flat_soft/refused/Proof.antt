@@ -1,6 +1,6 @@
 -- The place is read off first; each other field is what no found answer has.
 use borrow.Author.Rules.{rules}
-use Rattle.flat.specs.FlatSoft.{softRefusedWith}
+use Rattle.flat.specs.FlatSoft.{soft_refused_with}
 use Rattle.flat.proofs.flat_soft.refused.Statement.{statement}
 use Rattle.flat.proofs.flat_soft.refused.Tie as tie
 
@@ -14,7 +14,7 @@ no-number-requires : tie.Need-no-number-requires
 no-number-requires c κs = search rules
 
 returns : tie.Need-returns
-returns c = λ i. softRefusedWith c.before.before.before.args.refusal.number (c.before.before.list_of.ensures i) (c.before.position-of.ensures i) (c.no_number.ensures i)
+returns c = λ i. soft_refused_with c.before.before.before.args.refusal.number (c.before.before.list_of.ensures i) (c.before.position-of.ensures i) (c.no_number.ensures i)
 
 pub refused-spec : {M : Type 1} → statement M
 refused-spec = tie.close (tie.spec list-of-requires position-of-requires no-number-requires returns)

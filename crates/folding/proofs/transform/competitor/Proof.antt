@@ -1,7 +1,7 @@
 use Prim.Native.Nat.{◌*◌}
 use mathlib.Core.Path.{refl}
 use native.Mathlib.Nat.{div-le_self, mod-le}
-use Rattle.folding.specs.Transform.{competitorOf}
+use Rattle.folding.specs.Transform.{competitor_of}
 use native.Mathlib.Omega.{arith}
 use borrow.Author.Rules.{rules}
 use Rattle.folding.proofs.transform.competitor.Statement.{statement}
@@ -23,7 +23,7 @@ cast-col : tie.Need-overflow-cast-col
 cast-col c = record { fits = omega (arith, mod-le c.before.before.args.origin.key (3 * c.before.before.args.period)) }
 
 returns : tie.Need-returns
-unfolding competitorOf
+unfolding competitor_of
 returns c = refl
 
 pub competitor-spec : {M : Type 1} → statement M

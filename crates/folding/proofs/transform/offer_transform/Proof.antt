@@ -17,7 +17,7 @@ returns : tie.Need-returns
 returns c = sym (by-none _ _ _ _ _ _ _ _ _ _ _ (sym c.before.over-limit.ensures ∙ c.if1.true))
 
 mul-if2 : tie.Need-overflow-mul-if2
-mul-if2 c = record { fits = omega (arith, mul-le-mul c.before.before.before.before.before.before.before.before.before.before.requires.1.0.h-optimal c.before.before.before.before.before.before.before.before.before.before.requires.1.0.v-optimal) }
+mul-if2 c = record { fits = omega (arith, mul-le-mul c.before.before.before.before.before.before.before.before.before.before.requires.1.0.h_optimal c.before.before.before.before.before.before.before.before.before.before.requires.1.0.v_optimal) }
 
 scan-direct-requires : tie.Need-scan-direct-requires
 scan-direct-requires c κs = search rules

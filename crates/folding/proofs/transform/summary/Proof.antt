@@ -1,5 +1,5 @@
 use borrow.Author.Rules.{rules}
-use Rattle.folding.specs.Transform.{summaryOf}
+use Rattle.folding.specs.Transform.{summary_of}
 use Rattle.folding.proofs.transform.summary.Statement.{statement}
 use Rattle.folding.proofs.transform.summary.Tie as tie
 
@@ -10,7 +10,7 @@ competitor-requires-2 : tie.Need-competitor-requires-2
 competitor-requires-2 c κs = search rules
 
 returns : tie.Need-returns
-unfolding summaryOf
+unfolding summary_of
 returns c = rw (c.before.competitor.ensures, c.competitor2.ensures)
 
 pub summary-spec : {M : Type 1} → statement M

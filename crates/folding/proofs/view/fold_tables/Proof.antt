@@ -41,8 +41,8 @@ use denote.Triple.Walked.{says, needs, Stays, stay_none, stay_none_slice, walk_o
 use denote.Exit.{yes}
 use denote.Triple.Clauses.{ensured, lasts}
 use Rattle.best.specs.CellTables.{cells}
-use Rattle.folding.specs.Transform.{foldTransform, FoldReady}
-use Rattle.folding.specs.View.{viewOf}
+use Rattle.folding.specs.Transform.{fold_transform, FoldReady}
+use Rattle.folding.specs.View.{view_of}
 use Rattle.folding.specs.declared.view.TransformTables.{TransformTables}
 use Rattle.laws.specs.declared.Periods.{Periods}
 use Rattle.scan.specs.declared.scan.Asked.{Asked}
@@ -109,10 +109,10 @@ module _ {M : Type 1} {𝓤 : Ura M} (𝓛 : Logic 𝓤) (mem : Memory → SProp
   v₄ = slice_val vw.ref_ptr (length vw.now)
 
   abbrev found : HardScan
-  found = foldTransform p.h p.v k.edges k.confidence k.error_limit t (cells hc.now hw.now vc.now vw.now) h
+  found = fold_transform p.h p.v k.edges k.confidence k.error_limit t (cells hc.now hw.now vc.now vw.now) h
 
   abbrev made : TransformTables
-  made = viewOf hc hw vc vw
+  made = view_of hc hw vc vw
 
   abbrev Four : Type 0
   Four = Bor (List ℕ) × (Bor (List Float) × (Bor (List ℕ) × (Bor (List Float) × Unit {0})))

@@ -38,7 +38,7 @@ use denote.Triple.Walked.{says, needs, Stays, stay_none, walk_of, Goes-none, Wal
 use denote.Exit.{yes}
 use denote.Triple.Clauses.{ensured, lasts}
 use lib.Ieee.{Float}
-use Rattle.folding.specs.Transform.{foldTransform, FoldReady}
+use Rattle.folding.specs.Transform.{fold_transform, FoldReady}
 use Rattle.folding.specs.View.{viewed}
 use Rattle.folding.specs.declared.view.TransformTables.{TransformTables}
 use Rattle.laws.specs.declared.Periods.{Periods}
@@ -79,7 +79,7 @@ module _ {M : Type 1} {𝓤 : Ura M} (𝓛 : Logic 𝓤) (mem : Memory → SProp
   mach = T'.lowered d
 
   abbrev found : HardScan
-  found = foldTransform p.h p.v k.edges k.confidence k.error_limit t (viewed d) h
+  found = fold_transform p.h p.v k.edges k.confidence k.error_limit t (viewed d) h
 
   abbrev Arg : Type 0
   Arg = HardScan × (TransformTables × (Periods × (ℕ × (Asked × Unit {0}))))

@@ -34,7 +34,7 @@ use denote.Triple.Spec.{Meets, triple_of}
 use denote.Triple.Table.{entered}
 use denote.Triple.Walked.{says, Stays, stay_none_slice, walk_of, Goes-none_slice, Walks, ends_at, walked, walk_Meets}
 use denote.Exit.{yes}
-use Rattle.folding.specs.View.{viewOf}
+use Rattle.folding.specs.View.{view_of}
 use Rattle.folding.specs.declared.view.TransformTables.{TransformTables}
 use Rattle.folding.specs.contracts.view.TransformTables as T
 use Rattle.folding.proofs.view.TransformTables.TheLaws as T'
@@ -70,7 +70,7 @@ module _ {M : Type 1} {𝓤 : Ura M} (𝓛 : Logic 𝓤) (mem : Memory → SProp
   v₄ = slice_val vw.ref_ptr (length vw.now)
 
   abbrev made : TransformTables
-  made = viewOf hc hw vc vw
+  made = view_of hc hw vc vw
 
   abbrev Arg : Type 0
   Arg = Bor (List ℕ) × (Bor (List Float) × (Bor (List ℕ) × (Bor (List Float) × Unit {0})))

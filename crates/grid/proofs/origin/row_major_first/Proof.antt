@@ -5,7 +5,7 @@ use mathlib.Core.Logic.{⊎_elim}
 use lib.ListN.{length}
 use Rattle.laws.specs.Words.{origins}
 use Rattle.best.specs.Lex.{optimal}
-use Rattle.grid.specs.RowMajor.{rowMajor}
+use Rattle.grid.specs.RowMajor.{row_major}
 use Rattle.grid.specs.RowMajorLaws.{major-no, major-yes}
 use borrow.Author.Rules.{rules}
 use native.Mathlib.Omega.{arith}
@@ -13,7 +13,7 @@ use Rattle.grid.proofs.origin.row_major_first.Statement.{statement}
 use Rattle.grid.proofs.origin.row_major_first.Tie as tie
 
 abbrev invariant-loop : tie.invariant-loop
-invariant-loop hc hw ht hh vc vw vt vh periods best₀ h₀ best h = (h ≤ length hc) × (best ≡ rowMajor (origins periods.h periods.v) (length vc) (optimal hc hw ht hh) (optimal vc vw vt vh) h)
+invariant-loop hc hw ht hh vc vw vt vh periods best₀ h₀ best h = (h ≤ length hc) × (best ≡ row_major (origins periods.h periods.v) (length vc) (optimal hc hw ht hh) (optimal vc vw vt vh) h)
 
 abbrev decreases-loop : tie.decreases-loop
 decreases-loop hc hw ht hh vc vw vt vh periods best₀ h₀ best h = length hc - h
@@ -30,7 +30,7 @@ mul-best-3 c =
     record { fits = omega (arith, mul-le-mul {n₁ = 3 * s.args.periods.h} {m₁ = 3 * s.args.periods.v} {n₂ = 1500} {m₂ = 1500} (omega (arith, s.requires.0.0.few)) (omega (arith, s.requires.0.1.few))) }
 
 loop-holds : tie.Need-loop-init invariant-loop decreases-loop
-unfolding rowMajor
+unfolding row_major
 loop-holds c = (search rules, refl)
 
 mul-is-optimal : tie.Need-overflow-mul-is-optimal invariant-loop decreases-loop

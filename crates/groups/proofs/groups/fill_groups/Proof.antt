@@ -9,8 +9,8 @@ use Rattle.laws.specs.declared.Modulus.{Modulus}
 use Rattle.laws.specs.Modulus.{modulus-n, modulus-ok}
 use Rattle.board.specs.Hits.{EdgeList, edges}
 use Rattle.board.specs.DomainLaws.{edges-ok, edge-ok}
-use Rattle.room.specs.Room.{rowLength}
-use Rattle.groups.specs.Fill.{FillReady, Filled, placeAt}
+use Rattle.room.specs.Room.{row_length}
+use Rattle.groups.specs.Fill.{FillReady, Filled, place_at}
 use Rattle.groups.specs.FillLaws.{place-held, ready_held, filled-held, filled_none, filled_more, filled-few}
 use Rattle.groups.proofs.groups.fill_groups.Statement.{statement}
 use Rattle.groups.proofs.groups.fill_groups.Tie as tie
@@ -102,7 +102,7 @@ module _ (c : tie.After-group-place invariant-loop decreases-loop) where
   abbrev at : ℕ
   at = (st made).args.base + p
 
-  told : (p ≡ placeAt (h made).n (v made).n (E made) (st made).args.t i) × (p < rowLength (h made).n (v made).n)
+  told : (p ≡ place_at (h made).n (v made).n (E made) (st made).args.t i) × (p < row_length (h made).n (v made).n)
   told = place-held _ _ _ _ (E made) (st made).args.t i _ p refl refl c.before.edge_at.ensures c.group-place.ensures
 
   room : (at < length counts) × (at < length weights) × (get_or counts at 0 ≤ 8192)
@@ -112,14 +112,14 @@ module _ (c : tie.After-group-place invariant-loop decreases-loop) where
 few : (c : tie.Start invariant-loop decreases-loop) → (4 * length c.args.counts.now < 2 ^ 64) × (4 * length c.args.weights.now < 2 ^ 64)
 few c = (omega arith, omega arith)
 
-in_both : (b p n r x y : ℕ) → p < r → b + r ≤ x → b + r ≤ y → 4 * x < 2 ^ 64 → 4 * y < 2 ^ 64 → n ≡ b + p → (4 * n < 2 ^ 64) × (n < x) × (n < y)
-in_both b p n r x y h i j k l e = omega arith
+in_both_lem : (b p n r x y : ℕ) → p < r → b + r ≤ x → b + r ≤ y → 4 * x < 2 ^ 64 → 4 * y < 2 ^ 64 → n ≡ b + p → (4 * n < 2 ^ 64) × (n < x) × (n < y)
+in_both_lem b p n r x y h i j k l e = omega arith
 
 inside : (c : tie.After-group-place invariant-loop decreases-loop) → (4 * at c < 2 ^ 64) × (at c < length (st (made c)).args.counts.now) × (at c < length (st (made c)).args.weights.now)
 inside c =
     let m = made c in
     let s = st m in
-    in_both s.args.base (p c) _ (rowLength (h m).n (v m).n) _ _ (told c).1 (ready m).room.0 (ready m).room.1 (few s).0 (few s).1 refl
+    in_both_lem s.args.base (p c) _ (row_length (h m).n (v m).n) _ _ (told c).1 (ready m).room.0 (ready m).room.1 (few s).0 (few s).1 refl
 
 -- the edge is one of the list
 turn : (c : tie.After-group-place invariant-loop decreases-loop) → (i c < 8192) × (i c < length (st (made c)).args.confidences.now)

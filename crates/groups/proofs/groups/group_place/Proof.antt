@@ -6,7 +6,7 @@ use mir.Syntax.{w32}
 use Rattle.laws.specs.Signed.{read}
 use borrow.Author.Tests.{eq-eqb, ne_eqb}
 use Rattle.board.specs.declared.edge.EdgeLookup.{EdgeLookup}
-use Rattle.board.specs.Transform.{lookupOf}
+use Rattle.board.specs.Transform.{lookup_of}
 use Rattle.board.specs.TransformLaws.{lookup-near}
 use Rattle.room.specs.Room.{PeriodsOk}
 use Rattle.groups.specs.Groups.{group, place_of}
@@ -32,7 +32,7 @@ module _ (c : tie.After-struct-known) where
   abbrev got : EdgeLookup
   got = c.before.before.before.transform-edge-lookup.result
 
-  found : got ≡ lookupOf st.args.t st.args.edge.row st.args.edge.col st.args.edge.orientation
+  found : got ≡ lookup_of st.args.t st.args.edge.row st.args.edge.col st.args.edge.orientation
   found = c.before.before.before.transform-edge-lookup.ensures
 
   near : (nat_abs got.row ≤ 2000002) × (nat_abs got.col ≤ 2000002)
@@ -47,7 +47,7 @@ module _ (c : tie.After-struct-known) where
   col-back : read w32 got.col ≡ got.col
   col-back = search rules
 
-  done : (p : ℕ) → p ≡ place_of L M got st.args.edge.bit → (p ≡ place_of L M (lookupOf st.args.t st.args.edge.row st.args.edge.col st.args.edge.orientation) st.args.edge.bit) × (p < (L + M) * 6)
+  done : (p : ℕ) → p ≡ place_of L M got st.args.edge.bit → (p ≡ place_of L M (lookup_of st.args.t st.args.edge.row st.args.edge.col st.args.edge.orientation) st.args.edge.bit) × (p < (L + M) * 6)
   done p e = (
     e ∙ ap (λ (l : EdgeLookup). place_of L M l st.args.edge.bit) found,
     subst (λ (x : ℕ). x < (L + M) * 6) (sym e) (place-below L M got st.args.edge.bit periods st.pre.0.bit),

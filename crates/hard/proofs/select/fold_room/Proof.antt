@@ -6,14 +6,14 @@ use lib.Ieee.{Float}
 use lib.ListN.{take, drop}
 use borrow.Author.Rules.{rules}
 use Rattle.best.specs.CellTables.{CellTables, cells, TablesOk}
-use Rattle.folding.specs.Transform.{foldTransform}
-use Rattle.hard.specs.SelectLaws.{roomCells}
+use Rattle.folding.specs.Transform.{fold_transform}
+use Rattle.hard.specs.SelectLaws.{room_cells}
 use Rattle.hard.proofs.select.fold_room.Statement.{statement}
 use Rattle.hard.proofs.select.fold_room.Tie as tie
 
 -- the parts that are lent are the tables in the room
-parts : (L M : ℕ) (c : List ℕ) (w : List Float) → cells (take (3 * L - 0) (drop 0 c)) (take (3 * L - 0) (drop 0 w)) (take (3 * L + 3 * M - 3 * L) (drop (3 * L) c)) (take (3 * L + 3 * M - 3 * L) (drop (3 * L) w)) ≡ roomCells L M c w
-unfolding roomCells
+parts : (L M : ℕ) (c : List ℕ) (w : List Float) → cells (take (3 * L - 0) (drop 0 c)) (take (3 * L - 0) (drop 0 w)) (take (3 * L + 3 * M - 3 * L) (drop (3 * L) c)) (take (3 * L + 3 * M - 3 * L) (drop (3 * L) w)) ≡ room_cells L M c w
+unfolding room_cells
 parts L M c w =
     let a : 3 * L - 0 ≡ 3 * L = omega arith in
     let b : 3 * L + 3 * M - 3 * L ≡ 3 * M = omega arith in
@@ -81,7 +81,7 @@ returns : tie.Need-returns
 returns c =
     let s = c.before.before.before.before.before.before.before.before.before in
     let a = s.args in
-    c.fold-tables.ensures ∙ ap (λ (X : CellTables). foldTransform a.periods.h a.periods.v a.asked.edges a.asked.confidence a.asked.error_limit a.transform X a.scan) (parts a.periods.h a.periods.v a.counts.now a.weights.now)
+    c.fold-tables.ensures ∙ ap (λ (X : CellTables). fold_transform a.periods.h a.periods.v a.asked.edges a.asked.confidence a.asked.error_limit a.transform X a.scan) (parts a.periods.h a.periods.v a.counts.now a.weights.now)
 
 pub fold-room-spec : {M : Type 1} → statement M
 fold-room-spec =

@@ -26,7 +26,7 @@ empty-requires c κs = search rules
 loop-holds : tie.Need-loop-init invariant-loop decreases-loop
 loop-holds c =
     let s = c.before.before.before.before.before.before.before.before.before in
-    let n = scan-none (tables s.args.h.now s.args.v.now) (edges s.args.rows.now s.args.cols.now s.args.orientations.now s.args.bits.now s.args.confidences.now) s.args.transforms.now s.args.confidence s.args.error-limit s.args.counts.now s.args.weights.now in
+    let n = scan-none (tables s.args.h.now s.args.v.now) (edges s.args.rows.now s.args.cols.now s.args.orientations.now s.args.bits.now s.args.confidences.now) s.args.transforms.now s.args.confidence s.args.error_limit s.args.counts.now s.args.weights.now in
     (omega arith, record { answer = c.empty.ensures ∙ n.answer; rooms = n.rooms })
 
 -- what the function was given, and the turn that is being made
@@ -46,7 +46,7 @@ module _ (c : tie.In-loop invariant-loop decreases-loop) where
   abbrev ts : List ℕ
   ts = st.args.transforms.now
 
-  abbrev done : ScanDone B E ts st.args.confidence st.args.error-limit at st.args.counts.now c.before.loop.counts st.args.weights.now c.before.loop.weights c.before.loop.scan
+  abbrev done : ScanDone B E ts st.args.confidence st.args.error_limit at st.args.counts.now c.before.loop.counts st.args.weights.now c.before.loop.weights c.before.loop.scan
   done = c.before.loop.invariant.1
 
 shared-slice-read-t : tie.Need-shared-slice-read-t invariant-loop decreases-loop
@@ -64,7 +64,7 @@ fold-room-requires : tie.Need-fold-room-requires invariant-loop decreases-loop
 fold-room-requires c κs =
     let l = c.before.before.before.before.before.before.before.before.before.before.before in (
       room-ready (B l) (E l) _ l.before.loop.counts _ l.before.loop.weights _ (rooms-ready (B l) (E l) (ts l) _ _ (st l).requires (at l) _ _ (done l).rooms l.loop-test.true) c.before.before.before.before.before.before.before.build-tables.ensures,
-      omega (arith, scan-count (B l) (E l) (ts l) (st l).args.confidence (st l).args.error-limit _ _ (at l) _ _ _ (done l), l.loop-test.true, (st l).requires.transforms.1),
+      omega (arith, scan-count (B l) (E l) (ts l) (st l).args.confidence (st l).args.error_limit _ _ (at l) _ _ _ (done l), l.loop-test.true, (st l).requires.transforms.1),
     )
 
 add-i : tie.Need-overflow-add-i invariant-loop decreases-loop
@@ -76,7 +76,7 @@ loop-less c = omega arith
 loop-again : tie.Need-loop-preserved invariant-loop decreases-loop
 loop-again c =
     let l = c.before.before.before.before.before.before.before.before.before.before.before.before in
-    (omega arith, scan-more (B l) (E l) (ts l) (st l).args.confidence (st l).args.error-limit _ _ (st l).requires (at l) _ _ _ _ _ _ l.loop-test.true (done l) c.before.before.before.before.before.before.before.before.build-tables.ensures c.fold-room.ensures)
+    (omega arith, scan-more (B l) (E l) (ts l) (st l).args.confidence (st l).args.error_limit _ _ (st l).requires (at l) _ _ _ _ _ _ l.loop-test.true (done l) c.before.before.before.before.before.before.before.before.build-tables.ensures c.fold-room.ensures)
 
 same_length : tie.Need-same-length invariant-loop decreases-loop
 same_length c = let s = c.before.before.before.before.before.before.before.before.before.before.before in (rooms-length _ _ _ _ _ s.requires c.before.loop.i _ _ c.before.loop.invariant.1.rooms).0
@@ -88,7 +88,7 @@ returns : tie.Need-returns invariant-loop decreases-loop
 returns c =
     let s = c.before.before.before.before.before.before.before.before.before.before.before in
     let e : c.before.loop.i ≡ length s.args.transforms.now = omega (arith, c.before.loop.invariant.0) in
-    subst (λ (n : ℕ). ScanDone (tables s.args.h.now s.args.v.now) (edges s.args.rows.now s.args.cols.now s.args.orientations.now s.args.bits.now s.args.confidences.now) s.args.transforms.now s.args.confidence s.args.error-limit n s.args.counts.now c.before.loop.counts s.args.weights.now c.before.loop.weights c.before.loop.scan) e c.before.loop.invariant.1
+    subst (λ (n : ℕ). ScanDone (tables s.args.h.now s.args.v.now) (edges s.args.rows.now s.args.cols.now s.args.orientations.now s.args.bits.now s.args.confidences.now) s.args.transforms.now s.args.confidence s.args.error_limit n s.args.counts.now c.before.loop.counts s.args.weights.now c.before.loop.weights c.before.loop.scan) e c.before.loop.invariant.1
 
 pub scan-transforms-spec : {M : Type 1} → statement M
 scan-transforms-spec =

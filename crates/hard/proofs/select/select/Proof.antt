@@ -1,10 +1,10 @@
 use mathlib.Core.Path.{◌≡◌, ap, sym, ◌∙◌}
 use mathlib.Core.Bool.{Bool, true, false}
 use lib.Ieee.{Float, eq, of_bits, binary32}
-use Rattle.laws.specs.Words.{zeroF}
+use Rattle.laws.specs.Words.{zero_f}
 use Rattle.board.specs.Hits.{EdgeList, Board, edges, tables}
 use Rattle.scan.specs.declared.scan.Choice.TheVariants.{Nothing, Chosen}
-use Rattle.figures.specs.Figures.{totalConfidence}
+use Rattle.figures.specs.Figures.{total_confidence}
 use Rattle.hard.specs.SelectLaws.{scan-sound, select-refused, select_chosen}
 use borrow.Author.Rules.{rules}
 use Rattle.hard.proofs.select.select.Statement.{statement}
@@ -22,9 +22,9 @@ module _ (c : tie.After-total-confidence) where
   B = tables st.args.h.now st.args.v.now
 
   -- the test is of the total confidence
-  told : (t : Bool) → eq c.total-confidence.result (of_bits binary32 0) ≡ t → eq (totalConfidence E) zeroF ≡ t
+  told : (t : Bool) → eq c.total-confidence.result (of_bits binary32 0) ≡ t → eq (total_confidence E) zero_f ≡ t
   unfolding of_bits
-  told t e = ap (λ (x : Float). eq x zeroF) (sym c.total-confidence.ensures) ∙ e
+  told t e = ap (λ (x : Float). eq x zero_f) (sym c.total-confidence.ensures) ∙ e
 
 total-confidence-requires : tie.Need-total-confidence-requires
 total-confidence-requires c κs = search rules

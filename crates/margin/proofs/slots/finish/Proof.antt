@@ -1,5 +1,5 @@
 use borrow.Author.Rules.{rules}
-use Rattle.margin.specs.Choice.{softChosen}
+use Rattle.margin.specs.Choice.{soft_chosen}
 use Rattle.margin.proofs.slots.finish.Statement.{statement}
 use Rattle.margin.proofs.slots.finish.Tie as tie
 
@@ -16,15 +16,15 @@ enum-known-b : tie.Need-enum-known-b
 enum-known-b c = search rules
 
 returns : tie.Need-returns
-unfolding softChosen
+unfolding soft_chosen
 returns c = rw c.enum_told.given.1
 
 returns-2 : tie.Need-returns-2
-unfolding softChosen
+unfolding soft_chosen
 returns-2 c = rw (c.before.before.before.a.given.1, c.enum-told2.given.1)
 
 returns-3 : tie.Need-returns-3
-unfolding softChosen
+unfolding soft_chosen
 returns-3 c = rw (c.before.before.before.before.a.given.1, c.before.b.given.1)
 
 pub finish_spec : {M : Type 1} → statement M

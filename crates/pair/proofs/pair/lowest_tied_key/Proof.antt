@@ -11,14 +11,14 @@ use mir.Facts.{to_z-of_z}
 use Rattle.laws.specs.Words.{origins}
 use Rattle.grid.specs.RowMajor.{lowest}
 use Rattle.grid.specs.RowMajorLaws.{lowest-no, lowest-yes}
-use Rattle.level.specs.Level.{sAt, tiedSum}
+use Rattle.level.specs.Level.{s_at, tied_sum}
 use Rattle.level.specs.SumsLaws.{read-eq}
 use Rattle.grid.specs.RowFloor.{floor-stays}
 use Rattle.pair.proofs.pair.lowest_tied_key.Statement.{statement}
 use Rattle.pair.proofs.pair.lowest_tied_key.Tie as tie
 
 abbrev invariant-loop : tie.invariant-loop
-invariant-loop sums top h start periods best₀ v₀ best v = (v ≤ length sums) × (best ≡ lowest (tiedSum sums (to_z w64 top)) ((origins periods.h periods.v).key h) start v)
+invariant-loop sums top h start periods best₀ v₀ best v = (v ≤ length sums) × (best ≡ lowest (tied_sum sums (to_z w64 top)) ((origins periods.h periods.v).key h) start v)
 
 abbrev decreases-loop : tie.decreases-loop
 decreases-loop sums top h start periods best₀ v₀ best v = length sums - v
@@ -54,7 +54,7 @@ loop-less c = search rules
 loop-again : tie.Need-loop-preserved invariant-loop decreases-loop
 loop-again c =
     let at = c.before.before.before.before in
-    let said = read-eq (sAt at.before.before.before.args.sums.now at.loop.v) (to_z w64 (of_z w64 at.before.before.before.args.top)) c.before.is_Tied.result c.before.before.is-tied-arg.given c.before.is_Tied.ensures in
+    let said = read-eq (s_at at.before.before.before.args.sums.now at.loop.v) (to_z w64 (of_z w64 at.before.before.before.args.top)) c.before.is_Tied.result c.before.before.is-tied-arg.given c.before.is_Tied.ensures in
     ⊎_elim
     (λ w. (omega arith, w.2 ∙ w.1.ensures ∙ lowest-yes _ _ _ _ _ at.loop.invariant.1 (sym said ∙ w.0.taken)))
     (λ w. (omega arith, w.1 ∙ lowest-no _ _ _ _ _ at.loop.invariant.1 (sym said ∙ w.0.left)))

@@ -8,15 +8,15 @@ use mir.Val.{to_z, of_z}
 use mir.Facts.{to_z-of_z}
 use Rattle.laws.specs.Words.{origins}
 use Rattle.grid.specs.BoardGrid.{none-small}
-use Rattle.level.specs.Level.{sAt, tiedSum}
-use Rattle.pair.specs.Pair.{otherIn}
+use Rattle.level.specs.Level.{s_at, tied_sum}
+use Rattle.pair.specs.Pair.{other_in}
 use Rattle.pair.specs.PairLaws.{other_step, other-kept}
 use Rattle.level.specs.SumsLaws.{read-eq}
 use Rattle.pair.proofs.pair.other_in.Statement.{statement}
 use Rattle.pair.proofs.pair.other_in.Tie as tie
 
 abbrev invariant-loop : tie.invariant-loop
-invariant-loop sums top h winner start periods none found₀ v₀ found v = (v ≤ length sums) × (found ≡ otherIn (origins periods.h periods.v) (tiedSum sums (to_z w64 top)) h winner start v)
+invariant-loop sums top h winner start periods none found₀ v₀ found v = (v ≤ length sums) × (found ≡ other_in (origins periods.h periods.v) (tied_sum sums (to_z w64 top)) h winner start v)
 
 abbrev decreases-loop : tie.decreases-loop
 decreases-loop sums top h winner start periods none found₀ v₀ found v = length sums - v
@@ -34,7 +34,7 @@ returns : tie.Need-returns invariant-loop decreases-loop
 returns c = other-kept _ _ _ _ _ _ c.if1.true
 
 loop-holds : tie.Need-loop-init invariant-loop decreases-loop
-unfolding otherIn
+unfolding other_in
 loop-holds c = (search rules, refl)
 
 mul-is-tied : tie.Need-overflow-mul-is-tied invariant-loop decreases-loop
@@ -58,7 +58,7 @@ loop-less c = search rules
 loop-again : tie.Need-loop-preserved invariant-loop decreases-loop
 loop-again c =
     let at = c.before.before.before.before in
-    let said = read-eq (sAt at.before.before.before.before.args.sums.now at.loop.v) (to_z w64 (of_z w64 at.before.before.before.before.args.top)) c.before.is_Tied.result c.before.before.is-tied-arg.given c.before.is_Tied.ensures in
+    let said = read-eq (s_at at.before.before.before.before.args.sums.now at.loop.v) (to_z w64 (of_z w64 at.before.before.before.before.args.top)) c.before.is_Tied.result c.before.before.is-tied-arg.given c.before.is_Tied.ensures in
     (omega arith, c.fill.ensures ∙ rw said (other_step _ _ _ _ _ _ _ at.loop.invariant.1))
 
 returns-2 : tie.Need-returns-2 invariant-loop decreases-loop

@@ -9,15 +9,15 @@ use mir.Val.{to_z, of_z}
 use mir.Facts.{to_z-of_z}
 use Rattle.laws.specs.Words.{origins}
 use Rattle.grid.specs.BoardGrid.{none-small}
-use Rattle.level.specs.Level.{sAt, tiedSum}
-use Rattle.pair.specs.Pair.{otherPair}
+use Rattle.level.specs.Level.{s_at, tied_sum}
+use Rattle.pair.specs.Pair.{other_pair}
 use Rattle.pair.specs.PairLaws.{pair-no, pair-yes}
 use Rattle.level.specs.SumsLaws.{read-eq}
 use Rattle.pair.proofs.pair.other_pair.Statement.{statement}
 use Rattle.pair.proofs.pair.other_pair.Tie as tie
 
 abbrev invariant-loop : tie.invariant-loop
-invariant-loop hs ht vs vt winner periods found₀ h₀ found h = (h ≤ length hs) × (found ≡ otherPair (origins periods.h periods.v) (length vs) (tiedSum hs (to_z w64 ht)) (tiedSum vs (to_z w64 vt)) winner h)
+invariant-loop hs ht vs vt winner periods found₀ h₀ found h = (h ≤ length hs) × (found ≡ other_pair (origins periods.h periods.v) (length vs) (tied_sum hs (to_z w64 ht)) (tied_sum vs (to_z w64 vt)) winner h)
 
 abbrev decreases-loop : tie.decreases-loop
 decreases-loop hs ht vs vt winner periods found₀ h₀ found h = length hs - h
@@ -32,7 +32,7 @@ mul-found-3 : tie.Need-overflow-mul-found-3 invariant-loop decreases-loop
 mul-found-3 c = record { fits = omega (arith, none-small _ _ c.before.before.requires.0 c.before.before.requires.1) }
 
 loop-holds : tie.Need-loop-init invariant-loop decreases-loop
-unfolding otherPair
+unfolding other_pair
 loop-holds c = (search rules, refl)
 
 mul-is-tied : tie.Need-overflow-mul-is-tied invariant-loop decreases-loop
@@ -56,7 +56,7 @@ loop-less c = search rules
 loop-again : tie.Need-loop-preserved invariant-loop decreases-loop
 loop-again c =
     let at = c.before.before.before.before in
-    let said = read-eq (sAt at.before.before.before.args.hs.now at.loop.h) (to_z w64 (of_z w64 at.before.before.before.args.ht)) c.before.is_Tied.result c.before.before.is-tied-arg.given c.before.is_Tied.ensures in
+    let said = read-eq (s_at at.before.before.before.args.hs.now at.loop.h) (to_z w64 (of_z w64 at.before.before.before.args.ht)) c.before.is_Tied.result c.before.before.is-tied-arg.given c.before.is_Tied.ensures in
     ⊎_elim
     (λ w. (omega arith, w.2 ∙ w.1.ensures ∙ pair-yes _ _ _ _ _ _ _ at.loop.invariant.1 (sym said ∙ w.0.taken)))
     (λ w. (omega arith, w.1 ∙ pair-no _ _ _ _ _ _ _ at.loop.invariant.1 (sym said ∙ w.0.left)))

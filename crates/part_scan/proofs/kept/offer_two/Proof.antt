@@ -1,5 +1,5 @@
 use borrow.Author.Tests.{lt-ltb, le-ltb}
-use Rattle.part_scan.specs.Kept.{offeredTwo}
+use Rattle.part_scan.specs.Kept.{offered_two}
 use borrow.Author.Rules.{rules}
 use Rattle.part_scan.proofs.kept.offer_two.Statement.{statement}
 use Rattle.part_scan.proofs.kept.offer_two.Tie as tie
@@ -14,7 +14,7 @@ second-of-requires c κs = search rules
 
 -- src/kept.rt:57:9
 returns : tie.Need-returns
-unfolding offeredTwo
+unfolding offered_two
 returns c = simp (lt-ltb _ _ c.before.if1.true, c.second-of.ensures)
 
 -- src/kept.rt:59:9
@@ -23,7 +23,7 @@ next-of-requires c κs = search rules
 
 -- src/kept.rt:52:1
 returns-2 : tie.Need-returns-2
-unfolding offeredTwo
+unfolding offered_two
 returns-2 c = simp (le-ltb _ _ c.before.if1.false, c.next_of.ensures)
 
 pub offer-two-spec : {M : Type 1} → statement M

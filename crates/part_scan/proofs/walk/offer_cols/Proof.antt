@@ -4,7 +4,7 @@ use Prim.Native.Nat.{ℕ, ◌+◌, ◌*◌, ◌-◌, ◌%◌, ◌≤◌, ◌<◌
 use native.Mathlib.Omega.{arith}
 use Rattle.laws.specs.Words.{all}
 use Rattle.part_scan.specs.Kept.{walked}
-use Rattle.part_scan.specs.Walk.{numberValue, firstNumber}
+use Rattle.part_scan.specs.Walk.{number_value, first_number}
 use Rattle.part_scan.specs.KeptLaws.{walk-empty}
 use Rattle.part_scan.specs.WalkLaws.{next-short, next-long, col-more}
 use Rattle.part_scan.proofs.walk.offer_cols.Statement.{statement}
@@ -16,7 +16,7 @@ use Rattle.part_scan.proofs.walk.next_class.Reads as next-class-reads
 
 abbrev invariant-loop : tie.invariant-loop
 invariant-loop hs vs listed row from to base h v held₀ short₀ long₀ col₀ held short long col =
-    (from ≤ col) × (col ≤ to) × (short ≡ col % 3) × (long ≡ col % 167) × (held ≡ walked all (numberValue hs vs) held₀ (firstNumber listed row + from) (col - from))
+    (from ≤ col) × (col ≤ to) × (short ≡ col % 3) × (long ≡ col % 167) × (held ≡ walked all (number_value hs vs) held₀ (first_number listed row + from) (col - from))
 
 abbrev decreases-loop : tie.decreases-loop
 decreases-loop hs vs listed row from to base h v held₀ short₀ long₀ col₀ held short long col = to - col
@@ -110,7 +110,7 @@ returns c =
     let l = c.before.loop in
     let a = c.before.before.before.before.args in
     let e : l.col ≡ a.to = omega arith in
-    l.invariant.4 ∙ ap (λ (x : ℕ). walked all (numberValue a.hs.now a.vs.now) a.kept (firstNumber a.listed a.row + a.from) (x - a.from)) e
+    l.invariant.4 ∙ ap (λ (x : ℕ). walked all (number_value a.hs.now a.vs.now) a.kept (first_number a.listed a.row + a.from) (x - a.from)) e
 
 pub offer-cols-spec : {M : Type 1} → statement M
 offer-cols-spec =

@@ -2,7 +2,7 @@ use mathlib.Core.Path.{◌≡◌, ap, ◌∙◌}
 use Prim.Native.Nat.{ℕ, ◌*◌, ◌-◌}
 use Rattle.part_scan.specs.declared.kept.PartKept.{PartKept}
 use Rattle.part_scan.specs.Kept.{walked}
-use Rattle.part_scan.specs.Walk.{numberValue, firstNumber, inCols}
+use Rattle.part_scan.specs.Walk.{number_value, first_number, in_cols}
 use Rattle.part_scan.specs.WalkLaws.{part-runs}
 use borrow.Author.Rules.{rules}
 use Rattle.part_scan.proofs.walk.offer_origins.Statement.{statement}
@@ -24,7 +24,7 @@ returns : tie.Need-returns
 returns c =
     let s = c.before.before.before.before in
     let a = s.args in
-    c.offer-rows2.ensures ∙ ap (λ (X : PartKept). walked (inCols a.cols) (numberValue a.hs.now a.vs.now) X (firstNumber a.listed a.rows.from) ((a.rows.to - a.rows.from) * 501)) c.before.offer-rows.ensures ∙ part-runs _ _ a.kept a.listed a.rows a.cols s.requires.1.1 s.requires.1.2
+    c.offer-rows2.ensures ∙ ap (λ (X : PartKept). walked (in_cols a.cols) (number_value a.hs.now a.vs.now) X (first_number a.listed a.rows.from) ((a.rows.to - a.rows.from) * 501)) c.before.offer-rows.ensures ∙ part-runs _ _ a.kept a.listed a.rows a.cols s.requires.1.1 s.requires.1.2
 
 pub offer-origins-spec : {M : Type 1} → statement M
 offer-origins-spec = tie.close (tie.spec offer-rows-requires offer-rows-requires-2 returns)

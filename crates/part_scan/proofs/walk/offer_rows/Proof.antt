@@ -4,7 +4,7 @@ use Prim.Native.Nat.{ℕ, ◌+◌, ◌*◌, ◌-◌, ◌≤◌, ◌<◌}
 use native.Mathlib.Omega.{arith}
 use Rattle.part_scan.specs.declared.kept.PartKept.{PartKept}
 use Rattle.part_scan.specs.Kept.{walked}
-use Rattle.part_scan.specs.Walk.{numberValue, firstNumber, inCols}
+use Rattle.part_scan.specs.Walk.{number_value, first_number, in_cols}
 use Rattle.part_scan.specs.WalkLaws.{rows_none, row_more}
 use Rattle.part_scan.proofs.walk.offer_rows.Statement.{statement}
 use Rattle.part_scan.proofs.walk.offer_rows.Tie as tie
@@ -14,14 +14,14 @@ use Rattle.part_scan.proofs.walk.offer_row.Reads as offer-row-reads
 
 abbrev invariant-loop : tie.invariant-loop
 invariant-loop hs vs listed cols from to held₀ row₀ held row =
-    (from ≤ row) × (row ≤ to) × (held ≡ walked (inCols cols) (numberValue hs vs) held₀ (firstNumber listed from) ((row - from) * 501))
+    (from ≤ row) × (row ≤ to) × (held ≡ walked (in_cols cols) (number_value hs vs) held₀ (first_number listed from) ((row - from) * 501))
 
 abbrev decreases-loop : tie.decreases-loop
 decreases-loop hs vs listed cols from to held₀ row₀ held row = to - row
 
 -- src/walk.rt:90:5
 loop-holds : tie.Need-loop-init invariant-loop decreases-loop
-loop-holds c = let a = c.before.before.args in (omega arith, omega arith, rows_none _ (inCols a.cols) a.kept _ a.from)
+loop-holds c = let a = c.before.before.args in (omega arith, omega arith, rows_none _ (in_cols a.cols) a.kept _ a.from)
 
 -- src/walk.rt:91:9
 offer-row-requires : tie.Need-offer-row-requires invariant-loop decreases-loop
@@ -48,7 +48,7 @@ returns c =
     let l = c.before.loop in
     let a = c.before.before.before.before.args in
     let e : l.row ≡ a.to = omega arith in
-    l.invariant.2 ∙ ap (λ (x : ℕ). walked (inCols a.cols) (numberValue a.hs.now a.vs.now) a.kept (firstNumber a.listed a.from) ((x - a.from) * 501)) e
+    l.invariant.2 ∙ ap (λ (x : ℕ). walked (in_cols a.cols) (number_value a.hs.now a.vs.now) a.kept (first_number a.listed a.from) ((x - a.from) * 501)) e
 
 pub offer-rows-spec : {M : Type 1} → statement M
 offer-rows-spec =

@@ -23,11 +23,11 @@ none-within-requires c κs = search rules
 
 -- src/finish.rt:55:9
 returns : tie.Need-returns
-returns c = let s = c.before.before.before.before in c.none_within.ensures ∙ finish-over s.args.edges s.args.error-limit s.args.c s.args.next _ c.before.before.before.winner-of.ensures (sym c.before.before.over-limit.ensures ∙ c.before.if1.true)
+returns c = let s = c.before.before.before.before in c.none_within.ensures ∙ finish-over s.args.edges s.args.error_limit s.args.c s.args.next _ c.before.before.before.winner-of.ensures (sym c.before.before.over-limit.ensures ∙ c.before.if1.true)
 
 -- src/finish.rt:49:1
 returns-2 : tie.Need-returns-2
-returns-2 c = let s = c.before.before.before in finish-within s.args.edges s.args.error-limit s.args.c s.args.next _ c.before.before.winner-of.ensures (sym c.before.over-limit.ensures ∙ c.if1.false)
+returns-2 c = let s = c.before.before.before in finish-within s.args.edges s.args.error_limit s.args.c s.args.next _ c.before.before.winner-of.ensures (sym c.before.over-limit.ensures ∙ c.if1.false)
 
 pub finish-with-spec : {M : Type 1} → statement M
 finish-with-spec =

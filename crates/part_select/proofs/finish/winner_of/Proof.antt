@@ -1,4 +1,4 @@
-use Rattle.part_select.specs.Select.{winnerOf, placingOf}
+use Rattle.part_select.specs.Select.{winner_of, placing_of}
 use borrow.Author.Rules.{rules}
 use Rattle.part_select.proofs.finish.winner_of.Statement.{statement}
 use Rattle.part_select.proofs.finish.winner_of.Tie as tie
@@ -29,7 +29,7 @@ cast-t12 c = search rules
 
 -- src/finish.rt:29:1
 returns : tie.Need-returns
-unfolding winnerOf placingOf
+unfolding winner_of placing_of
 returns c = simp (c.before.before.before.hits-of.ensures, c.before.before.weight-of.ensures)
 
 pub winner-of-spec : {M : Type 1} → statement M

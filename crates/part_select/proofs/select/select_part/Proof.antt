@@ -37,7 +37,7 @@ unit-sum-requires c κs = let s = c.before.before.before.before.before.before.be
 
 -- src/select.rt:89:9
 returns : tie.Need-returns
-returns c = let s = c.before.before.before.before.before.before.before.before.before in part-refused (B s) (E s) (ts s) s.args.part s.args.error-limit (room s) (sym c.before.unit-sum.ensures ∙ c.if1.true)
+returns c = let s = c.before.before.before.before.before.before.before.before.before in part-refused (B s) (E s) (ts s) s.args.part s.args.error_limit (room s) (sym c.before.unit-sum.ensures ∙ c.if1.true)
 
 -- src/select.rt:94:17
 cast-edges : tie.Need-overflow-cast-edges
@@ -71,7 +71,7 @@ returns-2 : tie.Need-returns-2
 returns-2 c =
     let d = c.before.before.before in
     let s = d.before.before.before.before.before.before.before.before.before.before.before.before.before in
-    part-finished (B s) (E s) (ts s) s.args.part s.args.error-limit (room s) _ d.before.before.before.runs_of.result d.before.before.runs-of2.result d.scan-part.result c.finish-part.result (λ e. d.before.before.before.before.if1.false (d.before.before.before.before.before.unit-sum.ensures ∙ e)) d.before.before.before.runs_of.ensures d.before.before.runs-of2.ensures d.scan-part.ensures c.finish-part.ensures
+    part-finished (B s) (E s) (ts s) s.args.part s.args.error_limit (room s) _ d.before.before.before.runs_of.result d.before.before.runs-of2.result d.scan-part.result c.finish-part.result (λ e. d.before.before.before.before.if1.false (d.before.before.before.before.before.unit-sum.ensures ∙ e)) d.before.before.before.runs_of.ensures d.before.before.runs-of2.ensures d.scan-part.ensures c.finish-part.ensures
 
 pub select-part-spec : {M : Type 1} → statement M
 select-part-spec =

@@ -1,9 +1,9 @@
 -- `build`: a list that the checks took is ready for its tables and its sums.
 use Rattle.std.proofs.Common.{[], ◌∷◌, length, sym, refl, ◌∙◌, rules}
-use Rattle.laws.specs.Words.{zeroF}
+use Rattle.laws.specs.Words.{zero_f}
 use Rattle.board.specs.Hits.{EdgeList, Board, edges, tables}
 use Rattle.likelihood.specs.Likelihood.{Likelihoods, likelihoods}
-use Rattle.admission.specs.Calls.{softCall}
+use Rattle.admission.specs.Calls.{soft_call}
 use Rattle.admission.specs.Accepted.{SoftAccepted, soft-accepted}
 use Rattle.sums.specs.SumsTheorems.{bare-ready}
 use Rattle.poletables.specs.Ready.{tables-ready, sums-ready}
@@ -24,9 +24,9 @@ module _ (s : tie.Start) where
   abbrev B : Board
   B = tables s.args.h.now s.args.v.now
 
-accepted : (c : tie.After-enum-told) → let s = start c in SoftAccepted (softCall (E s) (E s) (X s) (s.args.transform ∷ []) (B s) zeroF zeroF) (length s.args.counts.now) (length s.args.weights.now) (length s.args.sums.now)
+accepted : (c : tie.After-enum-told) → let s = start c in SoftAccepted (soft_call (E s) (E s) (X s) (s.args.transform ∷ []) (B s) zero_f zero_f) (length s.args.counts.now) (length s.args.weights.now) (length s.args.sums.now)
 unfolding lib.Ieee.of_bits
-accepted c = let s = start c in soft-accepted (softCall (E s) (E s) (X s) (s.args.transform ∷ []) (B s) zeroF zeroF) (length s.args.counts.now) (length s.args.weights.now) (length s.args.sums.now) (sym c.before.before.soft-admission.ensures ∙ c.enum_told.given.1)
+accepted c = let s = start c in soft-accepted (soft_call (E s) (E s) (X s) (s.args.transform ∷ []) (B s) zero_f zero_f) (length s.args.counts.now) (length s.args.weights.now) (length s.args.sums.now) (sym c.before.before.soft-admission.ensures ∙ c.enum_told.given.1)
 
 slice-aggregate-soft-admission : tie.Need-slice-aggregate-soft-admission
 slice-aggregate-soft-admission c = search rules
@@ -41,10 +41,10 @@ enum_told : tie.Need-enum-told
 enum_told c = search rules
 
 build-tables-requires : tie.Need-build-tables-requires
-build-tables-requires c κs = let t = c.before.before in let s = start t in tables-ready (E s) (X s) s.args.transform (B s) zeroF zeroF _ _ _ (accepted t) s.args.counts.now s.args.weights.now refl refl
+build-tables-requires c κs = let t = c.before.before in let s = start t in tables-ready (E s) (X s) s.args.transform (B s) zero_f zero_f _ _ _ (accepted t) s.args.counts.now s.args.weights.now refl refl
 
 build-sums-requires : tie.Need-build-sums-requires
-build-sums-requires c κs = let t = c.before.before.before.before.before.before.before.before in let s = start t in bare-ready (B s) (E s) (X s) s.args.transform s.args.sums.now (sums-ready (E s) (X s) s.args.transform (B s) zeroF zeroF _ _ _ (accepted t) s.args.sums.now refl)
+build-sums-requires c κs = let t = c.before.before.before.before.before.before.before.before in let s = start t in bare-ready (B s) (E s) (X s) s.args.transform s.args.sums.now (sums-ready (E s) (X s) s.args.transform (B s) zero_f zero_f _ _ _ (accepted t) s.args.sums.now refl)
 
 returns : tie.Need-returns
 returns c = search rules

@@ -1,7 +1,7 @@
 -- `select`: a list that the checks took is ready for a selection.
 use Rattle.std.proofs.Common.{◌≡◌, length, sym, ap, ◌∙◌, rules}
 use Rattle.board.specs.Hits.{edges, tables}
-use Rattle.admission.specs.Calls.{HardCall, hardCall}
+use Rattle.admission.specs.Calls.{HardCall, hard_call}
 use Rattle.admission.specs.Accepted.{HardAccepted, hard-accepted}
 use Rattle.hard.specs.Ready.{ready-logical}
 use Rattle.replay.proofs.selection.select.Statement.{statement}
@@ -15,7 +15,7 @@ abbrev call : tie.Start → HardCall
 call s =
     let a = s.args in
     let E = edges a.rows.now a.cols.now a.orientations.now a.bits.now a.confidences.now in
-    hardCall E E a.transforms.now (tables a.h.now a.v.now) a.limit
+    hard_call E E a.transforms.now (tables a.h.now a.v.now) a.limit
 
 accepted : (c : tie.After-enum-told) → let s = start c in HardAccepted (call s) (length s.args.counts.now) (length s.args.weights.now)
 accepted c = let s = start c in hard-accepted (call s) (length s.args.counts.now) (length s.args.weights.now) (sym c.before.before.hard-admission.ensures ∙ c.enum_told.given.1)

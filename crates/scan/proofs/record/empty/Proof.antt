@@ -1,10 +1,10 @@
 use mathlib.Core.Path.{refl}
-use Rattle.scan.specs.Scan.{emptyScan}
+use Rattle.scan.specs.Scan.{empty_scan}
 use Rattle.scan.proofs.record.empty.Statement.{statement}
 use Rattle.scan.proofs.record.empty.Tie as tie
 
 returns : tie.Need-returns
-unfolding emptyScan
+unfolding empty_scan
 returns c = refl
 
 pub empty-spec : {M : Type 1} → statement M

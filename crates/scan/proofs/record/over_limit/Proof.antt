@@ -1,4 +1,4 @@
-use Rattle.scan.specs.Scan.{overLimit}
+use Rattle.scan.specs.Scan.{over_limit}
 use borrow.Author.Rules.{rules}
 use Rattle.scan.proofs.record.over_limit.Statement.{statement}
 use Rattle.scan.proofs.record.over_limit.Tie as tie
@@ -7,7 +7,7 @@ rate-requires : tie.Need-rate-requires
 rate-requires c κs = search rules
 
 returns : tie.Need-returns
-unfolding overLimit
+unfolding over_limit
 returns c = rw c.rate.ensures
 
 pub over-limit-spec : {M : Type 1} → statement M

@@ -1,14 +1,14 @@
 use Prim.Native.Nat.{◌≤◌, ◌-◌}
 use mathlib.Core.Path.{◌≡◌, refl}
 use native.Mathlib.Numerals.{add-one}
-use Rattle.scan.specs.Scan.{runnerUp}
+use Rattle.scan.specs.Scan.{runner_up_of}
 use borrow.Author.Rules.{rules}
 use native.Mathlib.Omega.{arith}
 use Rattle.scan.proofs.record.runner_up.Statement.{statement}
 use Rattle.scan.proofs.record.runner_up.Tie as tie
 
 abbrev invariant-loop : tie.invariant-loop
-invariant-loop winner scan n r₀ i₀ r i = (i ≤ n) × (r ≡ runnerUp scan.summaries winner i)
+invariant-loop winner scan n r₀ i₀ r i = (i ≤ n) × (r ≡ runner_up_of scan.summaries winner i)
 
 abbrev decreases-loop : tie.decreases-loop
 decreases-loop winner scan n r₀ i₀ r i = n - i
@@ -20,7 +20,7 @@ element-copy-out-w : tie.Need-element-copy-out-w invariant-loop decreases-loop
 element-copy-out-w c = search rules
 
 loop-holds : tie.Need-loop-init invariant-loop decreases-loop
-unfolding runnerUp
+unfolding runner_up_of
 loop-holds c = (search rules, refl)
 
 mul-s : tie.Need-overflow-mul-s invariant-loop decreases-loop
@@ -39,7 +39,7 @@ loop-less : tie.Need-loop-smaller invariant-loop decreases-loop
 loop-less c = search rules
 
 loop-again : tie.Need-loop-preserved invariant-loop decreases-loop
-unfolding runnerUp
+unfolding runner_up_of
 loop-again c = (omega arith, rw (add-one, ← c.before.before.before.loop.invariant.1) c.step.ensures)
 
 returns : tie.Need-returns invariant-loop decreases-loop

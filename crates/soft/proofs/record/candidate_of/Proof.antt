@@ -5,7 +5,7 @@ use borrow.Author.Rules.{rules}
 use native.Mathlib.Nat.{div-le_self, mod-le}
 use Rattle.laws.specs.Words.{origins}
 use Rattle.grid.specs.BoardGrid.{grid}
-use Rattle.level.specs.Level.{sAt}
+use Rattle.level.specs.Level.{s_at}
 use Rattle.level.specs.Sums.{sums}
 use Rattle.level.specs.SumsLaws.{sum_fits, sum-small, sum-read}
 use Rattle.soft.specs.ScanLaws.{candidate-made}
@@ -14,17 +14,17 @@ use Rattle.soft.proofs.record.candidate_of.Tie as tie
 
 -- the cells of the key are inside
 module _ (c : tie.Start) where
-  h-cell : (origins c.args.periods.h c.args.periods.v).hOf c.args.key < 3 * c.args.periods.h
+  h-cell : (origins c.args.periods.h c.args.periods.v).h_of c.args.key < 3 * c.args.periods.h
   h-cell = (grid _ _ c.requires.0 c.requires.1).h-in c.args.key
 
-  v-cell : (origins c.args.periods.h c.args.periods.v).vOf c.args.key < 3 * c.args.periods.v
+  v-cell : (origins c.args.periods.h c.args.periods.v).v_of c.args.key < 3 * c.args.periods.v
   v-cell = (grid _ _ c.requires.0 c.requires.1).v-in c.args.key
 
   abbrev h-sum : ℤ
-  h-sum = sAt c.args.hs.now ((origins c.args.periods.h c.args.periods.v).hOf c.args.key)
+  h-sum = s_at c.args.hs.now ((origins c.args.periods.h c.args.periods.v).h_of c.args.key)
 
   abbrev v_sum : ℤ
-  v_sum = sAt c.args.vs.now ((origins c.args.periods.h c.args.periods.v).vOf c.args.key)
+  v_sum = s_at c.args.vs.now ((origins c.args.periods.h c.args.periods.v).v_of c.args.key)
 
   bound : nat_abs h-sum + nat_abs v_sum ≤ 2 ^ 53
   bound = c.requires.2.bounded _ _ h-cell v-cell

@@ -1,10 +1,10 @@
 use mathlib.Core.Path.{refl}
-use Rattle.soft.specs.Scan.{softEmpty}
+use Rattle.soft.specs.Scan.{soft_empty}
 use Rattle.soft.proofs.record.empty.Statement.{statement}
 use Rattle.soft.proofs.record.empty.Tie as tie
 
 returns : tie.Need-returns
-unfolding softEmpty
+unfolding soft_empty
 returns c = refl
 
 pub empty-spec : {M : Type 1} → statement M

@@ -6,14 +6,14 @@ use lib.IntN.{ℤ}
 use lib.ListN.{take, drop}
 use borrow.Author.Rules.{rules}
 use Rattle.level.specs.Sums.{SumTables, sums, SumsOk}
-use Rattle.soft.specs.Scan.{softFolded}
-use Rattle.soft.specs.SelectLaws.{roomSums}
+use Rattle.soft.specs.Scan.{soft_folded}
+use Rattle.soft.specs.SelectLaws.{room_sums}
 use Rattle.soft.proofs.select.fold_room.Statement.{statement}
 use Rattle.soft.proofs.select.fold_room.Tie as tie
 
 -- the parts that are lent are the tables in the room
-parts : (L M : ℕ) (a : List ℤ) → sums (take (3 * L - 0) (drop 0 a)) (take (3 * L + 3 * M - 3 * L) (drop (3 * L) a)) ≡ roomSums L M a
-unfolding roomSums
+parts : (L M : ℕ) (a : List ℤ) → sums (take (3 * L - 0) (drop 0 a)) (take (3 * L + 3 * M - 3 * L) (drop (3 * L) a)) ≡ room_sums L M a
+unfolding room_sums
 parts L M a =
     let x : 3 * L - 0 ≡ 3 * L = omega arith in
     let y : 3 * L + 3 * M - 3 * L ≡ 3 * M = omega arith in
@@ -59,7 +59,7 @@ fold-transform-requires c κs =
 returns : tie.Need-returns
 returns c =
     let a = c.before.before.before.before.before.args in
-    c.fold-transform.ensures ∙ ap (λ (X : SumTables). softFolded a.periods.h a.periods.v X a.scan) (parts a.periods.h a.periods.v a.sums.now)
+    c.fold-transform.ensures ∙ ap (λ (X : SumTables). soft_folded a.periods.h a.periods.v X a.scan) (parts a.periods.h a.periods.v a.sums.now)
 
 pub fold-room-spec : {M : Type 1} → statement M
 fold-room-spec =

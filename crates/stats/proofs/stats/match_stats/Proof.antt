@@ -6,7 +6,7 @@ use Rattle.board.specs.Hits.{EdgeList, Board, edges, tables, size, hits}
 use Rattle.board.specs.HitsLaws.{hits-le}
 use Rattle.figures.specs.declared.Fit.{Fit}
 use Rattle.admission.specs.Accepted.{StatsAccepted, stats-accepted}
-use Rattle.stats.specs.Stats.{hitsAndWeight}
+use Rattle.stats.specs.Stats.{hits_and_weight}
 use Rattle.stats.specs.StatsLaws.{stats-refused, stats-counted}
 use borrow.Author.Rules.{rules}
 use Rattle.stats.proofs.stats.match_stats.Statement.{statement}
@@ -26,7 +26,7 @@ module _ (c : tie.After-enum-told) where
 
 -- the hits are at most the edges
 few : (c : tie.After-count-hits) → c.count-hits.result.hits ≤ size (E c.before)
-unfolding hitsAndWeight
+unfolding hits_and_weight
 few c =
     let a = c.before.before.before.before.before.before.before.before.before.args in
     omega (arith, ap (λ (s : Fit). s.hits) c.count-hits.ensures, hits-le (B c.before) (E c.before) a.transform a.row a.col)

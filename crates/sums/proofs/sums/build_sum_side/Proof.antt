@@ -5,11 +5,11 @@ use native.Mathlib.Nat.{sub-zero}
 use native.Mathlib.Omega.{arith}
 use lib.ListN.{length, length-drop}
 use Rattle.board.specs.Hits.{Board, tables}
-use Rattle.board.specs.Sides.{table_of, periodOf}
+use Rattle.board.specs.Sides.{table_of, period_of}
 use Rattle.room.specs.declared.Side.{Side}
-use Rattle.room.specs.Room.{isHorizontal}
+use Rattle.room.specs.Room.{is_horizontal}
 use Rattle.sums.specs.SumParts.{SideCellsZ}
-use Rattle.sums.specs.SumPartsLaws.{side-noneZ, family-readyZ, side-moreZ}
+use Rattle.sums.specs.SumPartsLaws.{side-none_z, family-ready_z, side-more_z}
 use Rattle.sums.proofs.sums.build_sum_side.Statement.{statement}
 use Rattle.sums.proofs.sums.build_sum_side.Tie as tie
 
@@ -26,7 +26,7 @@ loop-holds : tie.Need-loop-init invariant-loop decreases-loop
 loop-holds c =
     let st = c.before.before.before in
     let a = st.args in
-    (omega arith, side-noneZ (tables a.h.now a.v.now) a.side _ _ st.requires)
+    (omega arith, side-none_z (tables a.h.now a.v.now) a.side _ _ st.requires)
 
 -- the side's period was read off its table
 module _ (c : tie.At-loop invariant-loop decreases-loop) where
@@ -39,13 +39,13 @@ module _ (c : tie.At-loop invariant-loop decreases-loop) where
   abbrev d : Side
   d = st.args.side
 
-  period : length c.before.patterns-from.result.now ≡ periodOf B (isHorizontal d)
-  period = ap length c.before.patterns-from.ensures ∙ length-drop 0 (table_of B (isHorizontal d)) ∙ sub-zero (periodOf B (isHorizontal d))
+  period : length c.before.patterns-from.result.now ≡ period_of B (is_horizontal d)
+  period = ap length c.before.patterns-from.ensures ∙ length-drop 0 (table_of B (is_horizontal d)) ∙ sub-zero (period_of B (is_horizontal d))
 
 credit-sum-family-requires : tie.Need-credit-sum-family-requires invariant-loop decreases-loop
 credit-sum-family-requires c κs =
     let l = c.before.before in
-    family-readyZ (B l) (d l) _ _ (st l).requires l.loop.family (omega (arith, period l, c.before.loop-test.true)) _ l.loop.invariant.1
+    family-ready_z (B l) (d l) _ _ (st l).requires l.loop.family (omega (arith, period l, c.before.loop-test.true)) _ l.loop.invariant.1
 
 add-family : tie.Need-overflow-add-family invariant-loop decreases-loop
 add-family c = omega arith
@@ -57,7 +57,7 @@ loop-again : tie.Need-loop-preserved invariant-loop decreases-loop
 loop-again c =
     let e = c.before in
     let l = e.before.before.before in
-    (omega arith, side-moreZ (B l) (d l) _ _ (st l).requires l.loop.family (omega (arith, period l, e.before.before.loop-test.true)) _ l.loop.invariant.1 _ e.credit-sum-family.ensures)
+    (omega arith, side-more_z (B l) (d l) _ _ (st l).requires l.loop.family (omega (arith, period l, e.before.before.loop-test.true)) _ l.loop.invariant.1 _ e.credit-sum-family.ensures)
 
 same_length : tie.Need-same-length invariant-loop decreases-loop
 same_length c = c.before.loop.invariant.1.len
@@ -66,7 +66,7 @@ returns : tie.Need-returns invariant-loop decreases-loop
 returns c =
     let l = c.before in
     let a = (st l).args in
-    let e : l.loop.family ≡ periodOf (B l) (isHorizontal (d l)) = omega (arith, period l, c.loop-test.false, l.loop.invariant.0) in
+    let e : l.loop.family ≡ period_of (B l) (is_horizontal (d l)) = omega (arith, period l, c.loop-test.false, l.loop.invariant.0) in
     subst (λ (n : ℕ). SideCellsZ (B l) (d l) a.also n a.sums.now l.loop.sums) e l.loop.invariant.1
 
 pub build-sum-side-spec : {M : Type 1} → statement M

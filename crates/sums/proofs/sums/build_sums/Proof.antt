@@ -3,7 +3,7 @@ use mathlib.Core.List.{[]}
 use mathlib.Core.Bool.{true, false}
 use Rattle.board.specs.Hits.{EdgeList, Board, edges, tables}
 use Rattle.sums.specs.Sums.{Likelihoods, likelihoods}
-use Rattle.sums.specs.SumsStages.{periods-okZ, also-small, groups-readyZ, h-readyZ, v-readyZ, sums-built}
+use Rattle.sums.specs.SumsStages.{periods-ok_z, also-small, groups-ready_z, h-ready_z, v-ready_z, sums-built}
 use borrow.Author.Rules.{rules}
 use Rattle.sums.proofs.sums.build_sums.Statement.{statement}
 use Rattle.sums.proofs.sums.build_sums.Tie as tie
@@ -35,7 +35,7 @@ fill-sums-requires : tie.Need-fill-sums-requires
 fill-sums-requires c κs =
     let o = c.before in
     let k = o.before.before in
-    groups-readyZ (board k) (list k) (both k) _ _ (st k).requires _ k.before.before.used-by-sums.ensures _ k.clear-i64.ensures _ o.horizontal.ensures
+    groups-ready_z (board k) (list k) (both k) _ _ (st k).requires _ k.before.before.used-by-sums.ensures _ k.clear-i64.ensures _ o.horizontal.ensures
 
 -- filled: the horizontal side as `horizontal` told of it
 module _ (f : tie.After-fill-sums) where
@@ -46,7 +46,7 @@ module _ (f : tie.After-fill-sums) where
   k = o.before.before
 
 row-of-groups-requires : tie.Need-row-of-groups-requires
-row-of-groups-requires c κs = let f = c.before in periods-okZ (board (k f)) (list (k f)) (both (k f)) _ _ (st (k f)).pre
+row-of-groups-requires c κs = let f = c.before in periods-ok_z (board (k f)) (list (k f)) (both (k f)) _ _ (st (k f)).pre
 
 add-build-sum-side : tie.Need-overflow-add-build-sum-side
 add-build-sum-side c =
@@ -58,13 +58,13 @@ build-sum-side-requires : tie.Need-build-sum-side-requires
 build-sum-side-requires c κs =
     let m = c.before.before in
     let f = m.before.before in
-    h-readyZ (board (k f)) (list (k f)) (both (k f)) _ _ (st (k f)).pre _ (k f).before.before.used-by-sums.ensures _ (k f).clear-i64.ensures _ (o f).horizontal.ensures _ f.fill-sums.ensures _ m.row-of-groups.ensures
+    h-ready_z (board (k f)) (list (k f)) (both (k f)) _ _ (st (k f)).pre _ (k f).before.before.used-by-sums.ensures _ (k f).clear-i64.ensures _ (o f).horizontal.ensures _ f.fill-sums.ensures _ m.row-of-groups.ensures
 
 vertical-requires : tie.Need-vertical-requires
 vertical-requires c κs =
     let m = c.before.before.before.before in
     let f = m.before.before in
-    periods-okZ (board (k f)) (list (k f)) (both (k f)) _ _ (st (k f)).pre
+    periods-ok_z (board (k f)) (list (k f)) (both (k f)) _ _ (st (k f)).pre
 
 add-build-sum-side-2 : tie.Need-overflow-add-build-sum-side-2
 add-build-sum-side-2 c =
@@ -79,7 +79,7 @@ build-sum-side-requires-2 c κs =
     let b = n.before.before in
     let m = b.before.before.before in
     let f = m.before.before in
-    v-readyZ (board (k f)) (list (k f)) (both (k f)) _ _ (st (k f)).pre _ (k f).before.before.used-by-sums.ensures _ (k f).clear-i64.ensures _ (o f).horizontal.ensures _ f.fill-sums.ensures _ m.row-of-groups.ensures _ b.build-sum-side.ensures _ n.vertical.ensures
+    v-ready_z (board (k f)) (list (k f)) (both (k f)) _ _ (st (k f)).pre _ (k f).before.before.used-by-sums.ensures _ (k f).clear-i64.ensures _ (o f).horizontal.ensures _ f.fill-sums.ensures _ m.row-of-groups.ensures _ b.build-sum-side.ensures _ n.vertical.ensures
 
 -- the room at the end
 done : tie.Need-returns

@@ -1,7 +1,7 @@
 -- A family whose twelve sums are all 0 has terms of 0, so that storing nothing is crediting it.
 use mathlib.Core.Path.{sym, ◌∙◌}
 use Rattle.board.specs.Hits.{tables}
-use Rattle.sums.specs.SumPartsLaws.{family-emptyZ}
+use Rattle.sums.specs.SumPartsLaws.{family-empty_z}
 use borrow.Author.Rules.{rules}
 use Rattle.sums.proofs.sums.credit_sum_family.Statement.{statement}
 use Rattle.sums.proofs.sums.credit_sum_family.Tie as tie
@@ -37,7 +37,7 @@ same-length-2 c = search rules
 returns-2 : tie.Need-returns-2
 returns-2 c =
     let a = c.before.before.before.before.before.before.args in
-    family-emptyZ (tables a.h.now a.v.now) a.side a.also a.family a.sums.now (sym c.before.some-sum.ensures ∙ c.if1.false)
+    family-empty_z (tables a.h.now a.v.now) a.side a.also a.family a.sums.now (sym c.before.some-sum.ensures ∙ c.if1.false)
 
 pub credit-sum-family-spec : {M : Type 1} → statement M
 credit-sum-family-spec =

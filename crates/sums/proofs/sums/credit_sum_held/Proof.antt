@@ -7,11 +7,11 @@ use native.Mathlib.Nat.{le_refl, le_trans, le-add_left, lt_of_le_of_lt, add-le-a
 use native.Mathlib.Omega.{arith}
 use lib.ListN.{length, drop, length-drop}
 use Rattle.board.specs.Hits.{Board, tables}
-use Rattle.board.specs.Sides.{table_of, periodOf}
-use Rattle.room.specs.Room.{isHorizontal}
+use Rattle.board.specs.Sides.{table_of, period_of}
+use Rattle.room.specs.Room.{is_horizontal}
 use Rattle.cells.specs.RunLaws.{first-stride}
 use Rattle.sums.specs.SumParts.{RunCreditedZ}
-use Rattle.sums.specs.SumPartsLaws.{first-readyZ, second-readyZ, family-creditedZ}
+use Rattle.sums.specs.SumPartsLaws.{first-ready_z, second-ready_z, family-credited_z}
 use borrow.Author.Rules.{rules}
 use Rattle.sums.proofs.sums.credit_sum_held.Statement.{statement}
 use Rattle.sums.proofs.sums.credit_sum_held.Tie as tie
@@ -43,7 +43,7 @@ module _ (c : tie.After-patterns-from) where
   B = tables st.args.h.now st.args.v.now
 
   abbrev s : Bool
-  s = isHorizontal st.args.side
+  s = is_horizontal st.args.side
 
   abbrev ps : List ℕ
   ps = table_of B s
@@ -58,7 +58,7 @@ credit-sum-run-requires : tie.Need-credit-sum-run-requires
 credit-sum-run-requires c κs =
     let p = c.before in
     let a = (st p).args in
-    rw (read p) (first-readyZ (B p) a.side a.also a.family a.sums.now (st p).requires p.before.fold-sums.result p.before.fold-sums.ensures _ (length-drop a.family (ps p)))
+    rw (read p) (first-ready_z (B p) a.side a.also a.family a.sums.now (st p).requires p.before.fold-sums.result p.before.fold-sums.ensures _ (length-drop a.family (ps p)))
 
 patterns-from-requires-2 : tie.Need-patterns-from-requires-2
 patterns-from-requires-2 c κs = search rules
@@ -68,7 +68,7 @@ module _ (c : tie.After-credit-sum-run) where
   abbrev found : tie.After-patterns-from
   found = c.before.before
 
-  into : length found.patterns-from.result.now * (st found).args.side.stride ≤ 3 * periodOf (B found) (s found)
+  into : length found.patterns-from.result.now * (st found).args.side.stride ≤ 3 * period_of (B found) (s found)
   into =
       let a = (st found).args in
       rw (long found) (first-stride (B found) a.side a.family (st found).pre.places)
@@ -95,7 +95,7 @@ credit-sum-run-requires-2 c κs =
     let r = c.before.before.before in
     let p = found r in
     let a = (st p).args in
-    rw c.before.patterns-from2.ensures (second-readyZ (B p) a.side a.also a.family a.sums.now (st p).pre p.before.fold-sums.result p.before.fold-sums.ensures _ (first r) _ (ap (λ (n : ℕ). a.side.cells + n * a.side.stride) (long p)))
+    rw c.before.patterns-from2.ensures (second-ready_z (B p) a.side a.also a.family a.sums.now (st p).pre p.before.fold-sums.result p.before.fold-sums.ensures _ (first r) _ (ap (λ (n : ℕ). a.side.cells + n * a.side.stride) (long p)))
 
 same_length : tie.Need-same-length
 same_length c = search rules
@@ -107,7 +107,7 @@ returns c =
     let r = q.before.before in
     let p = found r in
     let a = (st p).args in
-    family-creditedZ (B p) a.side a.also a.family a.sums.now (st p).pre p.before.fold-sums.result p.before.fold-sums.ensures _ (first r) _ (rw (q.patterns-from2.ensures, long p) at e.credit-sum-run2.ensures)
+    family-credited_z (B p) a.side a.also a.family a.sums.now (st p).pre p.before.fold-sums.result p.before.fold-sums.ensures _ (first r) _ (rw (q.patterns-from2.ensures, long p) at e.credit-sum-run2.ensures)
 
 pub credit-sum-held-spec : {M : Type 1} → statement M
 credit-sum-held-spec =

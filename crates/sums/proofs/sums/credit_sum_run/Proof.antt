@@ -12,7 +12,7 @@ use Rattle.laws.specs.Signed.{read}
 use Rattle.cells.specs.Credit.{entry}
 use Rattle.cells.specs.RunLaws.{run-place}
 use Rattle.tables.specs.Runs.{run_none, run_room, run_more}
-use Rattle.sums.specs.SumParts.{takesZ, RunCellsZ}
+use Rattle.sums.specs.SumParts.{takes_z, RunCellsZ}
 use Rattle.sums.proofs.sums.credit_sum_run.Statement.{statement}
 use Rattle.sums.proofs.sums.credit_sum_run.Tie as tie
 
@@ -23,7 +23,7 @@ abbrev decreases-loop : tie.decreases-loop
 decreases-loop sums₀ part n at stride across terms i₀ sums i = n - i
 
 loop-holds : tie.Need-loop-init invariant-loop decreases-loop
-loop-holds c = (omega arith, run_none (pos 0) ◌+ℤ◌ takesZ _ _ _ _ _ _ _ c.before.requires)
+loop-holds c = (omega arith, run_none (pos 0) ◌+ℤ◌ takes_z _ _ _ _ _ _ _ c.before.requires)
 
 shared-slice-read-pattern : tie.Need-shared-slice-read-pattern invariant-loop decreases-loop
 shared-slice-read-pattern c = omega arith
@@ -39,12 +39,12 @@ module _ (c : tie.In-loop invariant-loop decreases-loop) where
   small : get_or st.args.part.now i 0 < 8
   small = st.pre.places.small i c.loop-test.true
 
-  abbrev termOf : ℕ → ℤ
-  termOf j = entry (pos 0) st.args.t2 (get_or st.args.part.now i 0) j
+  abbrev term_of : ℕ → ℤ
+  term_of j = entry (pos 0) st.args.t2 (get_or st.args.part.now i 0) j
 
   -- as it is read back
   abbrev kept : ℕ → ℤ
-  kept j = read w64 (termOf j)
+  kept j = read w64 (term_of j)
 
   -- where its cells stand
   inside : (j : ℕ) → j < 3 → st.args.at + (i * st.args.stride + j * st.args.across) < length st.args.sums.now
@@ -53,13 +53,13 @@ module _ (c : tie.In-loop invariant-loop decreases-loop) where
   abbrev cell : ℕ
   cell = st.args.at + i * st.args.stride
 
-  module _ (back : (j : ℕ) → j < 3 → kept j ≡ termOf j) where
+  module _ (back : (j : ℕ) → j < 3 → kept j ≡ term_of j) where
     -- the first cell's room, and the run with it
     room₀ : (cell < length c.before.loop.sums) × (nat_abs (get_or c.before.loop.sums cell (pos 0) +ℤ kept 0) < 2 ^ 63)
-    room₀ = run_room (pos 0) ◌+ℤ◌ takesZ _ _ _ _ _ _ _ st.pre i 0 (i * 3) cell (kept 0) c.loop-test.true (lit< tt) (omega arith) (omega arith) (back 0 (lit< tt)) _ c.before.loop.invariant.1
+    room₀ = run_room (pos 0) ◌+ℤ◌ takes_z _ _ _ _ _ _ _ st.pre i 0 (i * 3) cell (kept 0) c.loop-test.true (lit< tt) (omega arith) (omega arith) (back 0 (lit< tt)) _ c.before.loop.invariant.1
 
     more₀ : (a : List ℤ) → a ≡ set c.before.loop.sums cell (get_or c.before.loop.sums cell (pos 0) +ℤ kept 0) → RunCellsZ st.args.t2 st.args.part.now st.args.at st.args.stride st.args.across (i * 3 + 1) st.args.sums.now a
-    more₀ a p = run_more (pos 0) ◌+ℤ◌ takesZ _ _ _ _ _ _ _ st.pre i 0 (i * 3) cell (kept 0) c.loop-test.true (lit< tt) (omega arith) (omega arith) (back 0 (lit< tt)) _ c.before.loop.invariant.1 (i * 3 + 1) refl a p
+    more₀ a p = run_more (pos 0) ◌+ℤ◌ takes_z _ _ _ _ _ _ _ st.pre i 0 (i * 3) cell (kept 0) c.loop-test.true (lit< tt) (omega arith) (omega arith) (back 0 (lit< tt)) _ c.before.loop.invariant.1 (i * 3 + 1) refl a p
 
     -- the second
     module _ (a₁ : List ℤ) (p₁ : a₁ ≡ set c.before.loop.sums cell (get_or c.before.loop.sums cell (pos 0) +ℤ kept 0)) where
@@ -67,10 +67,10 @@ module _ (c : tie.In-loop invariant-loop decreases-loop) where
       cell₁ = cell + st.args.across
 
       room₁ : (cell₁ < length a₁) × (nat_abs (get_or a₁ cell₁ (pos 0) +ℤ kept 1) < 2 ^ 63)
-      room₁ = run_room (pos 0) ◌+ℤ◌ takesZ _ _ _ _ _ _ _ st.pre i 1 (i * 3 + 1) cell₁ (kept 1) c.loop-test.true (lit< tt) (omega arith) (omega arith) (back 1 (lit< tt)) _ (more₀ a₁ p₁)
+      room₁ = run_room (pos 0) ◌+ℤ◌ takes_z _ _ _ _ _ _ _ st.pre i 1 (i * 3 + 1) cell₁ (kept 1) c.loop-test.true (lit< tt) (omega arith) (omega arith) (back 1 (lit< tt)) _ (more₀ a₁ p₁)
 
       more₁ : (a : List ℤ) → a ≡ set a₁ cell₁ (get_or a₁ cell₁ (pos 0) +ℤ kept 1) → RunCellsZ st.args.t2 st.args.part.now st.args.at st.args.stride st.args.across (i * 3 + 2) st.args.sums.now a
-      more₁ a p = run_more (pos 0) ◌+ℤ◌ takesZ _ _ _ _ _ _ _ st.pre i 1 (i * 3 + 1) cell₁ (kept 1) c.loop-test.true (lit< tt) (omega arith) (omega arith) (back 1 (lit< tt)) _ (more₀ a₁ p₁) (i * 3 + 2) (omega arith) a p
+      more₁ a p = run_more (pos 0) ◌+ℤ◌ takes_z _ _ _ _ _ _ _ st.pre i 1 (i * 3 + 1) cell₁ (kept 1) c.loop-test.true (lit< tt) (omega arith) (omega arith) (back 1 (lit< tt)) _ (more₀ a₁ p₁) (i * 3 + 2) (omega arith) a p
 
       -- the third
       module _ (a₂ : List ℤ) (p₂ : a₂ ≡ set a₁ cell₁ (get_or a₁ cell₁ (pos 0) +ℤ kept 1)) where
@@ -78,14 +78,14 @@ module _ (c : tie.In-loop invariant-loop decreases-loop) where
         cell₂ = cell + 2 * st.args.across
 
         room₂ : (cell₂ < length a₂) × (nat_abs (get_or a₂ cell₂ (pos 0) +ℤ kept 2) < 2 ^ 63)
-        room₂ = run_room (pos 0) ◌+ℤ◌ takesZ _ _ _ _ _ _ _ st.pre i 2 (i * 3 + 2) cell₂ (kept 2) c.loop-test.true (lit< tt) (omega arith) (omega arith) (back 2 (lit< tt)) _ (more₁ a₂ p₂)
+        room₂ = run_room (pos 0) ◌+ℤ◌ takes_z _ _ _ _ _ _ _ st.pre i 2 (i * 3 + 2) cell₂ (kept 2) c.loop-test.true (lit< tt) (omega arith) (omega arith) (back 2 (lit< tt)) _ (more₁ a₂ p₂)
 
         more₂ : (a : List ℤ) → a ≡ set a₂ cell₂ (get_or a₂ cell₂ (pos 0) +ℤ kept 2) → RunCellsZ st.args.t2 st.args.part.now st.args.at st.args.stride st.args.across ((i + 1) * 3) st.args.sums.now a
-        more₂ a p = run_more (pos 0) ◌+ℤ◌ takesZ _ _ _ _ _ _ _ st.pre i 2 (i * 3 + 2) cell₂ (kept 2) c.loop-test.true (lit< tt) (omega arith) (omega arith) (back 2 (lit< tt)) _ (more₁ a₂ p₂) ((i + 1) * 3) (omega arith) a p
+        more₂ a p = run_more (pos 0) ◌+ℤ◌ takes_z _ _ _ _ _ _ _ st.pre i 2 (i * 3 + 2) cell₂ (kept 2) c.loop-test.true (lit< tt) (omega arith) (omega arith) (back 2 (lit< tt)) _ (more₁ a₂ p₂) ((i + 1) * 3) (omega arith) a p
 
 -- the terms are kept as they are
-backs : (c : tie.After-c invariant-loop decreases-loop) (j : ℕ) → j < 3 → kept c.before.before.before.before.before j ≡ termOf c.before.before.before.before.before j
-backs c = below-3 (λ (j : ℕ). kept c.before.before.before.before.before j ≡ termOf c.before.before.before.before.before j) (search rules) (search rules) (search rules)
+backs : (c : tie.After-c invariant-loop decreases-loop) (j : ℕ) → j < 3 → kept c.before.before.before.before.before j ≡ term_of c.before.before.before.before.before j
+backs c = below-3 (λ (j : ℕ). kept c.before.before.before.before.before j ≡ term_of c.before.before.before.before.before j) (search rules) (search rules) (search rules)
 
 cast-pattern : tie.Need-overflow-cast-pattern invariant-loop decreases-loop
 cast-pattern c = omega (arith, small c.before)

@@ -11,13 +11,13 @@ use Rattle.laws.specs.Signed.{read, read_at}
 use Rattle.laws.specs.Modulus.{modulus-n, modulus-ok}
 use Rattle.board.specs.Hits.{EdgeList, edges}
 use Rattle.board.specs.DomainLaws.{edge-ok}
-use Rattle.room.specs.Room.{rowLength}
-use Rattle.groups.specs.Fill.{placeAt}
+use Rattle.room.specs.Room.{row_length}
+use Rattle.groups.specs.Fill.{place_at}
 use Rattle.groups.specs.FillLaws.{place-held}
-use Rattle.sums.specs.Sums.{Likelihoods, likelihoods, matchAt, mismatchAt}
+use Rattle.sums.specs.Sums.{Likelihoods, likelihoods, match_at, mismatch_at}
 use Rattle.sums.specs.SumParts.{SumsFillReady, SumsFilled}
 use Rattle.sums.specs.SumsLaws.{value-small}
-use Rattle.sums.specs.SumPartsLaws.{ready-heldZ, filled-heldZ, sums_none, match-room, mismatch-room, sums-more}
+use Rattle.sums.specs.SumPartsLaws.{ready-held_z, filled-held_z, sums_none, match-room, mismatch-room, sums-more}
 use Rattle.sums.proofs.sums.fill_sums.Statement.{statement}
 use Rattle.sums.proofs.sums.fill_sums.Tie as tie
 
@@ -73,11 +73,11 @@ module _ (c : tie.After-modulus-of2 invariant-loop decreases-loop) where
   abbrev row : ℕ
   row = c.before.before.before.before.before.row-of-groups.result
 
-  row_is : row ≡ rowLength h.n v.n
-  row_is = c.before.before.before.before.before.row-of-groups.ensures ∙ sym (ap₂ rowLength h-is v-is)
+  row_is : row ≡ row_length h.n v.n
+  row_is = c.before.before.before.before.before.row-of-groups.ensures ∙ sym (ap₂ row_length h-is v-is)
 
   ready : SumsFillReady h.n v.n E X st.args.t st.args.base st.args.sums.now
-  ready = ready-heldZ _ _ _ _ E X _ _ h-is v-is _ st.pre
+  ready = ready-held_z _ _ _ _ E X _ _ h-is v-is _ st.pre
 
 loop-holds : tie.Need-loop-init invariant-loop decreases-loop
 loop-holds c = (omega arith, sums_none _ _ (E c) (X c) _ _ _ (ready c))
@@ -117,7 +117,7 @@ module _ (c : tie.After-group-place invariant-loop decreases-loop) where
   abbrev at : ℕ
   at = (st made).args.base + p
 
-  told : (p ≡ placeAt (h made).n (v made).n (E made) (st made).args.t i) × (p < rowLength (h made).n (v made).n)
+  told : (p ≡ place_at (h made).n (v made).n (E made) (st made).args.t i) × (p < row_length (h made).n (v made).n)
   told = place-held _ _ _ _ (E made) (st made).args.t i _ p refl refl c.before.edge_at.ensures c.group-place.ensures
 
   -- the edge is one of the list, and has its two likelihoods
@@ -151,7 +151,7 @@ module _ (c : tie.After-quantize-ll invariant-loop decreases-loop) where
   abbrev g : tie.After-group-place invariant-loop decreases-loop
   g = c.before.before
 
-  back : read w64 c.quantize-ll.result ≡ matchAt (X (made g)) (i g)
+  back : read w64 c.quantize-ll.result ≡ match_at (X (made g)) (i g)
   back = read_at w64 c.quantize-ll.ensures.value (omega (arith, value-small (E (made g)) (X (made g)) (st (made g)).pre.likelihoods 0 (i g) (here g).loop-test.taken))
 
   match : (at g < length (sums g)) × (nat_abs (get_or (sums g) (at g) (pos 0) +ℤ read w64 c.quantize-ll.result) < 2 ^ 63)
@@ -180,16 +180,16 @@ module _ (c : tie.After-quantize-ll2 invariant-loop decreases-loop) where
   abbrev mid : List ℤ
   mid = c.before.before.before.add_at.new.0
 
-  put : mid ≡ set (sums e) (at e) (get_or (sums e) (at e) (pos 0) +ℤ matchAt (X (made e)) (i e))
+  put : mid ≡ set (sums e) (at e) (get_or (sums e) (at e) (pos 0) +ℤ match_at (X (made e)) (i e))
   put = rw (back first) at c.before.before.before.add_at.ensures
 
-  back₂ : read w64 c.quantize-ll2.result ≡ mismatchAt (X (made e)) (i e)
+  back₂ : read w64 c.quantize-ll2.result ≡ mismatch_at (X (made e)) (i e)
   back₂ = read_at w64 c.quantize-ll2.ensures.value (omega (arith, value-small (E (made e)) (X (made e)) (st (made e)).pre.likelihoods 1 (i e) (here e).loop-test.taken))
 
   mismatch : (at e + row (made e) < length mid) × (nat_abs (get_or mid (at e + row (made e)) (pos 0) +ℤ read w64 c.quantize-ll2.result) < 2 ^ 63)
   mismatch =
       rw back₂
-      (subst (λ (n : ℕ). (at e + n < length mid) × (nat_abs (get_or mid (at e + n) (pos 0) +ℤ mismatchAt (X (made e)) (i e)) < 2 ^ 63)) (sym (row_is (made e)))
+      (subst (λ (n : ℕ). (at e + n < length mid) × (nat_abs (get_or mid (at e + n) (pos 0) +ℤ mismatch_at (X (made e)) (i e)) < 2 ^ 63)) (sym (row_is (made e)))
       (mismatch-room _ _ (E (made e)) (X (made e)) _ _ _ (ready (made e)) (i e) (p e) (here e).loop-test.taken (told e).1 (told e).0 (sums e) (here e).before.loop.inv.1 mid put))
 
 under : (b p r q n : ℕ) → p < r → q ≡ r → b + 2 * r ≤ n → n < 2 ^ 64 → b + p + q < 2 ^ 64
@@ -199,7 +199,7 @@ add-add-at : tie.Need-overflow-add-add-at invariant-loop decreases-loop
 add-add-at c =
     let d = g (first c.before) in
     let m = made d in
-    record { fits = under (st m).args.base (p d) (rowLength (h m).n (v m).n) (row m) (length (st m).args.sums.now) (told d).1 (row_is m) (ready m).room (short (st m)) }
+    record { fits = under (st m).args.base (p d) (row_length (h m).n (v m).n) (row m) (length (st m).args.sums.now) (told d).1 (row_is m) (ready m).room (short (st m)) }
 
 add-at-requires-2 : tie.Need-add-at-requires-2 invariant-loop decreases-loop
 add-at-requires-2 c κs = mismatch c.before
@@ -218,7 +218,7 @@ loop-again c =
     let m = made d in (
       omega arith,
       sums-more _ _ (E m) (X m) _ _ _ (ready m) (i d) (p d) (here d).loop-test.taken (told d).1 (told d).0 (sums d) (here d).before.loop.inv.1 (mid q) (put q) _
-          (subst (λ (n : ℕ). l.add-at2.new.0 ≡ set (mid q) (at d + n) (get_or (mid q) (at d + n) (pos 0) +ℤ mismatchAt (X m) (i d))) (row_is m) (rw (back₂ q) at l.add-at2.ensures)),
+          (subst (λ (n : ℕ). l.add-at2.new.0 ≡ set (mid q) (at d + n) (get_or (mid q) (at d + n) (pos 0) +ℤ mismatch_at (X m) (i d))) (row_is m) (rw (back₂ q) at l.add-at2.ensures)),
     )
 
 same_length : tie.Need-same-length invariant-loop decreases-loop
@@ -230,7 +230,7 @@ returns c =
     let m = c.before.before in
     let a = (st m).args in
     let e : l.i ≡ length a.rows.now = omega (arith, l.invariant.0, c.loop-test.false) in
-    filled-heldZ _ _ _ _ (E m) (X m) a.t a.base (h-is m) (v-is m) _ _ e _ _ l.invariant.1
+    filled-held_z _ _ _ _ (E m) (X m) a.t a.base (h-is m) (v-is m) _ _ e _ _ l.invariant.1
 
 pub fill-sums-spec : {M : Type 1} → statement M
 fill-sums-spec =

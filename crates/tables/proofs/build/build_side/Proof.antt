@@ -5,9 +5,9 @@ use native.Mathlib.Nat.{sub-zero}
 use native.Mathlib.Omega.{arith}
 use lib.ListN.{length, length-drop}
 use Rattle.board.specs.Hits.{Board, tables}
-use Rattle.board.specs.Sides.{table_of, periodOf}
+use Rattle.board.specs.Sides.{table_of, period_of}
 use Rattle.room.specs.declared.Side.{Side}
-use Rattle.room.specs.Room.{isHorizontal}
+use Rattle.room.specs.Room.{is_horizontal}
 use Rattle.tables.specs.Side.{SideCells}
 use Rattle.tables.specs.SideLaws.{side-none, family-ready, side-more}
 use Rattle.tables.proofs.build.build_side.Statement.{statement}
@@ -42,8 +42,8 @@ module _ (c : tie.At-loop invariant-loop decreases-loop) where
   abbrev d : Side
   d = st.args.side
 
-  period : length c.before.patterns-from.result.now ≡ periodOf B (isHorizontal d)
-  period = ap length c.before.patterns-from.ensures ∙ length-drop 0 (table_of B (isHorizontal d)) ∙ sub-zero (periodOf B (isHorizontal d))
+  period : length c.before.patterns-from.result.now ≡ period_of B (is_horizontal d)
+  period = ap length c.before.patterns-from.ensures ∙ length-drop 0 (table_of B (is_horizontal d)) ∙ sub-zero (period_of B (is_horizontal d))
 
 sub-credit-family : tie.Need-overflow-sub-credit-family invariant-loop decreases-loop
 sub-credit-family c = omega arith
@@ -75,7 +75,7 @@ returns : tie.Need-returns invariant-loop decreases-loop
 returns c =
     let l = c.before in
     let a = (st l).args in
-    let e : l.loop.nth - 1 ≡ periodOf (B l) (isHorizontal (d l)) = omega (arith, period l, c.loop-test.false, l.loop.invariant.1) in
+    let e : l.loop.nth - 1 ≡ period_of (B l) (is_horizontal (d l)) = omega (arith, period l, c.loop-test.false, l.loop.invariant.1) in
     subst (λ (n : ℕ). SideCells (B l) (d l) n a.counts.now l.loop.counts a.weights.now l.loop.weights) e l.loop.invariant.2
 
 pub build-side-spec : {M : Type 1} → statement M

@@ -7,8 +7,8 @@ use native.Mathlib.Nat.{le_refl, le_trans, le-add_left, lt_of_le_of_lt, add-le-a
 use native.Mathlib.Omega.{arith}
 use lib.ListN.{length, drop, length-drop}
 use Rattle.board.specs.Hits.{Board, tables}
-use Rattle.board.specs.Sides.{table_of, periodOf}
-use Rattle.room.specs.Room.{isHorizontal}
+use Rattle.board.specs.Sides.{table_of, period_of}
+use Rattle.room.specs.Room.{is_horizontal}
 use Rattle.cells.specs.Credit.{RunCredited}
 use Rattle.cells.specs.RunLaws.{first-stride}
 use Rattle.cells.specs.CreditLaws.{first-ready, second-ready, family-credited}
@@ -37,7 +37,7 @@ module _ (c : tie.After-patterns-from) where
   B = tables st.args.h.now st.args.v.now
 
   abbrev s : Bool
-  s = isHorizontal st.args.side
+  s = is_horizontal st.args.side
 
   abbrev ps : List ℕ
   ps = table_of B s
@@ -62,7 +62,7 @@ module _ (c : tie.After-credit-run) where
   abbrev found : tie.After-patterns-from
   found = c.before.before.before
 
-  into : length found.patterns-from.result.now * (st found).args.side.stride ≤ 3 * periodOf (B found) (s found)
+  into : length found.patterns-from.result.now * (st found).args.side.stride ≤ 3 * period_of (B found) (s found)
   into =
       let a = (st found).args in
       rw (long found) (first-stride (B found) a.side a.family (st found).pre.places)

@@ -9,12 +9,12 @@ use Rattle.laws.specs.Words.{origins}
 use Rattle.grid.specs.RowMajor.{lowest}
 use Rattle.grid.specs.RowMajorLaws.{lowest-no, lowest-yes}
 use Rattle.grid.specs.RowFloor.{floor-stays}
-use Rattle.values.specs.Values.{tiedValue}
+use Rattle.values.specs.Values.{tied_value}
 use Rattle.values.proofs.origin.lowest_value_key.Statement.{statement}
 use Rattle.values.proofs.origin.lowest_value_key.Tie as tie
 
 abbrev invariant-loop : tie.invariant-loop
-invariant-loop values top h start periods best₀ v₀ best v = (v ≤ length values) × (best ≡ lowest (tiedValue values top) ((origins periods.h periods.v).key h) start v)
+invariant-loop values top h start periods best₀ v₀ best v = (v ≤ length values) × (best ≡ lowest (tied_value values top) ((origins periods.h periods.v).key h) start v)
 
 abbrev decreases-loop : tie.decreases-loop
 decreases-loop values top h start periods best₀ v₀ best v = length values - v

@@ -6,15 +6,15 @@ use mathlib.Core.Logic.{⊎_elim}
 use lib.ListN.{length}
 use borrow.Author.Tests.{eq-eqb, ne_eqb}
 use Rattle.laws.specs.Words.{origins}
-use Rattle.grid.specs.RowMajor.{rowMajor}
+use Rattle.grid.specs.RowMajor.{row_major}
 use Rattle.grid.specs.RowMajorLaws.{major-no, major-yes}
 use Rattle.grid.specs.BoardGrid.{none-small}
-use Rattle.values.specs.Values.{tiedValue}
+use Rattle.values.specs.Values.{tied_value}
 use Rattle.values.proofs.origin.row_major_first_value.Statement.{statement}
 use Rattle.values.proofs.origin.row_major_first_value.Tie as tie
 
 abbrev invariant-loop : tie.invariant-loop
-invariant-loop hs ht vs vt periods best₀ h₀ best h = (h ≤ length hs) × (best ≡ rowMajor (origins periods.h periods.v) (length vs) (tiedValue hs ht) (tiedValue vs vt) h)
+invariant-loop hs ht vs vt periods best₀ h₀ best h = (h ≤ length hs) × (best ≡ row_major (origins periods.h periods.v) (length vs) (tied_value hs ht) (tied_value vs vt) h)
 
 abbrev decreases-loop : tie.decreases-loop
 decreases-loop hs ht vs vt periods best₀ h₀ best h = length hs - h
@@ -29,7 +29,7 @@ mul-best-3 : tie.Need-overflow-mul-best-3 invariant-loop decreases-loop
 mul-best-3 c = record { fits = omega (arith, none-small _ _ c.before.before.before.before.requires.0 c.before.before.before.before.requires.1) }
 
 loop-holds : tie.Need-loop-init invariant-loop decreases-loop
-unfolding rowMajor
+unfolding row_major
 loop-holds c = (search rules, refl)
 
 mul-if1 : tie.Need-overflow-mul-if1 invariant-loop decreases-loop

@@ -8,13 +8,13 @@ use lib.ListN.{length}
 use Rattle.laws.specs.Words.{fold, count, above, second}
 use Rattle.laws.specs.Counting.{count_yes, count_no}
 use Rattle.laws.specs.Second.{second-skip, second-new, second-low}
-use Rattle.values.specs.Values.{hitsOf, v_at, nAt, tiedValue, heldHits, valueSecond}
+use Rattle.values.specs.Values.{hits_of, v_at, n_at, tied_value, held_hits, value_second}
 use Rattle.values.specs.ValuesLaws.{more-hits}
 use Rattle.values.proofs.table.value_around.Statement.{statement}
 use Rattle.values.proofs.table.value_around.Tie as tie
 
 abbrev invariant-loop : tie.invariant-loop
-invariant-loop values cell top most tied₀ held₀ second₀ under₀ i₀ tied held k u i = ((i ≤ length values) × (tied ≤ i) × (held ≤ i)) × (tied ≡ count i (tiedValue values top)) × (held ≡ count i (heldHits values most)) × (k < length values) × (k ≡ second (above (nAt values)) cell i) × (u ≡ nAt values k)
+invariant-loop values cell top most tied₀ held₀ second₀ under₀ i₀ tied held k u i = ((i ≤ length values) × (tied ≤ i) × (held ≤ i)) × (tied ≡ count i (tied_value values top)) × (held ≡ count i (held_hits values most)) × (k < length values) × (k ≡ second (above (n_at values)) cell i) × (u ≡ n_at values k)
 
 abbrev decreases-loop : tie.decreases-loop
 decreases-loop values cell top most tied₀ held₀ second₀ under₀ i₀ tied held k u i = length values - i
@@ -72,7 +72,7 @@ counted : (c : tie.Joined3 invariant-loop decreases-loop)
     let l = x.before.before.before.loop in
     let a = x.before.before.before.before.before.before.before.before.before.before.before.args in
     let xs = a.values.now in
-    ((c.if3.tied ≤ l.i + 1) × (c.if3.held ≤ l.i + 1)) × (c.if3.tied ≡ count (l.i + 1) (tiedValue xs (v_at xs a.cell))) × (c.if3.held ≡ count (l.i + 1) (heldHits xs (nAt xs a.cell)))
+    ((c.if3.tied ≤ l.i + 1) × (c.if3.held ≤ l.i + 1)) × (c.if3.tied ≡ count (l.i + 1) (tied_value xs (v_at xs a.cell))) × (c.if3.held ≡ count (l.i + 1) (held_hits xs (n_at xs a.cell)))
 counted c =
     let x = c.before.before in
     let l = x.before.before.before.loop in
@@ -81,12 +81,12 @@ counted c =
     let xs = a.values.now in
     let most = x.before.before.before.before.before.before.before.before.hits-of.ensures in
     let mine = x.hits-of3.ensures in
-    let held = inv.2 ∙ ap (λ (n : ℕ). count l.i (heldHits xs n)) most in
+    let held = inv.2 ∙ ap (λ (n : ℕ). count l.i (held_hits xs n)) most in
     ⊎_elim
     (λ w. ((omega (arith, w.2), omega (arith, w.3)), w.2 ∙ count_yes _ _ _ inv.1 (eq-eqb _ _ w.1.taken), w.3 ∙ count_yes _ _ _ held (eq-eqb _ _ (sym mine ∙ w.0.taken ∙ most))))
     (⊎_elim
     (λ w. ((omega (arith, w.2), omega (arith, w.3)), w.2 ∙ count_no _ _ _ inv.1 (ne_eqb _ _ w.1.left), w.3 ∙ count_yes _ _ _ held (eq-eqb _ _ (sym mine ∙ w.0.taken ∙ most))))
-    (λ w. ((omega (arith, w.1), omega (arith, w.2)), w.1 ∙ count_no _ _ _ inv.1 (ne_eqb _ _ (λ e. w.0.left (mine ∙ ap hitsOf e ∙ sym most))), w.2 ∙ count_no _ _ _ held (ne_eqb _ _ (λ e. w.0.left (mine ∙ e ∙ sym most))))))
+    (λ w. ((omega (arith, w.1), omega (arith, w.2)), w.1 ∙ count_no _ _ _ inv.1 (ne_eqb _ _ (λ e. w.0.left (mine ∙ ap hits_of e ∙ sym most))), w.2 ∙ count_no _ _ _ held (ne_eqb _ _ (λ e. w.0.left (mine ∙ e ∙ sym most))))))
     c.if3.branch
 
 loop-again : tie.Need-loop-preserved invariant-loop decreases-loop
@@ -98,23 +98,23 @@ loop-again c =
     let xs = s.args.values.now in
     let most = x.before.before.before.before.before.before.before.before.hits-of.ensures in
     let mine = x.hits-of3.ensures in
-    let by_most = ap (λ (n : ℕ). count (l.i + 1) (heldHits xs n)) (sym most) in
+    let by_most = ap (λ (n : ℕ). count (l.i + 1) (held_hits xs n)) (sym most) in
     ⊎_elim
     (λ w.
     let n = counted (record { before = record { before = x; if2 = w.0 }; if3 = w.1 }) in
-    ((omega arith, omega (arith, w.4, n.0), omega (arith, w.5, n.0)), w.4 ∙ n.1, w.5 ∙ n.2 ∙ by_most, omega (arith, w.6), w.6 ∙ second-new _ _ _ _ inv.4 w.3.taken (lt-ltb (nAt xs l.second) (nAt xs l.i) (omega (arith, inv.5, mine, w.2.taken))), w.7 ∙ mine ∙ ap (nAt xs) (sym w.6)))
+    ((omega arith, omega (arith, w.4, n.0), omega (arith, w.5, n.0)), w.4 ∙ n.1, w.5 ∙ n.2 ∙ by_most, omega (arith, w.6), w.6 ∙ second-new _ _ _ _ inv.4 w.3.taken (lt-ltb (n_at xs l.second) (n_at xs l.i) (omega (arith, inv.5, mine, w.2.taken))), w.7 ∙ mine ∙ ap (n_at xs) (sym w.6)))
     (⊎_elim
     (λ w.
     let n = counted (record { before = record { before = x; if2 = w.0 }; if3 = w.1 }) in
-    ((omega arith, omega (arith, w.4, n.0), omega (arith, w.5, n.0)), w.4 ∙ n.1, w.5 ∙ n.2 ∙ by_most, omega (arith, w.6), w.6 ∙ second-skip _ _ _ _ inv.4 w.3.left, w.7 ∙ inv.5 ∙ ap (nAt xs) (sym w.6)))
+    ((omega arith, omega (arith, w.4, n.0), omega (arith, w.5, n.0)), w.4 ∙ n.1, w.5 ∙ n.2 ∙ by_most, omega (arith, w.6), w.6 ∙ second-skip _ _ _ _ inv.4 w.3.left, w.7 ∙ inv.5 ∙ ap (n_at xs) (sym w.6)))
     (⊎_elim
     (λ w.
     let n = counted (record { before = record { before = x; if2 = w.0 }; if3 = w.1 }) in
-    ((omega arith, omega (arith, w.3, n.0), omega (arith, w.4, n.0)), w.3 ∙ n.1, w.4 ∙ n.2 ∙ by_most, omega (arith, w.5), w.5 ∙ second-low _ _ _ _ inv.4 (le-ltb (nAt xs l.second) (nAt xs l.i) (omega (arith, inv.5, mine, w.2.left))), w.6 ∙ inv.5 ∙ ap (nAt xs) (sym w.5)))
+    ((omega arith, omega (arith, w.3, n.0), omega (arith, w.4, n.0)), w.3 ∙ n.1, w.4 ∙ n.2 ∙ by_most, omega (arith, w.5), w.5 ∙ second-low _ _ _ _ inv.4 (le-ltb (n_at xs l.second) (n_at xs l.i) (omega (arith, inv.5, mine, w.2.left))), w.6 ∙ inv.5 ∙ ap (n_at xs) (sym w.5)))
     (λ w.
-    let few : nAt xs l.second ≤ nAt xs s.args.cell = more-hits _ _ (s.requires.2 l.second inv.3) in
-    let low : nAt xs l.i ≡ nAt xs s.args.cell → ⊥ = λ e. omega (arith, w.0.left, inv.5, mine, few, e) in
-    ((omega arith, omega (arith, w.1), omega (arith, w.2)), w.1 ∙ count_no _ _ _ inv.1 (ne_eqb _ _ (λ e. low (ap hitsOf e))), w.2 ∙ count_no _ _ _ inv.2 (ne_eqb _ _ (λ e. low (e ∙ most))), omega (arith, w.3), w.3 ∙ second-low _ _ _ _ inv.4 (le-ltb (nAt xs l.second) (nAt xs l.i) (omega (arith, w.0.left, inv.5, mine))), w.4 ∙ inv.5 ∙ ap (nAt xs) (sym w.3)))))
+    let few : n_at xs l.second ≤ n_at xs s.args.cell = more-hits _ _ (s.requires.2 l.second inv.3) in
+    let low : n_at xs l.i ≡ n_at xs s.args.cell → ⊥ = λ e. omega (arith, w.0.left, inv.5, mine, few, e) in
+    ((omega arith, omega (arith, w.1), omega (arith, w.2)), w.1 ∙ count_no _ _ _ inv.1 (ne_eqb _ _ (λ e. low (ap hits_of e))), w.2 ∙ count_no _ _ _ inv.2 (ne_eqb _ _ (λ e. low (e ∙ most))), omega (arith, w.3), w.3 ∙ second-low _ _ _ _ inv.4 (le-ltb (n_at xs l.second) (n_at xs l.i) (omega (arith, w.0.left, inv.5, mine))), w.4 ∙ inv.5 ∙ ap (n_at xs) (sym w.3)))))
     c.if2.branch
 
 returns : tie.Need-returns invariant-loop decreases-loop
@@ -124,10 +124,10 @@ returns c =
     let most = c.before.before.before.before.before.before.hits-of.ensures in
     let xs = a.values.now in
     let e : l.i ≡ length xs = omega arith in
-    let m : l.tied ≡ count (length xs) (tiedValue xs (v_at xs a.cell)) = rw (← e) l.invariant.1 in
-    let n : l.held ≡ count (length xs) (heldHits xs (nAt xs a.cell)) = rw (← e) (l.invariant.2 ∙ ap (λ (n : ℕ). count l.i (heldHits xs n)) most) in
-    let k : l.second ≡ valueSecond xs a.cell = rw (← e) l.invariant.4 in
-    let u : l.under ≡ nAt xs (valueSecond xs a.cell) = l.invariant.5 ∙ ap (nAt xs) k in
+    let m : l.tied ≡ count (length xs) (tied_value xs (v_at xs a.cell)) = rw (← e) l.invariant.1 in
+    let n : l.held ≡ count (length xs) (held_hits xs (n_at xs a.cell)) = rw (← e) (l.invariant.2 ∙ ap (λ (n : ℕ). count l.i (held_hits xs n)) most) in
+    let k : l.second ≡ value_second xs a.cell = rw (← e) l.invariant.4 in
+    let u : l.under ≡ n_at xs (value_second xs a.cell) = l.invariant.5 ∙ ap (n_at xs) k in
     λ j. record { cell = a.cell; top = v_at xs a.cell; tied = m j; held = n j; second = k j; under = u j }
 
 pub value-around-spec : {M : Type 1} → statement M

@@ -5,14 +5,14 @@ use mathlib.Core.Logic.{⊎_elim}
 use native.Mathlib.Omega.{arith}
 use borrow.Author.Tests.{lt-ltb, le-ltb}
 use lib.ListN.{length}
-use Rattle.laws.specs.Words.{firstBest, above}
+use Rattle.laws.specs.Words.{first_best, above}
 use Rattle.laws.specs.Best.{best-new, best-old}
 use Rattle.values.specs.Values.{v_at}
 use Rattle.values.proofs.table.value_best.Statement.{statement}
 use Rattle.values.proofs.table.value_best.Tie as tie
 
 abbrev invariant-loop : tie.invariant-loop
-invariant-loop values best₀ top₀ i₀ best top i = (i ≤ length values) × (best < length values) × (best ≡ firstBest (above (v_at values)) i) × (top ≡ v_at values best)
+invariant-loop values best₀ top₀ i₀ best top i = (i ≤ length values) × (best < length values) × (best ≡ first_best (above (v_at values)) i) × (top ≡ v_at values best)
 
 abbrev decreases-loop : tie.decreases-loop
 decreases-loop values best₀ top₀ i₀ best top i = length values - i
@@ -21,7 +21,7 @@ shared-slice-read-top : tie.Need-shared-slice-read-top invariant-loop decreases-
 shared-slice-read-top c = search rules
 
 loop-holds : tie.Need-loop-init invariant-loop decreases-loop
-unfolding firstBest
+unfolding first_best
 loop-holds c = (search rules, search rules, refl, refl)
 
 mul-x : tie.Need-overflow-mul-x invariant-loop decreases-loop

@@ -1,5 +1,5 @@
 use mathlib.Core.Path.{sym, ap, subst, ◌∙◌}
-use Rattle.values.specs.Values.{valueAround, value_of}
+use Rattle.values.specs.Values.{value_around, value_of}
 use Rattle.values.specs.ValuesLaws.{Top, best-top}
 use borrow.Author.Rules.{rules}
 use Rattle.values.proofs.table.value_max.Statement.{statement}
@@ -15,7 +15,7 @@ value-around-requires c κs =
 
 returns : tie.Need-returns
 unfolding value_of
-returns c = c.value-around.ensures ∙ ap (valueAround c.before.before.before.args.values.now) c.before.value-best.ensures.0
+returns c = c.value-around.ensures ∙ ap (value_around c.before.before.before.args.values.now) c.before.value-best.ensures.0
 
 pub value-max-spec : {M : Type 1} → statement M
 value-max-spec = tie.close (tie.spec value-best-requires value-around-requires returns)

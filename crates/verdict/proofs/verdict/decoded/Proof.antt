@@ -1,5 +1,5 @@
 use mathlib.Core.Path.{◌≡◌}
-use Rattle.verdict.specs.Verdict.{decodedOf}
+use Rattle.verdict.specs.Verdict.{decoded_of}
 use borrow.Author.Rules.{rules}
 use Rattle.verdict.proofs.verdict.decoded.Statement.{statement}
 use Rattle.verdict.proofs.verdict.decoded.Tie as tie
@@ -14,7 +14,7 @@ margin-requires : tie.Need-margin-requires
 margin-requires c κs = search rules
 
 returns : tie.Need-returns
-unfolding decodedOf
+unfolding decoded_of
 returns c = rw (c.before.before.rate.ensures, c.before.mean.ensures, c.margin.ensures)
 
 pub decoded-spec : {M : Type 1} → statement M

@@ -1,5 +1,5 @@
 -- `is_length`: a case for each table.
-use Rattle.viewtext.specs.Board.{isLength}
+use Rattle.viewtext.specs.Board.{is_length}
 use Rattle.std.proofs.Common.{rules}
 use Rattle.viewtext.proofs.board_file.is_length.Statement.{statement}
 use Rattle.viewtext.proofs.board_file.is_length.Tie as tie
@@ -8,11 +8,11 @@ pole-length-requires : tie.Need-pole-length-requires
 pole-length-requires c κs = search rules
 
 returns : tie.Need-returns
-unfolding isLength
+unfolding is_length
 returns c = simp c.if1.true
 
 returns-2 : tie.Need-returns-2
-unfolding isLength
+unfolding is_length
 returns-2 c = simp (c.before.if1.false, c.pole-length.ensures)
 
 pub is-length-spec : {M : Type 1} → statement M

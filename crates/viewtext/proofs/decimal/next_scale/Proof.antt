@@ -1,14 +1,14 @@
 -- `next_scale`: each test picks its case.
 use Rattle.std.proofs.Common.{◌≡◌, ℕ, ◌*◌, Bool, true, false, cond, ltb, rules, le-ltb, lt-ltb}
-use Rattle.viewtext.specs.Decimal.{nextScale}
+use Rattle.viewtext.specs.Decimal.{next_scale}
 use Rattle.viewtext.proofs.decimal.next_scale.Statement.{statement}
 use Rattle.viewtext.proofs.decimal.next_scale.Tie as tie
 
 module _ (p : Bool) (s : ℕ) where
-  behind : (t : Bool) → p ≡ true → ltb 1000000 s ≡ t → cond t 0 (s * 10) ≡ nextScale p s
+  behind : (t : Bool) → p ≡ true → ltb 1000000 s ≡ t → cond t 0 (s * 10) ≡ next_scale p s
   behind t e h = rw (e, h)
 
-  ahead : p ≡ false → s ≡ nextScale p s
+  ahead : p ≡ false → s ≡ next_scale p s
   ahead e = rw e
 
 returns : tie.Need-returns

@@ -8,7 +8,7 @@ is-likelihood-requires : tie.Need-is-likelihood-requires
 is-likelihood-requires c κs = search rules
 
 quantize-ll-requires : tie.Need-quantize-ll-requires
-quantize-ll-requires c κs = sym c.before.is-likelihood.ensures ∙ c.if1.true
+quantize-ll-requires c κs = sym c.before.is_likelihood.ensures ∙ c.if1.true
 
 print-whole-requires : tie.Need-print-whole-requires
 print-whole-requires c κs = rw (read_at w64 {x = c.quantize-ll.result} refl (omega (arith, c.quantize-ll.ensures.size))) (omega (arith, c.quantize-ll.ensures.size))

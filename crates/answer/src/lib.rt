@@ -3,7 +3,7 @@
 use refusals::Refusal;
 
 // A transform by number, with an origin on the board.
-#[derive(Drop)]
+#[derive(Clone, Copy)]
 pub struct Square {
     pub transform: u8,
     pub row: u32,
@@ -11,7 +11,7 @@ pub struct Square {
 }
 
 // What a found hard answer holds: the square that the camera faces, how well the logical list fits there, and the best competitor. Whatever counts edges is a whole number and says so by its name.
-#[derive(Drop)]
+#[derive(Clone, Copy)]
 pub struct Decoded {
     pub square: Square,
     pub hits: u32,
@@ -26,7 +26,7 @@ pub struct Decoded {
 }
 
 // The answer of hard decode.
-#[derive(Drop)]
+#[derive(Clone, Copy)]
 pub enum Answer {
     Found(Decoded),
     Refused(Refusal),
@@ -34,7 +34,7 @@ pub enum Answer {
 
 // What a found soft answer holds: the square, how well the physical list fits there, the two best scores, which are log likelihoods, with the placing that has the second, and the best competitor by
 // hits on the logical list. The second by likelihood and the runner-up by hits may be two squares.
-#[derive(Drop)]
+#[derive(Clone, Copy)]
 pub struct SoftDecoded {
     pub square: Square,
     pub hits: u32,
@@ -51,14 +51,14 @@ pub struct SoftDecoded {
 }
 
 // The answer of soft decode.
-#[derive(Drop)]
+#[derive(Clone, Copy)]
 pub enum SoftAnswer {
     Found(SoftDecoded),
     Refused(Refusal),
 }
 
 // The answer of either decoder, for those who tell of both.
-#[derive(Drop)]
+#[derive(Clone, Copy)]
 pub enum AnyAnswer {
     Hard(Decoded),
     Soft(SoftDecoded),
@@ -66,7 +66,7 @@ pub enum AnyAnswer {
 }
 
 // How a list fits one known placing: its edges and hits, misses over edges, and the mean confidence of the hits.
-#[derive(Drop)]
+#[derive(Clone, Copy)]
 pub struct MatchStats {
     pub edges: u32,
     pub hits: u32,
@@ -75,7 +75,7 @@ pub struct MatchStats {
 }
 
 // The answer of match statistics.
-#[derive(Drop)]
+#[derive(Clone, Copy)]
 pub enum StatsAnswer {
     Counted(MatchStats),
     Refused(Refusal),

@@ -10,7 +10,7 @@ use slices::page::put;
 use viewtext::view_file::Extent;
 
 // One side of the outline: where it begins on the board, and how many squares it has.
-#[derive(Drop)]
+#[derive(Clone, Copy)]
 struct Span {
     from: u32,
     size: u32,
@@ -125,7 +125,7 @@ fn put_outline(page: &mut [u8; 32768], at: usize, x: Span, y: Span, rows: u32) -
 }
 
 // A transform's matrix as a picture gives it, column by column: the phrases of its entries.
-#[derive(Drop)]
+#[derive(Clone, Copy)]
 struct Entries {
     a: u32,
     b: u32,

@@ -7,7 +7,7 @@ use exact_answer::ExactDecoded;
 use locate_answer::Located;
 
 // The common part of a found answer, which words and picture show alike.
-#[derive(Drop)]
+#[derive(Clone, Copy)]
 pub struct Shown {
     pub square: Square,
     pub hits: u32,

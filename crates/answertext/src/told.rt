@@ -17,7 +17,7 @@ pub const EXACT: u32 = 2;
 pub const LOCATED: u32 = 3;
 
 // The answer, found by one of the decoders or refused.
-#[derive(Drop)]
+#[derive(Clone, Copy)]
 pub enum Told {
     Hard(Decoded),
     Soft(SoftDecoded),

@@ -5,7 +5,7 @@ ghost use Rattle.best.specs.LexLaws.{Most};
 
 // What one table says: the first cell of largest count and then largest weight, both, how many cells have the count and how many have both,
 // and the first best of the other cells by count, with its count.
-#[derive(Drop)]
+#[derive(Clone, Copy)]
 pub struct LexMax {
     pub cell: usize,
     pub count: u32,

@@ -3,7 +3,7 @@ ghost use Rattle.std.specs.Prelude.{◌≡◌, [], ◌<◌, length};
 ghost use Rattle.board.specs.Hits.{edges, edge_at};
 
 // One edge of a list: where it lies in the view, its orientation (0 horizontal, 1 vertical), and the bit that was seen.
-#[derive(Drop)]
+#[derive(Clone, Copy)]
 pub struct Edge {
     pub row: i32,
     pub col: i32,
@@ -12,7 +12,7 @@ pub struct Edge {
 }
 
 // Where an edge is looked up: its orientation after the transform (0 horizontal, 1 vertical), and the cell relative to the origin.
-#[derive(Drop)]
+#[derive(Clone, Copy)]
 pub struct EdgeLookup {
     pub orientation: u8,
     pub row: i32,
@@ -20,7 +20,7 @@ pub struct EdgeLookup {
 }
 
 // A position in the transform list, from 0, with an origin on the board.
-#[derive(Drop)]
+#[derive(Clone, Copy)]
 pub struct Placing {
     pub listed: usize,
     pub row: u32,

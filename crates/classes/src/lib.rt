@@ -13,7 +13,7 @@ use board::pattern::pattern_bit;
 use laws::Modulus;
 
 // The hits of the three classes of one long residue, by short residue 0, 1 and 2.
-#[derive(Drop)]
+#[derive(Clone, Copy)]
 pub struct Three {
     pub a: u32,
     pub b: u32,

@@ -6,7 +6,7 @@ use crate::print::put_bits;
 use slices::page::put_byte;
 
 // How far a form is put: where the text ends, and how many whole numbers and floats are used.
-#[derive(Drop)]
+#[derive(Clone, Copy)]
 struct Reach {
     end: usize,
     wholes: usize,
@@ -106,7 +106,7 @@ pub fn put_wholes(page: &mut [u8; 32768], at: usize, form: &[u8], wholes: &[u32]
 }
 
 // How far a text is looked through: where the page's text ends, and the line.
-#[derive(Drop)]
+#[derive(Clone, Copy)]
 struct Lined {
     end: usize,
     line: u32,

@@ -9,7 +9,7 @@ use refusals::{Place, Refusal};
 use scan::scan::{Candidate, RunnerUp};
 
 // What one list comes to: refused (no confidence, nothing within the limit, not far enough ahead), or the winner with its runner-up.
-#[derive(Drop)]
+#[derive(Clone, Copy)]
 pub enum Outcome {
     Refused(Refusal),
     Decided(Candidate, RunnerUp),

@@ -5,7 +5,7 @@ use refusals::Refusal;
 
 // What a found exact answer holds: the square that the camera faces, how many of the logical list's edges are hits there, their weight in units and what all edges of that list weigh together,
 // the share of misses, and the best competitor with its hits and its weight. Weights add without rounding; there is no f32 score.
-#[derive(Drop)]
+#[derive(Clone, Copy)]
 pub struct ExactDecoded {
     pub square: Square,
     pub hits: u32,
@@ -19,7 +19,7 @@ pub struct ExactDecoded {
 }
 
 // The answer of exact decode.
-#[derive(Drop)]
+#[derive(Clone, Copy)]
 pub enum ExactAnswer {
     Found(ExactDecoded),
     Refused(Refusal),

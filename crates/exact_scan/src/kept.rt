@@ -4,28 +4,28 @@ use refusals::Refusal;
 use scan::scan::{HardScan, RunnerUp};
 
 // A placing with its value: its hits · 2^38, and its weight in units.
-#[derive(Drop)]
+#[derive(Clone, Copy)]
 pub struct ExactCandidate {
     pub value: u64,
     pub placing: Placing,
 }
 
 // What is kept of the placings so far: nobody before the first transform.
-#[derive(Drop)]
+#[derive(Clone, Copy)]
 pub enum ExactKept {
     Nobody,
     One(ExactCandidate),
 }
 
 // Up to eight transforms: their summaries and how many there are, as document 01's scan holds them (that scan keeps nobody), and what is kept.
-#[derive(Drop)]
+#[derive(Clone, Copy)]
 pub struct ExactScan {
     pub positions: HardScan,
     pub best: ExactKept,
 }
 
 // The winner of a list: its hits, its weight in units, and where it is.
-#[derive(Drop)]
+#[derive(Clone, Copy)]
 pub struct ExactWinner {
     pub hits: u32,
     pub weight: u64,
@@ -33,7 +33,7 @@ pub struct ExactWinner {
 }
 
 // What an exact selection comes to: refused (no confidence, nothing within the limit), or the winner with its runner-up.
-#[derive(Drop)]
+#[derive(Clone, Copy)]
 pub enum ExactSelection {
     Refused(Refusal),
     Selected(ExactWinner, RunnerUp),

@@ -4,7 +4,7 @@ ghost use Rattle.figures.specs.Figures.{rate_of, mean_of, confidence_to};
 ghost use Rattle.figures.specs.Gate.{passed};
 
 // How a placing fits a list: its hits, and the confidences of the hits added.
-#[derive(Drop)]
+#[derive(Clone, Copy)]
 pub struct Fit {
     pub hits: u32,
     pub weight: f32,

@@ -21,7 +21,7 @@ const ONLY_LIST: u32 = 3;
 
 // The answer of hard decode: refusal is NOT_REFUSED when found. List and position are of the edge that a refusal is about, and NOTHING where it is about none.
 #[repr(C)]
-#[derive(Drop)]
+#[derive(Clone, Copy)]
 pub struct FlatAnswer {
     pub refusal: u32,
     pub list: u32,

@@ -8,7 +8,7 @@ use refusals::Refusal;
 
 // The answer of soft decode: refusal is NOT_REFUSED when found. Scores and the margin are log likelihoods, hits are counts.
 #[repr(C)]
-#[derive(Drop)]
+#[derive(Clone, Copy)]
 pub struct FlatSoft {
     pub refusal: u32,
     pub list: u32,

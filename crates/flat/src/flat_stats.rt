@@ -8,7 +8,7 @@ use refusals::Refusal;
 
 // The answer of match statistics: refusal is NOT_REFUSED when counted.
 #[repr(C)]
-#[derive(Drop)]
+#[derive(Clone, Copy)]
 pub struct FlatStats {
     pub refusal: u32,
     pub list: u32,

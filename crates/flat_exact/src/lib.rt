@@ -12,7 +12,7 @@ pub const NO_WEIGHT: u64 = 18446744073709551615;
 // The answer of exact decode: refusal is NOT_REFUSED when found. Fourteen fields of four bytes come first and three of eight after them, so that none is parted from the next by unused bytes. Weights
 // are whole numbers of 2^-24.
 #[repr(C)]
-#[derive(Drop)]
+#[derive(Clone, Copy)]
 pub struct FlatExact {
     pub refusal: u32,
     pub list: u32,

@@ -8,7 +8,7 @@ use refusals::Refusal;
 
 // The answer of the engine without tables: refusal is NOT_REFUSED when found. Eleven fields of four bytes.
 #[repr(C)]
-#[derive(Drop)]
+#[derive(Clone, Copy)]
 pub struct FlatLocated {
     pub refusal: u32,
     pub list: u32,

@@ -10,7 +10,7 @@ use refusals::Refusal;
 // The answer of decode over a part: refusal is NOT_REFUSED when found. Fourteen fields of four bytes come first and three of eight after them, so that none is parted from the next by unused bytes.
 // Weights are whole numbers of 2^-24.
 #[repr(C)]
-#[derive(Drop)]
+#[derive(Clone, Copy)]
 pub struct FlatPart {
     pub refusal: u32,
     pub list: u32,
@@ -32,7 +32,7 @@ pub struct FlatPart {
 }
 
 // What a found answer says of its runner-up, and how many hits the square has more.
-#[derive(Drop)]
+#[derive(Clone, Copy)]
 pub struct FlatNext {
     pub next_transform: u32,
     pub next_row: u32,

@@ -8,7 +8,7 @@ use within_answer::{LimitTest, WithinAnswer};
 
 // The answer of the test: refusal is NOT_REFUSED when judged, and within is 1 for yes and 0 for no. Five fields of four bytes.
 #[repr(C)]
-#[derive(Drop)]
+#[derive(Clone, Copy)]
 pub struct FlatWithin {
     pub refusal: u32,
     pub list: u32,

@@ -17,7 +17,7 @@ use scan::scan::{Asked, Candidate, HardScan, Kept, RunnerUp, TransformSummary};
 const SEPARATION_PRODUCT_CAP: usize = 1024;
 
 // An origin by its key, with its hits.
-#[derive(Drop)]
+#[derive(Clone, Copy)]
 pub struct Ranked {
     pub hits: u32,
     pub key: usize,

@@ -8,7 +8,7 @@ use laws::Periods;
 use scan::scan::{Asked, HardScan};
 
 // Counts and weights by horizontal cell, counts and weights by vertical cell.
-#[derive(Drop)]
+#[derive(Clone, Copy)]
 pub struct TransformTables<'a> {
     pub h_count: &'a [u32],
     pub h_weight: &'a [f32],

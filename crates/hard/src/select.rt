@@ -10,7 +10,7 @@ use refusals::{Place, Refusal};
 use scan::scan::{Asked, Candidate, Choice, HardScan, RunnerUp};
 
 // What a selection comes to: refused (no confidence, nothing within the limit), or the winner with its runner-up.
-#[derive(Drop)]
+#[derive(Clone, Copy)]
 pub enum Selection {
     Refused(Refusal),
     Selected(Candidate, RunnerUp),

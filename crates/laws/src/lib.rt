@@ -4,7 +4,7 @@ ghost use Rattle.laws.specs.Words.{emod};
 ghost use Rattle.laws.specs.Modulus.{modulus_of, ModulusOk};
 
 // The lengths of a board's two pattern tables: how far the horizontal patterns go before they come again, and the vertical ones.
-#[derive(Drop)]
+#[derive(Clone, Copy)]
 pub struct Periods {
     pub h: usize,
     pub v: usize,
@@ -32,7 +32,7 @@ pub fn class_at(x: i32, r: u32, n: u32) -> u32
 
 // A number of at most 500 that can be divided by without a division: with a multiple of it that lifts every coordinate above 0, and with 2^32 over it,
 // and one more.
-#[derive(Drop)]
+#[derive(Clone, Copy)]
 pub struct Modulus {
     pub n: u32,
     pub lift: u32,

@@ -8,7 +8,7 @@ use laws::Periods;
 use tops::larger;
 
 // One transform: the most hits of an origin, that origin as its key, and the most hits of another origin.
-#[derive(Drop)]
+#[derive(Clone, Copy)]
 pub struct Peak {
     pub best: u32,
     pub key: usize,
@@ -16,7 +16,7 @@ pub struct Peak {
 }
 
 // A list over its transforms: the most hits of a placing, its list position and its key, the most hits of another placing, and the first list position that has one with them.
-#[derive(Drop)]
+#[derive(Clone, Copy)]
 pub struct Lead {
     pub best: u32,
     pub listed: usize,

@@ -5,7 +5,7 @@ ghost use Rattle.level.specs.Level.{level_best, level_around, level_of};
 ghost use Rattle.level.specs.LevelLaws.{Top};
 
 // The first cell of largest sum, that sum, how many cells have it, and the first of the second-best cells with its sum.
-#[derive(Drop)]
+#[derive(Clone, Copy)]
 pub struct LevelMax {
     pub cell: usize,
     pub top: i64,

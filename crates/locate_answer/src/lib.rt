@@ -3,7 +3,7 @@ use answer::Square;
 use refusals::Refusal;
 
 // What is found on one list: the square that the camera faces with its hits, and the first of the other placings with most hits.
-#[derive(Drop)]
+#[derive(Clone, Copy)]
 pub struct Located {
     pub square: Square,
     pub hits: u32,
@@ -12,7 +12,7 @@ pub struct Located {
 }
 
 // The answer of the engine without tables.
-#[derive(Drop)]
+#[derive(Clone, Copy)]
 pub enum LocateAnswer {
     Found(Located),
     Refused(Refusal),

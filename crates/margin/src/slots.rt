@@ -5,21 +5,21 @@ ghost use Rattle.margin.specs.Choice.{soft_chosen};
 use board::edge::Placing;
 
 // A placing with its total.
-#[derive(Drop)]
+#[derive(Clone, Copy)]
 pub struct SoftCandidate {
     pub placing: Placing,
     pub total: f32,
 }
 
 // First or second place: free, or held by a candidate.
-#[derive(Drop)]
+#[derive(Clone, Copy)]
 pub enum Slot {
     Free,
     Held(SoftCandidate),
 }
 
 // First and second place, and the number of transforms so far.
-#[derive(Drop)]
+#[derive(Clone, Copy)]
 pub struct SoftScan {
     pub first: Slot,
     pub second: Slot,
@@ -27,7 +27,7 @@ pub struct SoftScan {
 }
 
 // What a list of transforms comes to before the margin: no two candidates, or the best and the second.
-#[derive(Drop)]
+#[derive(Clone, Copy)]
 pub enum SoftChoice {
     Nothing,
     Chosen {

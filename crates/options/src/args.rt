@@ -3,7 +3,7 @@ use viewtext::text::{is_name, name_of};
 
 // The options, and for each file the argument that names it (0 for none). Wrong: it cannot be understood, as help beside anything else. Awaits: the next
 // argument names the picture.
-#[derive(Drop)]
+#[derive(Clone, Copy)]
 pub struct Options {
     pub wrong: bool,
     pub help: bool,

@@ -12,7 +12,7 @@ use laws::Periods;
 use level::{LevelMax, is_tied, level_max};
 
 // The keys of a transform's winner and of its second.
-#[derive(Drop)]
+#[derive(Clone, Copy)]
 pub struct TwoBest {
     pub winner: usize,
     pub second: usize,

@@ -3,7 +3,7 @@ ghost use Rattle.std.specs.Prelude.{◌≡◌};
 ghost use Rattle.part.specs.Part.{side_bad, part_bad, SideOk, runs_of};
 
 // The part that was printed: the row and the column at which its origins start, 0 to 500, and how many rows and columns of origins it has, 1 to 501.
-#[derive(Drop)]
+#[derive(Clone, Copy)]
 pub struct Part {
     pub row: u32,
     pub col: u32,
@@ -12,7 +12,7 @@ pub struct Part {
 }
 
 // The row or column numbers of a part in order: those below `first`, and those of at least `from` and below `to`.
-#[derive(Drop)]
+#[derive(Clone, Copy)]
 pub struct Runs {
     pub first: usize,
     pub from: usize,

@@ -4,7 +4,7 @@ use answer::Square;
 use refusals::Refusal;
 
 // The best competitor with its hits and its weight. None is shown where the part has one origin and one transform was listed: then there is no other placing.
-#[derive(Drop)]
+#[derive(Clone, Copy)]
 pub enum PartRunnerUp {
     NoneShown,
     Shown(Square, u32, u64),
@@ -12,7 +12,7 @@ pub enum PartRunnerUp {
 
 // What a found answer holds: the square of the part that the camera faces, how many of the logical list's edges are hits there, their weight in units and what all edges of that list weigh
 // together, the share of misses, and the best competitor of the part, where there is one.
-#[derive(Drop)]
+#[derive(Clone, Copy)]
 pub struct PartDecoded {
     pub square: Square,
     pub hits: u32,
@@ -24,7 +24,7 @@ pub struct PartDecoded {
 }
 
 // The answer of decode over a part.
-#[derive(Drop)]
+#[derive(Clone, Copy)]
 pub enum PartAnswer {
     Found(PartDecoded),
     Refused(Refusal),

@@ -5,14 +5,14 @@ ghost use Rattle.part_scan.specs.Kept.{second_of, next_of, offered_one, offered_
 use values::table::hits_of;
 
 // A placing as it is offered: its value, and its number, list position · 251,001 + row · 501 + column, so that the earlier one has the lower number.
-#[derive(Drop)]
+#[derive(Clone, Copy)]
 pub struct Offer {
     pub value: u64,
     pub number: usize,
 }
 
 // What is kept of the placings so far: the winner, and the runner-up as soon as there are two.
-#[derive(Drop)]
+#[derive(Clone, Copy)]
 pub enum PartKept {
     Nobody,
     One(Offer),

@@ -3,14 +3,14 @@ use exact_scan::kept::ExactWinner;
 use refusals::Refusal;
 
 // The runner-up, with its hits, its weight and where it is: none is shown where the part has one placing only.
-#[derive(Drop)]
+#[derive(Clone, Copy)]
 pub enum PartNext {
     NoneShown,
     Shown(ExactWinner),
 }
 
 // Refused (no confidence, nothing within the limit), or the winner with its runner-up.
-#[derive(Drop)]
+#[derive(Clone, Copy)]
 pub enum PartSelection {
     Refused(Refusal),
     Selected(ExactWinner, PartNext),

@@ -119,7 +119,7 @@ fn below(length: usize, kind: usize, n: u32) -> bool {
 }
 
 // Two numbers, of which the first is below and the second is not.
-#[derive(Drop)]
+#[derive(Clone, Copy)]
 struct Span {
     low: u16,
     high: u16,
@@ -195,7 +195,7 @@ fn show(length: usize, found: [u32; 8]) {
 }
 
 // How many lengths are accepted, how many refused with 8, and a checksum over all that was found.
-#[derive(Drop)]
+#[derive(Clone, Copy)]
 struct Totals {
     accepted: u32,
     refused: u32,

@@ -4,7 +4,7 @@ use slices::part::{part_f32, part_i32, part_u8};
 use wordfile::columns::{FIRST, FOURTH, SECOND, SEVENTH, SIXTH, Sizes, THIRD};
 
 // The lengths of the columns that belong to no list: likelihoods and the two tables.
-#[derive(Drop)]
+#[derive(Clone, Copy)]
 pub struct Lengths {
     pub matches: usize,
     pub mismatches: usize,

@@ -6,7 +6,7 @@ use console::print::bits_of;
 use wordfile::words::{Cursor, next_word};
 
 // How many cells differ, and where the next word stands.
-#[derive(Drop)]
+#[derive(Clone, Copy)]
 pub struct Compared {
     pub differ: u32,
     pub next: Cursor,

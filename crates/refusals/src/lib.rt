@@ -39,7 +39,7 @@ pub const SOFT_MARGIN: u32 = 14; // margin below the soft margin
 pub const SOFT_HARD_DISAGREE: u32 = 15; // soft and hard winners differ
 
 // The list of a call that holds an edge. A call with one list has the only one.
-#[derive(Drop)]
+#[derive(Clone, Copy)]
 pub enum ListName {
     Logical,
     Physical,
@@ -47,28 +47,28 @@ pub enum ListName {
 }
 
 // Which edge: its list, and its position there, from 0.
-#[derive(Drop)]
+#[derive(Clone, Copy)]
 pub struct EdgePlace {
     pub list: ListName,
     pub position: u32,
 }
 
 // Where in the call a refusal points to: nowhere, or to an edge.
-#[derive(Drop)]
+#[derive(Clone, Copy)]
 pub enum Place {
     Nowhere,
     At(EdgePlace),
 }
 
 // Why a call was refused: the number, and the edge at fault where it is about one.
-#[derive(Drop)]
+#[derive(Clone, Copy)]
 pub struct Refusal {
     pub number: u32,
     pub place: Place,
 }
 
 // Whether a call is taken on, or refused before any work is done.
-#[derive(Drop)]
+#[derive(Clone, Copy)]
 pub enum Admission {
     Accepted,
     Refused(Refusal),

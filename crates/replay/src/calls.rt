@@ -7,7 +7,7 @@ use slices::part::{part_f32, part_i32, part_u8, room_f32, room_i64, room_u32, ro
 use wordfile::columns::{FIFTH, FIRST, FOURTH, SECOND, SEVENTH, SIXTH, Sizes, THIRD};
 
 // How much room a call is lent: `weights` is of f32, and for exact decode of u64.
-#[derive(Drop)]
+#[derive(Clone, Copy)]
 pub struct Room {
     pub counts: usize,
     pub weights: usize,
@@ -15,7 +15,7 @@ pub struct Room {
 }
 
 // The lengths of the columns that belong to no list: likelihoods, transforms and the two tables.
-#[derive(Drop)]
+#[derive(Clone, Copy)]
 pub struct Lengths {
     pub matches: usize,
     pub mismatches: usize,
@@ -25,7 +25,7 @@ pub struct Lengths {
 }
 
 // The error limit, the soft margin, and the placing for match statistics.
-#[derive(Drop)]
+#[derive(Clone, Copy)]
 pub struct Settings {
     pub limit: f32,
     pub margin: f32,

@@ -9,7 +9,7 @@ use wordfile::named::open_named;
 use wordfile::words::{Cursor, float, next_word, octet};
 
 // Where the file stands, and the lengths of the two tables that it gave last.
-#[derive(Drop)]
+#[derive(Clone, Copy)]
 pub struct Place {
     pub next: Cursor,
     pub h: usize,
@@ -17,7 +17,7 @@ pub struct Place {
 }
 
 // How much room the call is lent, and where the next word stands.
-#[derive(Drop)]
+#[derive(Clone, Copy)]
 pub struct Roomy {
     pub room: Room,
     pub next: Cursor,
@@ -38,7 +38,7 @@ fn read_room(buf: &mut [u8; 65536], c: Cursor) -> Roomy {
 }
 
 // The settings of a call, and where the next word stands.
-#[derive(Drop)]
+#[derive(Clone, Copy)]
 pub struct Set {
     pub settings: Settings,
     pub next: Cursor,
@@ -63,7 +63,7 @@ fn read_settings(buf: &mut [u8; 65536], c: Cursor) -> Set {
 }
 
 // The seventeen words of an answer, and where the next word stands.
-#[derive(Drop)]
+#[derive(Clone, Copy)]
 pub struct Expected {
     pub words: [u32; 17],
     pub next: Cursor,

@@ -6,7 +6,7 @@ use laws::Periods;
 
 // How one side of the tables stands in lent room: 0 for horizontal or 1 for vertical, how far a cell is from that of the next class along the pattern table
 // and from that of the next one across it, and where the side's cells and its groups start.
-#[derive(Drop)]
+#[derive(Clone, Copy)]
 pub struct Side {
     pub orientation: u8,
     pub stride: usize,

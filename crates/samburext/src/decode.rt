@@ -9,7 +9,7 @@ use slices::part::{part_f32, part_i32, part_u8};
 use viewtext::view_file::{View, list_of};
 
 // Which part of the columns a list takes up: where its edges begin in the first, the second and the third column of an array, and how many there are.
-#[derive(Drop)]
+#[derive(Clone, Copy)]
 struct Part {
     from: usize,
     second: usize,

@@ -15,7 +15,7 @@ pub fn over_limit(edges: u32, hits: u32, error_limit: f32) -> bool
 }
 
 // What is to be beaten: nothing, or a candidate's hits and score.
-#[derive(Drop)]
+#[derive(Clone, Copy)]
 pub struct Lead {
     pub some: bool,
     pub hits: u32,

@@ -2,7 +2,7 @@
 use board::edge::Placing;
 
 // What a selection on one list is asked: how many edges it has, their total confidence, and the share of misses that a candidate may have.
-#[derive(Drop)]
+#[derive(Clone, Copy)]
 pub struct Asked {
     pub edges: u32,
     pub confidence: f32,
@@ -10,7 +10,7 @@ pub struct Asked {
 }
 
 // An origin of a transform, by number, that competes with the winner: its hits, and where it is.
-#[derive(Drop)]
+#[derive(Clone, Copy)]
 pub struct RunnerUp {
     pub hits: u32,
     pub row: u32,
@@ -19,14 +19,14 @@ pub struct RunnerUp {
 }
 
 // One transform: its best origin, which competes with the winner of another list position, and the runner-up within the transform.
-#[derive(Drop)]
+#[derive(Clone, Copy)]
 pub struct TransformSummary {
     pub best: RunnerUp,
     pub within: RunnerUp,
 }
 
 // A placing with its hits, its weight and its score.
-#[derive(Drop)]
+#[derive(Clone, Copy)]
 pub struct Candidate {
     pub hits: u32,
     pub score: f32,
@@ -35,14 +35,14 @@ pub struct Candidate {
 }
 
 // What is kept of the candidates so far.
-#[derive(Drop)]
+#[derive(Clone, Copy)]
 pub enum Kept {
     Nobody,
     One(Candidate),
 }
 
 // Up to eight transforms: their summaries, how many there are, and the kept candidate.
-#[derive(Drop)]
+#[derive(Clone, Copy)]
 pub struct HardScan {
     pub summaries: [TransformSummary; 8],
     pub count: usize,
@@ -50,7 +50,7 @@ pub struct HardScan {
 }
 
 // What a list of transforms comes to before the gate: no candidate, or a winner with its runner-up.
-#[derive(Drop)]
+#[derive(Clone, Copy)]
 pub enum Choice {
     Nothing,
     Chosen {

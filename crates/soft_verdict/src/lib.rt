@@ -9,7 +9,7 @@ use refusals::{Admission, Place, Refusal};
 use scan::scan::{Candidate, RunnerUp};
 
 // The two best placings by likelihood, and how far the first is ahead per edge: kept together until the answer is assembled.
-#[derive(Drop)]
+#[derive(Clone, Copy)]
 pub struct SoftBest {
     pub first: SoftCandidate,
     pub second: SoftCandidate,

@@ -12,7 +12,7 @@ pub const VIEW_REFUSED: u32 = 22; // an answer is a refusal
 pub const TRANSFORMS_DIFFER: u32 = 23; // the cameras see the board under two transforms
 
 // The camera that a refusal is about: the first or the second one given, or the pair.
-#[derive(Drop)]
+#[derive(Clone, Copy)]
 pub enum Camera {
     First,
     Second,
@@ -20,7 +20,7 @@ pub enum Camera {
 }
 
 // From the first camera's origin to the second one's: rows and columns, each from -250 to 250; and the hits and misses of both views together.
-#[derive(Drop)]
+#[derive(Clone, Copy)]
 pub struct Shift {
     pub rows: i32,
     pub cols: i32,
@@ -29,7 +29,7 @@ pub struct Shift {
 }
 
 // The shift, or a refusal: its number, and the camera that it is about.
-#[derive(Drop)]
+#[derive(Clone, Copy)]
 pub enum StereoAnswer {
     Between(Shift),
     Refused(u32, Camera),

@@ -12,7 +12,7 @@ pub const NO_SUCH_EDGE: u32 = 18; // no edge at the position to remove or flip
 pub const BAD_RECORD: u32 = 24; // a record that cannot be that of its list
 
 // The record: the placing, how many edges the list has, and its hits and misses by the orientation that is listed.
-#[derive(Drop)]
+#[derive(Clone, Copy)]
 pub struct Tally {
     pub square: Square,
     pub edges: u32,
@@ -23,14 +23,14 @@ pub struct Tally {
 }
 
 // What an edit answers: the new record, or a refusal.
-#[derive(Drop)]
+#[derive(Clone, Copy)]
 pub enum TallyAnswer {
     Kept(Tally),
     Refused(Refusal),
 }
 
 // How an edit was judged: refused, or taken, with whether its edge is a hit.
-#[derive(Drop)]
+#[derive(Clone, Copy)]
 pub enum Judged {
     Refused(Refusal),
     Taken(bool),

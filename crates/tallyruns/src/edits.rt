@@ -38,7 +38,7 @@ fn edge_of(x: u64) -> Edge {
 }
 
 // How a run went: its record, and how many edits were kept and refused, and how many records differed from the recount.
-#[derive(Drop)]
+#[derive(Clone, Copy)]
 struct Course {
     tally: Tally,
     kept: u32,

@@ -6,7 +6,7 @@ use answer::{Answer, AnyAnswer, Decoded, SoftAnswer, SoftDecoded, Square};
 use refusals::Refusal;
 
 // The ten fields. The runner-up's score is its hits, in hard and in soft answers; the margin is in hits in the one and a log likelihood per edge in the other: whoever subtracts, mixes them up.
-#[derive(Drop)]
+#[derive(Clone, Copy)]
 pub struct TenFields {
     pub square: Square,
     pub hits: u32,
@@ -21,7 +21,7 @@ pub struct TenFields {
 }
 
 // The answer of document 01.
-#[derive(Drop)]
+#[derive(Clone, Copy)]
 pub enum TenAnswer {
     Found(TenFields),
     Refused(Refusal),

@@ -4,7 +4,7 @@ ghost use Rattle.laws.specs.Words.{fold, all};
 ghost use Rattle.terms.specs.Terms.{places_n, places_f, term, row, Six, Terms};
 
 // What a family adds to one cell.
-#[derive(Drop)]
+#[derive(Clone, Copy)]
 pub struct FamilyTerm {
     pub count: u32,
     pub weight: f32,

@@ -8,7 +8,7 @@ ghost use Rattle.tops.specs.Tops.{pushed, pushed_three, top_to, raised, short_to
 use classes::{Three, period_of};
 
 // What one side comes to: the most hits of a class, the first class that has them, and the most hits of another class.
-#[derive(Drop)]
+#[derive(Clone, Copy)]
 pub struct Top {
     pub best: u32,
     pub at: usize,

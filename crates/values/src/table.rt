@@ -7,7 +7,7 @@ use best::lex::LexMax;
 use unit_terms::HIT;
 
 // What one table says: the first cell of greatest value, that value, how many cells have it, how many have as many hits, and the first best of the other cells by hits, with its hits.
-#[derive(Drop)]
+#[derive(Clone, Copy)]
 pub struct ValueMax {
     pub cell: usize,
     pub top: u64,

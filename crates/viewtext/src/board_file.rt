@@ -7,7 +7,7 @@ use crate::text::{Word, byte_after, next_line, next_word, none, start};
 use ranges::pole_length;
 
 // How far a board is read: the tables that it has so far, and the length of the first. Where it is at fault, `what` is the number of what was expected at the place.
-#[derive(Drop)]
+#[derive(Clone, Copy)]
 pub struct Board {
     pub what: u32,
     pub place: usize,

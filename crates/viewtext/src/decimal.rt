@@ -6,7 +6,7 @@ ghost use Rattle.viewtext.specs.Decimal.{float_of, next_digits, next_scale};
 use crate::text::{Word, byte_after};
 
 // A number that was read: good if the word was one, its sign, its digits without the point, and the power of ten below them.
-#[derive(Drop)]
+#[derive(Clone, Copy)]
 pub struct Decimal {
     pub good: bool,
     pub minus: bool,

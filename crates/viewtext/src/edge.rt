@@ -3,7 +3,7 @@ use crate::decimal::{float, signed};
 use crate::field::{Field, before, ended, next_field, next_if_any};
 
 // An edge that was read. Where its line is at fault, `what` is the number of what was expected at the place, and no field counts.
-#[derive(Drop)]
+#[derive(Clone, Copy)]
 pub struct Edge {
     pub what: u32,
     pub place: usize,

@@ -4,7 +4,7 @@ use crate::text::{next_word, none};
 
 // A number that was read, and where its word ends. Where the line is at fault so far, `what` was expected at the place, and nothing else counts. `given` is
 // false where the line ended before a number that it need not have.
-#[derive(Drop)]
+#[derive(Clone, Copy)]
 pub struct Field {
     pub what: u32,
     pub place: usize,

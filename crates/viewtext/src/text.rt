@@ -4,7 +4,7 @@ ghost use Rattle.std.specs.Prelude.{◌≡◌, ◌+◌, ◌<◌, ◌≤◌, min,
 ghost use Rattle.viewtext.specs.Text.{line_at, named, stands};
 
 // Where a word begins and ends in its file. At the end of a line it is empty.
-#[derive(Drop)]
+#[derive(Clone, Copy)]
 pub struct Word {
     pub from: usize,
     pub to: usize,
@@ -148,7 +148,7 @@ fn matches(s: &[u8], from: usize, name: &[u8]) -> bool
 
 // How far a text of names is looked through: the number of the name and the place in the word that its next byte is held to, whether all bytes so far are
 // the word's, and the last name that was the word's whole.
-#[derive(Drop)]
+#[derive(Clone, Copy)]
 struct Sought {
     line: u32,
     at: usize,

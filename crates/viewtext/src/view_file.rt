@@ -29,7 +29,7 @@ pub fn columns_f32() -> [f32; 49152]
 }
 
 // How far a list is read: whether the file has it, its edges so far, and whether they have log likelihoods (0 not known yet, 1 none, 2 all).
-#[derive(Drop)]
+#[derive(Clone, Copy)]
 pub struct List {
     pub given: bool,
     pub edges: usize,
@@ -37,7 +37,7 @@ pub struct List {
 }
 
 // The transforms that are searched, the error limit and the soft margin; of each whether it is the file's own.
-#[derive(Drop)]
+#[derive(Clone, Copy)]
 pub struct Settings {
     pub transforms: [u8; 8],
     pub listed: usize,
@@ -49,7 +49,7 @@ pub struct Settings {
 }
 
 // The rows and columns from the first to the last that an edge has, counted from -1,000,000.
-#[derive(Drop)]
+#[derive(Clone, Copy)]
 pub struct Extent {
     pub top: u32,
     pub bottom: u32,
@@ -59,7 +59,7 @@ pub struct Extent {
 
 // What the file says so far. Where it is at fault, `what` is the number of what was expected at the place; then nothing else counts. The first logical edge with
 // log likelihoods stands at `likely_at`.
-#[derive(Drop)]
+#[derive(Clone, Copy)]
 pub struct View {
     pub what: u32,
     pub place: usize,
@@ -246,7 +246,7 @@ fn with_list(s: &[u8], w: Word, physical: bool, view: View) -> View {
 }
 
 // The transforms of a line so far, and the field that was read last.
-#[derive(Drop)]
+#[derive(Clone, Copy)]
 struct Transforms {
     list: [u8; 8],
     listed: usize,

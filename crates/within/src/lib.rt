@@ -13,7 +13,7 @@ use within_admission::NO_FAULT;
 use within_answer::{LimitTest, WithinAnswer};
 
 // Where a list is left: how many edges were read, and how many of them are hits.
-#[derive(Drop)]
+#[derive(Clone, Copy)]
 pub struct Stop {
     pub read: usize,
     pub hits: u32,

@@ -2,14 +2,14 @@
 use refusals::Refusal;
 
 // Whether a placing of a list is within the error limit, and how many of its edges were read to know it.
-#[derive(Drop)]
+#[derive(Clone, Copy)]
 pub struct LimitTest {
     pub within: bool,
     pub read: u32,
 }
 
 // The answer of the test.
-#[derive(Drop)]
+#[derive(Clone, Copy)]
 pub enum WithinAnswer {
     Judged(LimitTest),
     Refused(Refusal),

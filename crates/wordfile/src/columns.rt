@@ -21,7 +21,7 @@ pub const SIXTH: usize = 40965;
 pub const SEVENTH: usize = 49158;
 
 // How many words a column has, and where the next word stands.
-#[derive(Drop)]
+#[derive(Clone, Copy)]
 pub struct Column {
     pub n: usize,
     pub next: Cursor,
@@ -91,7 +91,7 @@ pub fn read_f32(buf: &mut [u8; 65536], c: Cursor, out: &mut [f32; 32772], from: 
 }
 
 // The lengths of a list's columns.
-#[derive(Drop)]
+#[derive(Clone, Copy)]
 pub struct Sizes {
     pub rows: usize,
     pub cols: usize,
@@ -101,7 +101,7 @@ pub struct Sizes {
 }
 
 // The lengths of a list's columns, and where the next word stands.
-#[derive(Drop)]
+#[derive(Clone, Copy)]
 pub struct Listed {
     pub sizes: Sizes,
     pub next: Cursor,

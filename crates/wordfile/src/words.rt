@@ -3,7 +3,7 @@ ghost use Rattle.std.specs.Prelude.{◌≡◌, true, ◌%◌};
 ghost use Rattle.wordfile.specs.Bits.{real_bits, signed_of, float_of};
 
 // Where the next word stands in the buffer, how far the buffer is filled, and the file.
-#[derive(Drop)]
+#[derive(Clone, Copy)]
 pub struct Cursor {
     pub fd: i32,
     pub at: usize,
@@ -11,7 +11,7 @@ pub struct Cursor {
 }
 
 // A word, and where the next one stands.
-#[derive(Drop)]
+#[derive(Clone, Copy)]
 pub struct Word {
     pub value: u32,
     pub next: Cursor,

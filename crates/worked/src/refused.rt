@@ -136,7 +136,7 @@ fn setting(good: f32, a: u32, b: u32, k: u32, top: f32) -> f32 {
 }
 
 // How long the columns of a case are, and how much room it is lent.
-#[derive(Drop)]
+#[derive(Clone, Copy)]
 struct Lengths {
     logical: usize,
     cols: usize,

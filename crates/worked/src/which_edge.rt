@@ -10,7 +10,7 @@ use slices::page::{blank, put};
 
 // A bad edge: the field that is bad (1 row, 2 column, 3 orientation, 4 bit, 5 confidence, 6 and 7 likelihood of a match and of a mismatch; 0 for no bad edge), the
 // list (1 logical, 2 physical) and the position.
-#[derive(Drop)]
+#[derive(Clone, Copy)]
 struct Bad {
     field: u32,
     list: u32,

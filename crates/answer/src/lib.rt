@@ -1,4 +1,5 @@
 // What the entry points answer: types alone, and no function.
+#![tactic(auto)]
 
 use refusals::Refusal;
 

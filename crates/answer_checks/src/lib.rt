@@ -1,4 +1,6 @@
 // Whether a found hard answer fits itself: refusal 25 of requests C-22 and C-23, which take answers from whoever hands them on.
+#![tactic(auto)]
+
 ghost use Rattle.std.specs.Prelude.{◌≡◌};
 ghost use Rattle.answer_checks.specs.FoundBad.{found_bad};
 

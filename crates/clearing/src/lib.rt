@@ -1,4 +1,6 @@
 // Lent room set to zero, one function for each type.
+#![tactic(auto)]
+
 ghost use Rattle.std.specs.Prelude.{◌≡◌, ◌≤◌, length, pos};
 ghost use Rattle.laws.specs.Words.{zero_f, cleared};
 

@@ -1,8 +1,6 @@
 -- A part of a list put in anew: what a lent part `&mut s[a..a + n]` leaves of the whole.
-use Rattle.std.specs.Prelude.{◌≡◌, refl, List, ◌++◌, ℕ, ◌+◌, ◌-◌, ◌≤◌, ◌<◌, length, get_or, take, drop}
-use Rattle.std.proofs.Common.{sym, ap, ◌∙◌, append_assoc, arith, length-take, length-drop, length-append, take-append-drop, take_at, drop_at, drop-drop, length-take-le}
-use Rattle.std.proofs.Math.Seq.{drop-append-add}
-use Rattle.std.proofs.lemmas.List.{take-append-le, drop-append-le}
+use Rattle.std.specs.Prelude.{◌≡◌, List, ◌++◌, ℕ, ◌+◌, ◌-◌, ◌≤◌, length, take, drop}
+use Rattle.std.proofs.Common.{sym, ap, ◌∙◌, arith, length-take, length-drop, length-append, take-append-drop, take_at, drop_at, drop-drop, length-take-le}
 
 -- the n places from a on
 abbrev pub view {ℓ} : {A : Type ℓ} → ℕ → ℕ → List A → List A

@@ -1,6 +1,6 @@
 -- +0 added to a weight without a minus sign is that weight, bit for bit: a value that its format holds rounds to itself, and a format holds a number once.
 use Rattle.std.specs.Prelude.{◌≡◌, refl, Bool, true, false, ◌&&◌, cond, ℕ, zero, suc, ◌+◌, ◌-◌, ◌*◌, ◌/◌, ◌%◌, ◌^◌, ◌≤◌, ◌<◌, T, leb, ltb, eqb, ℤ, pos, negsuc, Float}
-use Rattle.std.proofs.Common.{sym, ap, ◌∙◌, subst, le_trans, mul-one, one-mul, mul_comm, mul_assoc, mul_right_comm, zero-mul, add-zero, lt_of_lt_of_le, zero-lt-suc, mul-pos, mul-lt-mul_of_pos_right, lt_of_mul-lt-mul_right, arith, lit<, ltb→lt, leb→le, eqb→eq, pow-add, pow_pos}
+use Rattle.std.proofs.Common.{sym, ap, ◌∙◌, subst, mul-one, one-mul, mul_comm, mul_assoc, mul_right_comm, zero-mul, add-zero, mul-lt-mul_of_pos_right, lt_of_mul-lt-mul_right, arith, ltb→lt, leb→le, pow-add, pow_pos}
 use Rattle.std.proofs.Math.Decide.{dec_le}
 use Rattle.std.proofs.Math.Pow.{pow-lt}
 use Rattle.std.specs.Float.Ieee.{size, hid, top, prec, low, emax, up, down, round, sum, add, fits, to_bits, of_bits}

@@ -1,6 +1,6 @@
 -- A weight over the list's total confidence is finite, however small the confidences: the weight is a sum of some of them, each is at most the total, and sums
 -- of what is at most a power of two count in that power. So the share of n confidences is at most 2 n.
-use Rattle.std.specs.Prelude.{◌≡◌, cond, ◌&&◌, ◌⊎◌, eqb, ℤ, Float}
+use Rattle.std.specs.Prelude.{◌≡◌, cond, ◌&&◌, eqb, ℤ, Float}
 use Rattle.std.proofs.Math.Path.{refl, subst}
 use Rattle.std.proofs.Common.{sym, ap, ◌∙◌, true≢false, le_trans, le_of_eq, le_of_lt, lt_of_lt_of_le, mul-one, one-mul, mul_comm, mul_assoc, mul_left_comm, mul_right_comm, mul-le-mul, mul-le-mul_left, mul-le-mul_right, lt_of_mul-lt-mul_right, mul-lt-mul_of_pos_right, zero-lt-suc, lt_of_le_of_lt, le_refl, arith, lit<, lit≤, pow-add, pow_pos, pow_mono, ne_eqb, le-ltb}
 use Rattle.std.proofs.Math.Bool.{true, false}

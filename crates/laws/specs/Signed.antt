@@ -1,5 +1,5 @@
 -- A signed local is kept as its bits: when a number fits, what is read back, and what a test of two such numbers says.
-use Rattle.std.specs.Prelude.{◌≡◌, refl, Bool, true, false, ℕ, suc, ◌+◌, ◌≤◌, ◌<◌, ◌^◌, T, eqb, ℤ, pos, negsuc, nat_abs}
+use Rattle.std.specs.Prelude.{◌≡◌, refl, Bool, true, false, ℕ, suc, ◌≤◌, ◌<◌, ◌^◌, T, eqb, ℤ, pos, negsuc, nat_abs}
 use Rattle.std.proofs.Common.{sym, ap, ap₂, subst, ◌∙◌, zero-le, le_refl, arith, le-leb, eqb-true, to_z-of_z}
 use Rattle.std.specs.Int.Signed.{le_z, lt_z, mag}
 use Rattle.std.proofs.lemmas.Bool.{eqb-false}

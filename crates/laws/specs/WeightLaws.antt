@@ -1,10 +1,9 @@
 -- Sums of f32 weights: of n weights from 0 to 1 a sum in any order is finite, without a minus sign, and at most n, for n up to 2 ^ 24.
 -- On such weights `<` is a strict weak order, and `==` says that neither is greater.
-use Rattle.std.specs.Prelude.{◌≡◌, refl, Bool, true, false, not, ◌&&◌, ◌||◌, cond, T, ltb, eqb, pos, Float}
+use Rattle.std.specs.Prelude.{◌≡◌, refl, Bool, true, false, not, ◌&&◌, ◌||◌, cond, T, ltb, eqb, Float}
 use Rattle.std.proofs.Common.{sym, ap, ◌∙◌, true≢false, ⊎_elim, le_of_lt, zero-lt-suc, mul_left_comm, le_trans, le_of_eq, mul-one, mul_comm, mul_assoc, mul_right_comm, add-mul, add-le-add, mul-le-mul_right, le_of_mul-le-mul_right, mul-pos, zero-mul, add-zero, arith, lit<, ltb→lt, eqb→eq, ltb-true, ltb-false, lt-ltb, le-ltb, eq-eqb, eqb-true}
 use Prim.Native.Nat.{ℕ, zero, suc, ◌+◌, ◌-◌, ◌*◌, ◌^◌, ◌≤◌, ◌<◌, zero-le}
 use Rattle.std.proofs.Math.Nat.{sub-zero}
-use Rattle.std.proofs.lemmas.Bool.{eqb-false}
 use Rattle.std.specs.Float.{nan, inf, fin, Format, binary32}
 use Rattle.std.specs.Float.Ieee.{prec, low, emax, up, down, odd, units, round, sum, add, le, lt, eq}
 use Rattle.std.specs.Float.Ieee.Fits.{round_is, down_pos, up_pos, and_l}

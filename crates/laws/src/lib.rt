@@ -1,4 +1,6 @@
 // The leaf functions that the laws of specs/ are about: remainders that are never negative; and the two periods of a board.
+#![tactic(auto)]
+
 ghost use Rattle.std.specs.Prelude.{◌≡◌, ◌+◌, ◌<◌, ◌≤◌, ◌%◌, pos, nat_abs, ◌+ℤ◌};
 ghost use Rattle.laws.specs.Words.{emod};
 ghost use Rattle.laws.specs.Modulus.{modulus_of, ModulusOk};

@@ -8,7 +8,7 @@ use native.Mathlib.Nat.{le_trans, le_of_eq, le_refl, le_of_lt, le_antisymm, lt_i
 use lib.Dec.{lit<}
 use lib.Pow.{pow-add, pow_pos, pow_mono, pow-lt, shl_lt, shl-shr, shl_exact}
 use lib.Count.{count_leading_zeros, leading_top}
-use lib.Ieee.{Float, fin, binary32, down, size, round, units, to_bits, of_bits}
+use lib.Ieee.{inf, nan, Float, fin, binary32, down, size, round, units, to_bits, of_bits}
 use lib.Ieee.Digits.{size-lt, size-le}
 use lib.Ieee.Fits.{down_pos, round_is, round-fits, core, nearest-le}
 use lib.Ieee.Bits.{of_bits-to_bits}
@@ -63,6 +63,8 @@ body_is Q K a b = go (eq-or-lt_of_le b)
 
 bits_of : (v : Float) (s : Bool) (a : ℕ) → HasValue v s a (2 ^ 149) → to_bits binary32 v ≡ cond s 2147483648 0 + body a
 unfolding to_bits
+bits_of nan s a h = elim h [ ]
+bits_of (inf _) s a h = elim h [ ]
 bits_of (fin t m e) s a h =
     ap (λ (n : ℕ). cond t 2147483648 0 + (size n - 24) * 8388608 + n / 2 ^ (size n - 24)) (ap (λ (x : ℕ). x / down e) h.1 ∙ mul-div_cancel a (down_pos e))
     ∙ regroup (cond t 2147483648 0) ((size a - 24) * 8388608) (a / 2 ^ (size a - 24))

@@ -19,6 +19,8 @@ use Rattle.likelihood.proofs.Scaled.{fields_value}
 
 -- a value that is a / l in size, and at most 2 ^ 16: a is at most 2 ^ 16 * l
 size-le : (v : Float) (s : Bool) (a l : ℕ) → HasValue v s a l → Within v → a ≤ 2 ^ 16 * l
+size-le nan s a l v h = elim v [ ]
+size-le (inf _) s a l v h = elim v [ ]
 size-le (fin t m e) s a l v h =
     le_of_mul-le-mul_right
     (le_trans (le_of_eq (sym v.1)) (le_trans (mul-le-mul_right l h) (le_of_eq (mul_right_comm (2 ^ 16) (down e) l))))

@@ -1,7 +1,7 @@
 -- Rounding to the nearest: `half_up` on equal fractions, and what the shifts of `nearest` are.
 use mathlib.Core.Path.{◌≡◌, refl, sym, ap, subst, ◌∙◌}
 use mathlib.Core.Bool.{Bool, true, false}
-use mathlib.Core.Logic.{◌⊎◌, ⊎_elim}
+use mathlib.Core.Logic.{⊎_elim}
 use Prim.Native.Nat.{ℕ, suc, ◌+◌, ◌*◌, ◌-◌, ◌<◌, ◌≤◌, ◌%◌, ◌/◌, ◌^◌, compare, Ordering}
 use native.Mathlib.Omega.{arith}
 use native.Mathlib.Nat.{lt_irrefl, lt_of_lt_of_le, one-mul, mul_assoc, mod-lt, div-eq_of_lt, pow-succ', mul-pos}

@@ -30,6 +30,8 @@ scaled E t = half_up (lead E t * 2 ^ (E - 1) * 2 ^ 24) (2 ^ 149)
 -- a value that is a / l in size
 quant-of : (v : Float) (s : Bool) (a l : ℕ) → 0 < l → HasValue v s a l → quantised v ≡ signed s (half_up (a * 2 ^ 24) l)
 unfolding quantised
+quant-of nan s a l L v = elim v [ ]
+quant-of (inf _) s a l L v = elim v [ ]
 quant-of (fin t m e) s a l L v =
     ap (λ (b : Bool). signed b (half_up (m * up e * 2 ^ 24) (down e))) v.0
     ∙ ap (signed s) (half-same (m * up e * 2 ^ 24) (down e) (a * 2 ^ 24) l (down_pos e) L (mul_right_comm (m * up e) (2 ^ 24) l ∙ ap (λ (x : ℕ). x * 2 ^ 24) v.1 ∙ mul_right_comm a (down e) (2 ^ 24)))

@@ -77,6 +77,8 @@ acceptable-within (inf s) h = absurd (true≢false (sym h ∙ infinity-refused s
 acceptable-within (fin s m e) h = leb-true (m * up e) (2 ^ 16 * down e) (sym (finite-taken s m e) ∙ h)
 
 pub within-acceptable : (x : Float) → Within x → acceptable x ≡ true
+within-acceptable nan h = elim h [ ]
+within-acceptable (inf _) h = elim h [ ]
 within-acceptable (fin s m e) h = finite-taken s m e ∙ le-leb (m * up e) (2 ^ 16 * down e) h
 
 -- what is acceptable is a number
@@ -117,6 +119,8 @@ half_le a d B p h = le_of_suc-le-suc ((div-lt_iff_lt-mul {k = 2 * d} {x = 2 * a 
 
 size-within : (x : Float) → Within x → nat_abs (quantised x) ≤ 2 ^ 40
 unfolding quantised
+size-within nan h = elim h [ ]
+size-within (inf _) h = elim h [ ]
 size-within (fin s m e) h =
     le_trans (le_of_eq (signed-size s (half_up (m * up e * 2 ^ 24) (down e))))
     (half_le (m * up e * 2 ^ 24) (down e) (2 ^ 40) (down_pos e) (omega (arith, mul-le-mul_right (2 ^ 24) h)))

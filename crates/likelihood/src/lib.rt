@@ -1,5 +1,7 @@
 // Log likelihoods as whole numbers, so that sums of them are exact (document 01, "Soft selection"):
 // which are taken, each as a whole number of 2^-24, and a sum of such numbers back as an f32.
+#![tactic(auto)]
+
 ghost use Rattle.std.specs.Prelude.{◌≡◌, true, ◌<◌, ◌≤◌, ◌^◌, nat_abs};
 ghost use Rattle.likelihood.specs.Likelihood.{acceptable, dequantised, Quantised};
 ghost use Rattle.likelihood.specs.Steps.{rounded, Magnitude, Pattern};

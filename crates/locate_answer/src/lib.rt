@@ -1,4 +1,6 @@
 // What the engine without tables answers: types alone, and no function.
+#![tactic(auto)]
+
 use answer::Square;
 use refusals::Refusal;
 

@@ -1,4 +1,5 @@
 // What decode_part answers (request C-20): types alone, and no function. Weights are whole numbers of units, and a unit is a confidence of 2^-24.
+#![tactic(auto)]
 
 use answer::Square;
 use refusals::Refusal;

@@ -1,6 +1,5 @@
 -- Which of two refusals comes first. Document 01, 'Refusal numbers': "1 to 9 come first, lowest number over all lists"; C-11: "16 orientation and 17 bit come between 4 and 5".
-use Rattle.std.specs.Prelude.{Bool, cond, ℕ, ◌+◌, ltb, eqb}
-use Rattle.refusals.specs.declared.Refusal.{Refusal}
+use Rattle.std.specs.Prelude.{cond, ℕ, ◌+◌, ltb, eqb}
 use Rattle.refusals.specs.declared.Admission.{Admission}
 use Rattle.refusals.specs.declared.Admission.TheVariants.{Accepted, Refused}
 use Rattle.refusals.specs.Numbers as why

@@ -1,4 +1,6 @@
 // Refusals: why a call was refused, by name, and which of two refusals comes first.
+#![tactic(auto)]
+
 ghost use Rattle.std.specs.Prelude.{◌≡◌};
 ghost use Rattle.refusals.specs.Numbers.{numbered, edge_refusal};
 ghost use Rattle.refusals.specs.Order.{ranked, earlier};

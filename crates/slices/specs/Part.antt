@@ -1,6 +1,6 @@
 -- A part of a column.
-use Rattle.std.specs.Prelude.{◌≡◌, refl, cond, List, [], ℕ, ◌+◌, ◌-◌, ◌≤◌, ◌<◌, ltb, length, take, drop}
-use Rattle.std.proofs.Common.{ap, lt-ltb, le-ltb}
+use Rattle.std.specs.Prelude.{◌≡◌, cond, List, [], ℕ, ◌+◌, ◌-◌, ◌≤◌, ◌<◌, ltb, length, take, drop}
+use Rattle.std.proofs.Common.{lt-ltb, le-ltb}
 use Rattle.std.proofs.Math.Nat.{add-sub_cancel_left}
 
 module _ {A : Type 0} where

@@ -1,4 +1,6 @@
 // What the test of one placing against the error limit answers: types alone, and no function.
+#![tactic(auto)]
+
 use refusals::Refusal;
 
 // Whether a placing of a list is within the error limit, and how many of its edges were read to know it.

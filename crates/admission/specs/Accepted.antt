@@ -1,6 +1,6 @@
 -- What an accepted call is: the named facts that the decoders may use of a call that passed all checks.
-use Rattle.std.specs.Prelude.{◌≡◌, refl, Bool, true, false, not, ◌&&◌, ◌||◌, cond, List, ℕ, suc, ◌*◌, ◌%◌, ◌≤◌, ◌<◌, T, ltb, eqb, get_or, length, ℤ, pos, negsuc, nat_abs, Float}
-use Rattle.std.proofs.Common.{sym, ap, ◌∙◌, true≢false, le_trans, le_of_eq, arith, lit≤, eqb-true, ltb-true, ltb-false}
+use Rattle.std.specs.Prelude.{◌≡◌, refl, Bool, true, false, not, ◌||◌, List, ℕ, ◌*◌, ◌%◌, ◌≤◌, ◌<◌, T, ltb, eqb, get_or, length, ℤ, pos, negsuc, nat_abs, Float}
+use Rattle.std.proofs.Common.{sym, ap, ◌∙◌, true≢false, le_trans, le_of_eq, arith, eqb-true, ltb-true, ltb-false}
 use Rattle.std.specs.Float.{nan}
 use Rattle.std.specs.Float.Ieee.{le}
 use Rattle.std.proofs.lemmas.Bool.{eqb-false, not-true, not-false}

@@ -1,20 +1,16 @@
 -- DOCUMENT 01'S NUMBERS, which C-11 refined: "coordinate, orientation code or bit outside its range" was one number, 4, and no refusal had a place. Read 16 and 17 as 4 and forget the place,
 -- and its rule comes out: "1 to 9 come first, lowest number over all lists".
-use Rattle.std.specs.Prelude.{◌≡◌, refl, Bool, true, false, not, cond, ◌||◌, List, ℕ, ltb, eqb, length}
-use Rattle.std.proofs.Common.{sym, ap, ap₂, ◌∙◌}
+use Rattle.std.specs.Prelude.{Bool, not, cond, ◌||◌, ℕ, ltb, eqb, length}
 use Rattle.laws.specs.Words.{one_f}
 use Rattle.board.specs.Hits.{EdgeList, Board, size}
 use Rattle.refusals.specs.declared.Admission.{Admission}
 use Rattle.refusals.specs.declared.Admission.TheVariants.{Accepted, Refused}
-use Rattle.refusals.specs.declared.ListName.{ListName}
-use Rattle.refusals.specs.declared.ListName.TheVariants as list
 use Rattle.refusals.specs.Numbers.{numbered, edge_refusal}
 use Rattle.refusals.specs.Numbers as why
 use Rattle.checks.specs.Checks.{lengths_differ, size_bad, likelihoods_differ, first_bad_coordinate, first_bad_likelihood, origin_bad}
-use Rattle.ranges.specs.Ranges.{in_range, margin_top, first_bad_byte, first_bad_confidence, transforms_bad}
-use Rattle.findings.specs.Findings.{refused_if, refused_at, or_else, first_of, Findings, first_found, joined, room_findings, list_findings, likelihood_findings, settings_findings}
+use Rattle.ranges.specs.Ranges.{in_range, first_bad_byte, first_bad_confidence, transforms_bad}
 use Rattle.admission.specs.Calls.{HardCall, SoftCall}
-use Rattle.admission.specs.Refusals.{tables_bad, room_short, soft_room_short, both_lists, soft_likelihoods, soft_settings_bad, hard_admission, soft_admission, stats_admission}
+use Rattle.admission.specs.Refusals.{tables_bad, room_short, soft_room_short, soft_settings_bad}
 
 -- 16 and 17 read as 4
 abbrev pub number01 : ℕ → ℕ

@@ -1,6 +1,6 @@
 -- Document 01's numbers come out of the finer ones, for each entry point.
-use Rattle.std.specs.Prelude.{◌≡◌, refl, Bool, true, false, not, cond, ◌||◌, List, ℕ, ◌≤◌, ◌<◌, ltb, eqb, length, Float}
-use Rattle.std.proofs.Common.{sym, ap, ap₂, ◌∙◌, arith, le-ltb, ltb-false, eqb-true}
+use Rattle.std.specs.Prelude.{◌≡◌, refl, Bool, true, false, not, cond, ◌||◌, List, ℕ, ltb, eqb, length, Float}
+use Rattle.std.proofs.Common.{sym, ap, ap₂, ◌∙◌, arith, le-ltb, eqb-true}
 use Rattle.std.proofs.lemmas.Bool.{not-false}
 use Rattle.laws.specs.Tests.{clash, and-true}
 use Rattle.laws.specs.Words.{one_f}
@@ -16,7 +16,7 @@ use Rattle.ranges.specs.Ranges.{in_range, first_bad_byte, first_bad_confidence, 
 use Rattle.findings.specs.Findings.{refused_if, refused_at, or_else, first_of, Findings, first_found, joined, room_findings, list_findings, likelihood_findings, settings_findings}
 use Rattle.admission.specs.Calls.{HardCall, SoftCall}
 use Rattle.admission.specs.Refusals.{tables_bad, room_short, soft_room_short, both_lists, soft_likelihoods, soft_settings_bad, hard_admission, soft_admission, stats_admission}
-use Rattle.admission.specs.Document01.{number01, admission01, fields_bad, confidences_bad, hard_numbers01, soft_numbers01, stats_numbers01}
+use Rattle.admission.specs.Document01.{number01, admission01, confidences_bad, hard_numbers01, soft_numbers01, stats_numbers01}
 
 -- ---- one kind
 else-01 : (a b : Admission) → admission01 (or_else a b) ≡ or_else (admission01 a) (admission01 b)

@@ -3,7 +3,6 @@ pub mod Conditions
 pub mod ConditionLaws
 pub mod Calls
 pub mod Domain
-pub mod DomainLaws
 pub mod RefusalLaws
 pub mod Refusals
 pub mod PlaceTheorems

@@ -2,7 +2,7 @@
 -- findings/specs/Places.antt.
 use Rattle.std.specs.Prelude.{◌≡◌, Bool, not, ℕ, ltb, length}
 use Rattle.laws.specs.Words.{one_f}
-use Rattle.board.specs.Hits.{EdgeList, Board, size}
+use Rattle.board.specs.Hits.{EdgeList, Board}
 use Rattle.refusals.specs.declared.Refusal.{Refusal}
 use Rattle.refusals.specs.declared.Admission.TheVariants.{Refused}
 use Rattle.refusals.specs.declared.ListName.{ListName}
@@ -11,7 +11,7 @@ use Rattle.checks.specs.Checks.{origin_bad}
 use Rattle.ranges.specs.Ranges.{in_range, transforms_bad}
 use Rattle.findings.specs.Findings.{joined, room_findings, list_findings, settings_findings}
 use Rattle.findings.specs.Places.{two_lists, one_list, no_likelihoods, unlikely_in, counted, bad_in, PlaceRight}
-use Rattle.findings.specs.PlacesLaws.{of-refusal, of-found, each-joined, each-room, each-settings, each-lists, each-likelihoods, each-list}
+use Rattle.findings.proofs.PlacesLaws.{of-refusal, of-found, each-joined, each-room, each-settings, each-lists, each-likelihoods, each-list}
 use Rattle.admission.specs.Calls.{HardCall, SoftCall}
 use Rattle.admission.specs.Refusals.{tables_bad, room_short, soft_room_short, both_lists, soft_likelihoods, soft_settings_bad, hard_admission, soft_admission, stats_admission}
 

@@ -1,19 +1,18 @@
 -- The first of the parts, by rank, is the earliest of all that is found.
-use Rattle.std.specs.Prelude.{◌≡◌, refl, Bool, true, false, not, cond, List, ℕ, ltb, length, Float}
+use Rattle.std.specs.Prelude.{◌≡◌, Bool, not, ℕ, ltb, length}
 use Rattle.std.proofs.Common.{ap, ap₂, ◌∙◌}
 use Rattle.laws.specs.Words.{one_f}
 use Rattle.board.specs.Hits.{EdgeList, Board, size}
 use Rattle.refusals.specs.declared.Refusal.{Refusal}
 use Rattle.refusals.specs.declared.Admission.{Admission}
-use Rattle.refusals.specs.declared.Admission.TheVariants.{Accepted, Refused}
-use Rattle.refusals.specs.declared.ListName.{ListName}
+use Rattle.refusals.specs.declared.Admission.TheVariants.{Refused}
 use Rattle.refusals.specs.declared.ListName.TheVariants as list
 use Rattle.refusals.specs.Numbers.{edge_refusal}
 use Rattle.refusals.specs.Numbers as why
 use Rattle.refusals.specs.Order.{earlier}
 use Rattle.checks.specs.Checks.{origin_bad}
 use Rattle.ranges.specs.Ranges.{in_range, transforms_bad}
-use Rattle.findings.specs.Findings.{refused_if, refused_at, Findings, first_found, joined, room_findings, list_findings, likelihood_findings, settings_findings}
+use Rattle.findings.specs.Findings.{refused_if, Findings, first_found, joined, room_findings, list_findings, settings_findings}
 use Rattle.findings.specs.FindingsLaws.{room-found}
 use Rattle.findings.specs.Joined.{Sorted, sorted-joined, first-joined, found_early, sorted-room, sorted-list, sorted-likelihoods, sorted-settings}
 use Rattle.admission.specs.Calls.{HardCall, SoftCall}

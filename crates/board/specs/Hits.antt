@@ -1,6 +1,6 @@
 -- Document 01, 'Transforms and lookup', last paragraph: what the board predicts of an edge, and the hits of a placing, counted edge by edge.
 -- The quotes are the document's, with 167 read as the table's length.
-use Rattle.std.specs.Prelude.{ℕ, ◌/◌, ◌%◌, ◌^◌, ◌≤◌, ◌<◌, List, [], Bool, not, cond, eqb, get_or, length, ℤ, pos, ◌+ℤ◌, Float}
+use Rattle.std.specs.Prelude.{ℕ, ◌/◌, ◌%◌, ◌^◌, List, [], Bool, not, cond, eqb, get_or, length, ℤ, pos, ◌+ℤ◌, Float}
 use Rattle.laws.specs.Words.{count, emod}
 use Rattle.answer.specs.declared.Square.{Square}
 use Rattle.board.specs.declared.edge.Edge.{Edge}

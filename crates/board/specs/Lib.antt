@@ -4,5 +4,4 @@ pub mod Hits
 pub mod Sides
 pub mod Domain
 pub mod DomainLaws
-pub mod HitsLaws
 pub mod Numbers

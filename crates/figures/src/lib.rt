@@ -1,4 +1,6 @@
 // The figures of one placing of a list: the share of misses, the mean of the hits, the lead over the runner-up and the gate; and a list's total confidence.
+#![tactic(auto)]
+
 ghost use Rattle.std.specs.Prelude.{◌≡◌, ◌-◌, ◌≤◌, length};
 ghost use Rattle.figures.specs.Figures.{rate_of, mean_of, confidence_to};
 ghost use Rattle.figures.specs.Gate.{passed};

@@ -1,6 +1,6 @@
 -- What is found wrong with a call, kind by kind, and the refusal that comes of it. Document 01, 'Refusal numbers': "1 to 9 come first, lowest number over all lists", and C-11: "16
 -- orientation and 17 bit come between 4 and 5 .. logical list first". So the kind goes before the list: a bad coordinate of the physical list comes before a bad orientation of the logical one.
-use Rattle.std.specs.Prelude.{Bool, cond, ◌||◌, List, [], ◌∷◌, ℕ, ltb, length, Float}
+use Rattle.std.specs.Prelude.{Bool, cond, List, [], ◌∷◌, ℕ, ltb, length, Float}
 use Rattle.board.specs.Hits.{EdgeList, size}
 use Rattle.refusals.specs.declared.Admission.{Admission}
 use Rattle.refusals.specs.declared.Admission.TheVariants.{Accepted, Refused}

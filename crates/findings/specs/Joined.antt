@@ -1,7 +1,7 @@
 -- The first of two refusals, by rank, is what is found in two parts together: so that each part may be judged by itself, and the parts put together in any depth.
-use Rattle.std.specs.Prelude.{◌≡◌, Bool, true, false, cond, ◌&&◌, ◌⊎◌, List, [], ◌∷◌, ℕ, ◌≤◌, ◌<◌, ltb, length, Float}
+use Rattle.std.specs.Prelude.{◌≡◌, Bool, true, false, cond, ◌&&◌, ◌⊎◌, List, [], ◌∷◌, ℕ, ◌<◌, ltb, length, Float}
 use Rattle.std.proofs.Math.Path.{refl}
-use Rattle.std.proofs.Common.{sym, ap, ap₂, subst, ◌∙◌, inl, inr, arith, lt-ltb, le-ltb, ltb-true}
+use Rattle.std.proofs.Common.{sym, ap, ◌∙◌, inl, inr, arith, lt-ltb, le-ltb, ltb-true}
 use Rattle.laws.specs.Tests.{and-true}
 use Rattle.board.specs.Hits.{EdgeList, size}
 use Rattle.refusals.specs.declared.Refusal.{Refusal}
@@ -74,6 +74,8 @@ paired (a ∷ xs) (b ∷ ys) = or_else a b ∷ paired xs ys
 
 later-all : (k : ℕ) (ks : List ℕ) (xs : List Admission) → before k ks ≡ true → Kinds ks xs → Later k (first_of xs)
 unfolding first_of
+later-all k [] (a ∷ xs) b p = elim p [ ]
+later-all k (j ∷ ks) [] b p = elim p [ ]
 later-all k [] [] b p = tt
 later-all k (j ∷ ks) (a ∷ xs) b p =
     let t = and-true (ltb (ranked k) (ranked j)) (before k ks) b in
@@ -81,6 +83,10 @@ later-all k (j ∷ ks) (a ∷ xs) b p =
 
 in-two-parts : (ks : List ℕ) (xs ys : List Admission) → rises ks ≡ true → Kinds ks xs → Kinds ks ys → earlier (first_of xs) (first_of ys) ≡ first_of (paired xs ys)
 unfolding first_of earlier
+in-two-parts [] [] (b ∷ ys) h p q = elim q [ ]
+in-two-parts [] (a ∷ xs) ys h p q = elim p [ ]
+in-two-parts (k ∷ ks) [] ys h p q = elim p [ ]
+in-two-parts (k ∷ ks) (a ∷ xs) [] h p q = elim q [ ]
 in-two-parts [] [] [] h p q = refl
 in-two-parts (k ∷ ks) (a ∷ xs) (b ∷ ys) h p q =
     let t = and-true (before k ks) (rises ks) h in
@@ -122,6 +128,10 @@ else-kind k Accepted b p q = q
 else-kind k (Refused r) b p q = p
 
 paired-kinds : (ks : List ℕ) (xs ys : List Admission) → Kinds ks xs → Kinds ks ys → Kinds ks (paired xs ys)
+paired-kinds [] [] (b ∷ ys) p q = elim q [ ]
+paired-kinds [] (a ∷ xs) ys p q = elim p [ ]
+paired-kinds (k ∷ ks) [] ys p q = elim p [ ]
+paired-kinds (k ∷ ks) (a ∷ xs) [] p q = elim q [ ]
 paired-kinds [] [] [] p q = tt
 paired-kinds (k ∷ ks) (a ∷ xs) (b ∷ ys) p q = (else-kind k a b p.0 q.0, paired-kinds ks xs ys p.1 q.1)
 
@@ -161,6 +171,8 @@ In n (k ∷ ks) = (n ≡ k) ⊎ In n ks
 
 of-kinds : (ks : List ℕ) (xs : List Admission) (r : Refusal) → Kinds ks xs → first_of xs ≡ Refused r → In r.number ks
 unfolding first_of or_else
+of-kinds [] (_ ∷ xs) r p e = elim p [ ]
+of-kinds (k ∷ ks) [] r p e = elim p [ ]
 of-kinds [] [] r p e = no-refusal r e
 of-kinds (k ∷ ks) (Accepted ∷ xs) r p e = inr (of-kinds ks xs r p.1 e)
 of-kinds (k ∷ ks) (Refused s ∷ xs) r p e = let z : s ≡ r = cc in inl (ap (λ (x : Refusal). x.number) (sym z) ∙ p.0)
@@ -176,6 +188,7 @@ early-in n (inr (inr (inr (inr (inr (inr (inl e))))))) = inl (omega arith, omega
 early-in n (inr (inr (inr (inr (inr (inr (inr (inl e)))))))) = inl (omega arith, omega arith)
 early-in n (inr (inr (inr (inr (inr (inr (inr (inr (inl e))))))))) = inl (omega arith, omega arith)
 early-in n (inr (inr (inr (inr (inr (inr (inr (inr (inr (inl e)))))))))) = inl (omega arith, omega arith)
+early-in n (inr (inr (inr (inr (inr (inr (inr (inr (inr (inr (inr x11))))))))))) = elim x11 [ ]
 early-in n (inr (inr (inr (inr (inr (inr (inr (inr (inr (inr (inl e))))))))))) = inl (omega arith, omega arith)
 
 pub found_early : (f : Findings) (r : Refusal) → Sorted f → first_found f ≡ Refused r → why.Early r.number

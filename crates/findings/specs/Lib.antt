@@ -2,4 +2,3 @@ pub mod Findings
 pub mod FindingsLaws
 pub mod Joined
 pub mod Places
-pub mod PlacesLaws

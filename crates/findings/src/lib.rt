@@ -1,4 +1,6 @@
 // What is found wrong with one part of a call: of its lists, of its likelihoods and of its settings, as the refusal that comes of it. A refusal about an edge says which.
+#![tactic(auto)]
+
 ghost use Rattle.std.specs.Prelude.{◌≡◌, false, ◌≤◌};
 ghost use Rattle.board.specs.Hits.{edges, size};
 ghost use Rattle.checks.specs.Checks.{lengths_differ, size_bad, likelihoods_differ};

@@ -1,4 +1,6 @@
 // The bit that the board predicts of an edge, and whether the edge is a hit.
+#![tactic(auto)]
+
 ghost use Rattle.std.specs.Prelude.{◌≡◌, [], ◌<◌, ◌≤◌, length};
 ghost use Rattle.board.specs.Transform.{matrix_of};
 ghost use Rattle.board.specs.Hits.{edges, tables, edge_at, predicted, edge_hit};

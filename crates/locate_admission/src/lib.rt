@@ -1,4 +1,6 @@
 // Whether a call with one list and no room is taken on: the early refusals 2 to 5, 7 to 9, 16 and 17, the first in their order, or accepted.
+#![tactic(auto)]
+
 ghost use Rattle.std.specs.Prelude.{◌≡◌};
 ghost use Rattle.board.specs.Hits.{edges, tables};
 ghost use Rattle.locate_admission.specs.LocateAdmission.{locate_admission};

@@ -1,4 +1,6 @@
 // The eight transforms, and the lookup of an edge under one of them.
+#![tactic(auto)]
+
 ghost use Rattle.std.specs.Prelude.{◌≡◌, ◌<◌, ◌≤◌, nat_abs};
 ghost use Rattle.board.specs.Transform.{matrix_of, mat, mapped, lookup_of_ends, lookup_of};
 

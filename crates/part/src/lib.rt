@@ -1,4 +1,6 @@
 // C-20's part of a board: a rectangle of origins that starts at a row and a column, runs for a number of each, and wraps at 501.
+#![tactic(auto)]
+
 ghost use Rattle.std.specs.Prelude.{◌≡◌};
 ghost use Rattle.part.specs.Part.{side_bad, part_bad, SideOk, runs_of};
 

@@ -1,4 +1,2 @@
 pub mod PartAdmission
-pub mod PartAdmissionLaws
 pub mod PartDomain
-pub mod PartDomainLaws

@@ -1,4 +1,6 @@
 // Whether a call over a part of a flat board is taken on (request C-20): the early refusals 1 to 5, 7 to 9, 16 and 17, the first in their order over both lists, or accepted.
+#![tactic(auto)]
+
 ghost use Rattle.std.specs.Prelude.{◌≡◌};
 ghost use Rattle.board.specs.Hits.{edges, tables};
 ghost use Rattle.admission.specs.Calls.{hard_call};

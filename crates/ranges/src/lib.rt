@@ -1,4 +1,6 @@
 // Where a byte, a confidence, the transforms, a pattern table or a setting leaves its range. Each check takes every input; one of a column answers where: the first bad index, or the length.
+#![tactic(auto)]
+
 ghost use Rattle.std.specs.Prelude.{◌≡◌};
 ghost use Rattle.ranges.specs.Ranges.{in_range, first_bad_byte, first_bad_confidence, transforms_bad, pole_length, patterns_bad, horizontal_bad, vertical_bad};
 

@@ -1,4 +1,6 @@
 // Lent room: how the two sides of the tables stand in it, and how much of it is used, over both periods.
+#![tactic(auto)]
+
 ghost use Rattle.std.specs.Prelude.{◌≡◌, true, false, ◌≤◌};
 ghost use Rattle.room.specs.Room.{by_side, row_length, used, tables_for, sums_for, side_of, PeriodsOk};
 

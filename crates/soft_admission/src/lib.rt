@@ -1,4 +1,6 @@
 // Whether a soft call is taken on: the early refusals 1 to 9, 16 and 17, the first in their order over both lists and the likelihoods, or accepted.
+#![tactic(auto)]
+
 ghost use Rattle.std.specs.Prelude.{◌≡◌, ◌||◌, not};
 ghost use Rattle.laws.specs.Words.{one_f};
 ghost use Rattle.board.specs.Hits.{edges, tables};

@@ -1,4 +1,6 @@
 // Whether match statistics are taken on: the early refusals 2 to 5, 7 to 9, 16 and 17, the first in their order, or accepted.
+#![tactic(auto)]
+
 ghost use Rattle.std.specs.Prelude.{◌≡◌};
 ghost use Rattle.board.specs.Hits.{edges, tables};
 ghost use Rattle.checks.specs.Checks.{origin_bad};

@@ -1,5 +1,5 @@
 -- What is refused when one placing is tested against the error limit. C-18: "Refusals: 2, 3 (over 8,192 only), 7, 8 and 9 first, in that order; then a bad edge field by its number when reached."
-use Rattle.std.specs.Prelude.{◌≡◌, Bool, true, not, ◌||◌, cond, ℕ, ◌*◌, ◌≤◌, ◌<◌, ltb, eqb, get_or, length, Float}
+use Rattle.std.specs.Prelude.{◌≡◌, Bool, true, not, ◌||◌, cond, ℕ, ◌*◌, ◌≤◌, ◌<◌, ltb, get_or, length, Float}
 use Rattle.std.specs.Float.{nan}
 use Rattle.laws.specs.Words.{one_f}
 use Rattle.board.specs.declared.edge.Edge.{Edge}

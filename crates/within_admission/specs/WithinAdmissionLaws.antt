@@ -1,16 +1,15 @@
 -- The ways in which a call is refused or taken on; what an accepted call is known to be; and an edge without a fault.
-use Rattle.std.specs.Prelude.{◌≡◌, refl, Bool, true, false, not, ◌||◌, ◌&&◌, cond, ℕ, zero, suc, ◌*◌, ◌≤◌, ◌<◌, ltb, eqb, get_or, ℤ, pos, negsuc, nat_abs, Float}
+use Rattle.std.specs.Prelude.{◌≡◌, refl, Bool, true, false, not, ◌||◌, cond, ℕ, ◌*◌, ◌≤◌, ◌<◌, ltb, eqb, get_or, ℤ, pos, negsuc, nat_abs, Float}
 use Rattle.std.proofs.Math.Path.{sym}
-use Rattle.std.proofs.Common.{ap, ◌∙◌, arith}
+use Rattle.std.proofs.Common.{arith}
 use Rattle.std.proofs.Math.ListN.{length}
 use Rattle.std.specs.Float.{nan}
 use borrow.Author.Tests.{eqb-true, ltb-true, ltb-false, not-false}
-use Rattle.laws.specs.Tests.{or-false, and-true, clash}
+use Rattle.laws.specs.Tests.{or-false, and-true}
 use Rattle.laws.specs.Words.{one_f}
 use Rattle.board.specs.declared.edge.Edge.{Edge}
 use Rattle.board.specs.Hits.{EdgeList, Board, size, edge_at}
 use Rattle.board.specs.Domain.{EdgeOk}
-use Rattle.refusals.specs.declared.Admission.{Admission}
 use Rattle.refusals.specs.declared.Admission.TheVariants.{Accepted, Refused}
 use Rattle.refusals.specs.Numbers.{numbered}
 use Rattle.refusals.specs.Numbers as why

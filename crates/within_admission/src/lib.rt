@@ -1,4 +1,6 @@
 // What is refused when one placing is tested against the error limit: the early refusals 2, 3, 7, 8 and 9 of the call, and the number of a bad edge when it is reached.
+#![tactic(auto)]
+
 ghost use Rattle.std.specs.Prelude.{◌≡◌};
 ghost use Rattle.board.specs.Hits.{edges, tables};
 ghost use Rattle.checks.specs.Checks.{far};

@@ -1,0 +1,14 @@
+-- The edge is looked up by value and its predicted bit compared with its own: the definition, word for word.
+use mathlib.Core.Path.{ap, ◌∙◌}
+use Prim.Native.Nat.{ℕ}
+use lib.Dec.{eqb}
+use Rattle.board.specs.declared.edge.EdgeLookup.{EdgeLookup}
+use Rattle.board.specs.Hits.{tables, predicted, edge_hit}
+use Rattle.hit.proofs.is_hit.Goals as goal
+
+pub returns : goal.returns
+unfolding edge_hit
+returns c =
+    ap (λ (x : ℕ). eqb x c.args.edge.bit)
+    (c.predicted_bit.ensures
+    ∙ ap (λ (l : EdgeLookup). predicted (tables c.args.h.now c.args.v.now) l c.args.square.row c.args.square.col) c.transform_edge_lookup-l.ensures)

@@ -1,0 +1,2 @@
+pub mod PartAdmissionLaws
+pub mod PartDomainLaws

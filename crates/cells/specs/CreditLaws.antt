@@ -1,5 +1,5 @@
 -- Laws of crediting counts and weights: a cell more of a run, and two runs that make a family.
-use Rattle.std.specs.Prelude.{◌≡◌, Bool, true, false, ◌⊎◌, List, [], ◌∷◌, length, drop, Float}
+use Rattle.std.specs.Prelude.{◌≡◌, Bool, true, false, List, [], ◌∷◌, length, drop, Float}
 use Rattle.std.proofs.Math.Path.{refl, ap}
 use Rattle.std.proofs.Common.{sym, ap₂, subst, ◌∙◌, inl, inr, ⊎_elim, add-zero, add_assoc, mod-lt, div-add-mod', arith, lit<, length-drop, get_or-drop}
 use Prim.Native.Nat.{ℕ, zero, suc, ◌+◌, ◌*◌, ◌-◌, ◌/◌, ◌%◌, ◌^◌, ◌≤◌, ◌<◌}
@@ -14,7 +14,7 @@ use Rattle.laws.specs.Tests.{split}
 use Rattle.laws.specs.Zone.{zone-none}
 use Rattle.board.specs.Hits.{Board}
 use Rattle.board.specs.Sides.{table_of, period_of}
-use Rattle.board.specs.HitsLaws.{side-some}
+use Rattle.board.proofs.HitsLaws.{side-some}
 use Rattle.terms.specs.declared.FamilyTerm.{FamilyTerm}
 use Rattle.cells.specs.Spread.{Fits, Spread, fits_next, spread-next, fits-perm, spread-perm}
 use Rattle.terms.specs.Terms.{term, Terms, no_term, places_n, places_f}

@@ -9,7 +9,7 @@ use Rattle.laws.specs.Zone.{Zone, zone-ext}
 use Rattle.board.specs.Hits.{Board}
 use Rattle.board.specs.Sides.{table_of, period_of}
 use Rattle.board.specs.Domain.{Patterns}
-use Rattle.board.specs.HitsLaws.{side-some}
+use Rattle.board.proofs.HitsLaws.{side-some}
 use Rattle.cells.specs.Spread.{Spread, spread-more, spread-ext, spread-then, spread-zone}
 use Rattle.cells.specs.Cells.{short_class, pattern_at}
 use Rattle.cells.specs.Credit.{run_place, entry, run_term, RunPlaces, cell_pattern, FamilyPlaces}

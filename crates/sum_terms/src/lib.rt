@@ -1,4 +1,6 @@
 // What a family of likelihood sums adds, by pattern and short class, as `terms` has it of counts; and whether it adds anything.
+#![tactic(auto)]
+
 ghost use Rattle.std.specs.Prelude.{◌≡◌, ◌<◌};
 ghost use Rattle.sum_terms.specs.SumTerms.{places_z, term_z, row_z, Twelve, some_sum, TermsZ};
 

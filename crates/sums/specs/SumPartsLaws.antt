@@ -8,7 +8,7 @@ use Rattle.laws.specs.Fold.{fold-zero, fold-hit, fold-miss}
 use Rattle.laws.specs.Zone.{Zone, zone-none, zone-ext, zone-set}
 use Rattle.board.specs.Hits.{EdgeList, Board, size}
 use Rattle.board.specs.Sides.{table_of, period_of}
-use Rattle.board.specs.HitsLaws.{side-some}
+use Rattle.board.proofs.HitsLaws.{side-some}
 use Rattle.likelihood.specs.SumLaws.{cell-size}
 use Rattle.room.specs.declared.Side.{Side}
 use Rattle.room.specs.Room.{row_length, is_horizontal}

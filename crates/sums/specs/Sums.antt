@@ -1,6 +1,6 @@
 -- Document 01, 'Class tables': likelihood sums. "Every cell's .. likelihood sum equals the edge-by-edge .. sum over the edges of its orientation; a hit adds the
 -- match likelihood, a miss the other." Each likelihood is taken as the whole number that `quantised` gives.
-use Rattle.std.specs.Prelude.{◌≡◌, Bool, true, cond, List, ℕ, ◌*◌, ◌/◌, ◌%◌, ◌<◌, get_or, length, ℤ, pos, ◌+ℤ◌, Float}
+use Rattle.std.specs.Prelude.{◌≡◌, Bool, true, cond, List, ℕ, ◌*◌, ◌/◌, ◌%◌, ◌<◌, get_or, length, ℤ, pos, ◌+ℤ◌}
 use Rattle.std.specs.Float.{nan}
 use Rattle.laws.specs.Words.{fold, all}
 use Rattle.board.specs.Hits.{EdgeList, Board, size, hit}

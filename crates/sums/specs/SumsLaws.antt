@@ -1,28 +1,25 @@
 -- Laws of likelihood sums: a group more in a term, a family more in a cell, and the cell's sum against the edges.
-use Rattle.std.specs.Prelude.{◌≡◌, refl, List, [], ℤ, pos, nat_abs, get_or}
-use Rattle.std.proofs.Common.{sym, ap₂, ◌∙◌, arith, eq-eqb, ne_eqb}
+use Rattle.std.specs.Prelude.{◌≡◌, refl, List, ℤ, pos, nat_abs}
+use Rattle.std.proofs.Common.{sym, ap₂, ◌∙◌, arith}
 use Rattle.std.proofs.Math.Path.{ap}
 use Rattle.std.proofs.Math.Bool.{Bool, true, false, cond}
 use Prim.Native.Nat.{ℕ, zero, suc, ◌+◌, ◌*◌, ◌/◌, ◌%◌, ◌^◌, ◌≤◌, ◌<◌}
 use Rattle.std.proofs.Math.IntN.{◌+ℤ◌, +ℤ_idr, +ℤ_assoc, +ℤ_comm}
 use Rattle.laws.specs.Tests.{and_comm}
-use Rattle.laws.specs.Words.{all, one, count}
-use Rattle.laws.specs.Fold.{fold-hit}
-use Rattle.laws.specs.Counting.{count-le}
+use Rattle.laws.specs.Words.{all, one}
 use Rattle.laws.specs.DoubleCounting.{fold-ext, fold-where, fold-split}
-use Rattle.board.specs.Hits.{EdgeList, Board, size, seen, look, horizontal, bit_at}
+use Rattle.board.specs.Hits.{EdgeList, Board, size, seen, look, horizontal}
 use Rattle.board.specs.Sides.{on_side, table_of, period_of}
-use Rattle.board.specs.HitsLaws.{hit-class}
+use Rattle.board.proofs.HitsLaws.{hit-class}
 use Rattle.likelihood.specs.LikelihoodLaws.{quantised-size}
-use Rattle.likelihood.specs.SumLaws.{sum-size, cell-size}
+use Rattle.likelihood.specs.SumLaws.{cell-size}
 use Rattle.groups.specs.Groups.{group_at, member, group_sum, group_count}
-use Rattle.terms.specs.Terms.{agrees, term_sum}
-use Rattle.terms.specs.TermsLaws.{three-at, same-term}
+use Rattle.terms.specs.Terms.{agrees}
+use Rattle.terms.specs.TermsLaws.{same-term}
 use Rattle.cells.specs.Cells.{long_class, short_class, pattern_at, cell_sum, family, family_of}
 use Rattle.tables.specs.CellsLaws.{cell_same, term-all, group-none, families-by-edges, class-by-edges}
 use Rattle.sum_terms.specs.SumTermsLaws.{same-term_z}
 use Rattle.sums.specs.Sums.{Likelihoods, match_at, mismatch_at, likelihood_at, gain, score, side_score, cell_score, LikelihoodsOk}
-use Rattle.sum_terms.specs.SumTerms.{places_z, term_z, TermsZ}
 use Rattle.sums.specs.SumParts.{value_at, family_z}
 use Rattle.sums.specs.SumsRoom.{group_score}
 

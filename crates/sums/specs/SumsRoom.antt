@@ -1,6 +1,6 @@
 -- Document 01, 'Numbers that bound the domain' (room): the i64 room once the likelihood sums of one transform are built.
 use Rattle.std.specs.Prelude.{Bool, List, ℕ, ◌≤◌, ◌<◌, length, ℤ, pos, ◌+ℤ◌}
-use Rattle.board.specs.Hits.{EdgeList, Board, size}
+use Rattle.board.specs.Hits.{EdgeList, Board}
 use Rattle.board.specs.Sides.{period_of}
 use Rattle.board.specs.Domain.{EdgesOk, BoardOk}
 use Rattle.groups.specs.Groups.{group_sum}

@@ -8,7 +8,7 @@ use Rattle.laws.specs.Written.{Written}
 use Rattle.laws.specs.Zone.{Zone, zone-ext}
 use Rattle.board.specs.Hits.{EdgeList, Board, size}
 use Rattle.board.specs.Sides.{is, table_of, period_of}
-use Rattle.board.specs.HitsLaws.{side-some}
+use Rattle.board.proofs.HitsLaws.{side-some}
 use Rattle.laws.specs.declared.Periods.{Periods}
 use Rattle.room.specs.declared.Side.{Side}
 use Rattle.room.specs.Room.{PeriodsOk, row_length, cells_at, cells_end, groups_at, used, is_horizontal, side_of, Stands, Laid}

@@ -13,7 +13,7 @@ use Rattle.laws.specs.Residues.{joint-long, joint-short}
 use Rattle.board.specs.Hits.{EdgeList, Board, size, bare, look, horizontal, hit}
 use Rattle.board.specs.Sides.{is, on_side, period_of}
 use Rattle.board.specs.Domain.{ListOk, BoardOk}
-use Rattle.board.specs.HitsLaws.{side-some}
+use Rattle.board.proofs.HitsLaws.{side-some}
 use Rattle.likelihood.specs.SumLaws.{pair_size}
 use Rattle.groups.specs.Groups.{group_at}
 use Rattle.cells.specs.Listed.{length-listed, get_d-listed, view-listed}

@@ -21,7 +21,7 @@ use Rattle.laws.specs.PlusZero.{sum_fits}
 use Rattle.laws.specs.Zone.{Zone}
 use Rattle.board.specs.Hits.{EdgeList, Board, size, seen, bit_at, pattern_bit, hit}
 use Rattle.board.specs.Sides.{on_side, table_of, period_of, long_of, short_of, side_hits}
-use Rattle.board.specs.HitsLaws.{hit-side}
+use Rattle.board.proofs.HitsLaws.{hit-side}
 use Rattle.groups.specs.Groups.{group, group_at, member, group_sum, group_count, group_weight, confidence_at}
 use Rattle.terms.specs.Terms.{agrees, adds, term_sum}
 use Rattle.terms.specs.TermsLaws.{same-term}

@@ -15,7 +15,7 @@ use Rattle.laws.specs.Written.{Written}
 use Rattle.laws.specs.Zone.{Zone, zone-ext}
 use Rattle.board.specs.Hits.{EdgeList, Board, size, seen}
 use Rattle.board.specs.Sides.{is, table_of, period_of}
-use Rattle.board.specs.HitsLaws.{side-some}
+use Rattle.board.proofs.HitsLaws.{side-some}
 use Rattle.laws.specs.declared.Periods.{Periods}
 use Rattle.room.specs.declared.Side.{Side}
 use Rattle.groups.specs.Groups.{member, group_sum, confidence_at, group_count, group_weight}

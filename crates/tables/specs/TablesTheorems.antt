@@ -5,7 +5,7 @@ use Rattle.std.proofs.Common.{◌∙◌, mod-lt, div-lt_iff_lt-mul, lit<}
 use Rattle.std.proofs.Math.Bool.{true, false}
 use Prim.Native.Nat.{ℕ, ◌+◌, ◌*◌, ◌/◌, ◌%◌, ◌≤◌, ◌<◌}
 use native.Mathlib.Omega.{arith}
-use Rattle.std.proofs.Math.Arith.{digits_div, digits_mod, digits_lt}
+use Rattle.std.proofs.Math.Arith.{digits_div, digits_mod}
 use Rattle.std.specs.Float.Ieee.{nan}
 use Rattle.laws.specs.Words.{row_of, col_of, origins, zero_f, Weight, cleared}
 use Rattle.laws.specs.GridLaws.{h-below, v_below}
@@ -15,7 +15,7 @@ use Rattle.laws.specs.WeightLaws.{Bounds, by-counts, upto-weightlike}
 use Rattle.board.specs.Hits.{EdgeList, Board, size, look, horizontal, hit, hits}
 use Rattle.board.specs.Sides.{is, table_of, period_of, side_hits}
 use Rattle.board.specs.Domain.{ListOk, BoardOk}
-use Rattle.board.specs.HitsLaws.{side-some, hits-by-class, pair-hits}
+use Rattle.board.proofs.HitsLaws.{side-some, hits-by-class, pair-hits}
 use Rattle.likelihood.specs.SumLaws.{counts-apart}
 use Rattle.cells.specs.Listed.{length-listed, get_d-listed, view-listed}
 use Rattle.groups.specs.Groups.{group_count, group_weight, confidence_at}

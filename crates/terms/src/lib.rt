@@ -1,4 +1,6 @@
 // Family terms: what the six groups of one long residue add to a class, by the pattern that the class reads and its short class.
+#![tactic(auto)]
+
 ghost use Rattle.std.specs.Prelude.{◌≡◌, ◌+◌, ◌≤◌, ◌<◌, length};
 ghost use Rattle.laws.specs.Words.{fold, all};
 ghost use Rattle.terms.specs.Terms.{places_n, places_f, term, row, Six, Terms};

@@ -1,7 +1,7 @@
 -- A confidence may be quantised, is no negative number of units, and of at most 2^24.
 use Rattle.std.specs.Prelude.{◌≡◌, refl, true, false, ℕ, zero, suc, ◌+◌, ◌*◌, ◌^◌, ◌≤◌, ℤ, pos, neg_ℤ, nat_abs, Float}
 use Rattle.std.proofs.Common.{zero-mul, arith}
-use Rattle.std.specs.Float.{fin}
+use Rattle.std.specs.Float.{fin, inf, nan}
 use Rattle.std.specs.Float.Ieee.{up, down}
 use Rattle.std.specs.Float.Ieee.Fits.{down_pos}
 use Rattle.laws.specs.Words.{Weight}
@@ -10,6 +10,8 @@ use Rattle.likelihood.specs.LikelihoodLaws.{Within, within-acceptable, half_le}
 use Rattle.unit_terms.specs.Values.{unit_of, one_hit, value_of}
 
 weight-within : (x : Float) → Weight x 1 → Within x
+weight-within nan h = elim h [ ]
+weight-within (inf _) h = elim h [ ]
 weight-within (fin true m e) h = rw h (omega (arith, zero-mul (up e)))
 weight-within (fin false m e) h = omega arith
 
@@ -22,6 +24,8 @@ part m e h = half_le (m * up e * 2 ^ 24) (down e) (2 ^ 24) (down_pos e) (omega a
 
 quantised-weight : (x : Float) → Weight x 1 → (quantised x ≡ pos (nat_abs (quantised x))) × (nat_abs (quantised x) ≤ 2 ^ 24)
 unfolding quantised
+quantised-weight nan h = elim h [ ]
+quantised-weight (inf _) h = elim h [ ]
 quantised-weight (fin false m e) h = (refl, part m e h)
 quantised-weight (fin true m e) h = no_sign (half_up (m * up e * 2 ^ 24) (down e)) (half_le (m * up e * 2 ^ 24) (down e) 0 (down_pos e) (nothing m h))
   where

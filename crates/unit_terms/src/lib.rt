@@ -1,5 +1,7 @@
 // Values: hits and weight of edges as one number, which adds up without rounding. What an edge is worth, and what a family of values adds, by pattern and
 // short class, as `terms` has it of counts.
+#![tactic(auto)]
+
 ghost use Rattle.std.specs.Prelude.{◌≡◌, ◌+◌, ◌<◌};
 ghost use Rattle.laws.specs.Words.{fold, all, Weight};
 ghost use Rattle.terms.specs.Terms.{places_n, term_c};

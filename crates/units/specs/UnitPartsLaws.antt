@@ -6,7 +6,7 @@ use Rattle.laws.specs.Fold.{fold-zero, fold-hit}
 use Rattle.laws.specs.Zone.{zone-none}
 use Rattle.board.specs.Hits.{EdgeList, Board, size}
 use Rattle.board.specs.Sides.{table_of, period_of}
-use Rattle.board.specs.HitsLaws.{side-some}
+use Rattle.board.proofs.HitsLaws.{side-some}
 use Rattle.room.specs.declared.Side.{Side}
 use Rattle.room.specs.Room.{row_length, is_horizontal}
 use Rattle.groups.specs.Fill.{place_at, row_sum}

@@ -11,7 +11,7 @@ use Rattle.laws.specs.DoubleCounting.{fold-ext, fold-split}
 use Rattle.board.specs.Hits.{EdgeList, Board, size, seen, look, horizontal, hit}
 use Rattle.board.specs.Sides.{on_side, table_of, period_of}
 use Rattle.board.specs.Domain.{ListOk}
-use Rattle.board.specs.HitsLaws.{hit-class}
+use Rattle.board.proofs.HitsLaws.{hit-class}
 use Rattle.groups.specs.Groups.{confidence_at, group_sum, group_count}
 use Rattle.unit_terms.specs.Values.{one_hit}
 use Rattle.unit_terms.specs.ValuesLaws.{unit-small, value-is}

@@ -7,7 +7,7 @@ use Rattle.laws.specs.Written.{Written}
 use Rattle.laws.specs.declared.Periods.{Periods}
 use Rattle.board.specs.Hits.{EdgeList, Board, size}
 use Rattle.board.specs.Sides.{is, period_of}
-use Rattle.board.specs.HitsLaws.{side-some}
+use Rattle.board.proofs.HitsLaws.{side-some}
 use Rattle.room.specs.declared.Side.{Side}
 use Rattle.room.specs.Room.{PeriodsOk, cells_end, used, is_horizontal, side_of, Stands, Laid}
 use Rattle.room.specs.RoomLaws.{board-periods, cells_in, side-stands, groups-in, groups-past, laid-ext}

@@ -13,7 +13,7 @@ use Rattle.laws.specs.Residues.{joint-long, joint-short}
 use Rattle.board.specs.Hits.{EdgeList, Board, size, hit, hits}
 use Rattle.board.specs.Sides.{period_of, side_hits}
 use Rattle.board.specs.Domain.{ListOk, BoardOk}
-use Rattle.board.specs.HitsLaws.{side-some}
+use Rattle.board.proofs.HitsLaws.{side-some}
 use Rattle.cells.specs.Listed.{length-listed, get_d-listed, view-listed}
 use Rattle.cells.specs.Cells.{width, cell_count}
 use Rattle.unit_terms.specs.Values.{one_hit}

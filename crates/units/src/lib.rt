@@ -1,5 +1,7 @@
 // The values of one transform, in room that the caller lends: groups, terms and cells as in `tables`, where an edge counts for its value. A cell holds hits and
 // weight of its edges as one number, hits · 2^38 + weight, and the weight is exact: whole numbers of 2^-24, added without rounding.
+#![tactic(auto)]
+
 ghost use Rattle.std.specs.Prelude.{◌≡◌, ◌+◌, ◌^◌, ◌<◌, length, get_or, set};
 ghost use Rattle.board.specs.Hits.{edges, tables};
 ghost use Rattle.units.specs.Units.{UnitsReady, UnitsBuilt};

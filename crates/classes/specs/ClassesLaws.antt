@@ -22,7 +22,7 @@ use Rattle.board.specs.TransformLaws.{next-col, next_row}
 use Rattle.board.specs.Hits.{EdgeList, Board, size, bare, edge_at, look, horizontal, pattern_bit, predicted, edge_hit, hit, hits}
 use Rattle.board.specs.Sides.{is, on_side, period_of, side_hits}
 use Rattle.board.specs.Domain.{BoardOk}
-use Rattle.board.specs.HitsLaws.{hits-by-class, pair-hits, side-some}
+use Rattle.board.proofs.HitsLaws.{hits-by-class, pair-hits, side-some}
 use Rattle.classes.specs.Classes.{residue_hits, class_hits, three_of, added_three, straight, edge_on, edge_added}
 use Rattle.classes.specs.declared.Three.{Three}
 

@@ -1,4 +1,6 @@
 // The hits of a class of origins, counted edge by edge without any table. A class is a long residue with a short one; the three of one long residue are counted together.
+#![tactic(auto)]
+
 ghost use Rattle.std.specs.Prelude.{◌≡◌, [], not, cond, ◌+◌, ◌%◌, ◌≤◌, ◌<◌, pos, nat_abs, ◌+ℤ◌, eqb, length};
 ghost use Rattle.laws.specs.Words.{put};
 ghost use Rattle.laws.specs.Modulus.{modulus_of};

@@ -1,2 +1,1 @@
 pub mod Decide
-pub mod DecideTheorems

@@ -1,4 +1,6 @@
 // One list decided: hard selection, then the gate.
+#![tactic(auto)]
+
 ghost use Rattle.std.specs.Prelude.{◌≡◌};
 ghost use Rattle.board.specs.Hits.{edges, tables};
 ghost use Rattle.hard.specs.Select.{SelectReady};

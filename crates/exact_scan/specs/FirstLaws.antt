@@ -1,6 +1,6 @@
 -- What the exact scan keeps: of all placings the one of greatest value, of those the one at the earliest list position, and there the row-major first. And its runner-up: the most hits that another
 -- placing has.
-use Rattle.std.specs.Prelude.{◌≡◌, Bool, true, List, ◌⊎◌, length, get_or, Float}
+use Rattle.std.specs.Prelude.{◌≡◌, Bool, true, List, length, get_or, Float}
 use Rattle.std.proofs.Math.Path.{refl, ap, subst}
 use Rattle.std.proofs.Common.{sym, ◌∙◌, div-lt_iff_lt-mul, arith}
 use Rattle.std.proofs.Math.Logic.{⊎_elim}

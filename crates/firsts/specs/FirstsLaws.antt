@@ -10,10 +10,10 @@ use Rattle.laws.specs.Residues.{below-3}
 use Rattle.board.specs.Hits.{EdgeList, Board, size, hits}
 use Rattle.board.specs.Sides.{period_of, side_hits}
 use Rattle.board.specs.Domain.{BoardOk}
-use Rattle.board.specs.HitsLaws.{hits-by-class, side-some}
+use Rattle.board.proofs.HitsLaws.{hits-by-class, side-some}
 use Rattle.classes.specs.declared.Three.{Three}
 use Rattle.classes.specs.Classes.{residue_hits, three_of}
-use Rattle.tops.specs.Tops.{larger, most, short_tops}
+use Rattle.tops.specs.Tops.{larger, short_tops}
 use Rattle.tops.specs.TopsLaws.{larger-left, larger-right, larger-is, most-le, most-bound}
 use Rattle.firsts.specs.Firsts.{has, first_col, pick_of, most_of}
 

@@ -1,4 +1,6 @@
 // The row-major first origin of a transform that has a given number of hits: first its row, by the most hits that a row can have, and then its column.
+#![tactic(auto)]
+
 ghost use Rattle.std.specs.Prelude.{◌≡◌, true, false, [], ◌*◌, ◌%◌, ◌≤◌, ◌<◌, length};
 ghost use Rattle.board.specs.Hits.{edges, tables};
 ghost use Rattle.classes.specs.Classes.{three_of, CountReady};

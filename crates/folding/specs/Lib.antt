@@ -1,4 +1,3 @@
 pub mod Transform
 pub mod TransformLaws
 pub mod View
-pub mod KeptLaws

@@ -3,11 +3,8 @@ pub mod OneListLaws
 pub mod Placings
 pub mod PlacingsLaws
 pub mod RateLaws
-pub mod Ready
 pub mod RunnerUpLaws
 pub mod Select
 pub mod SelectLaws
-pub mod SelectTheorems
 pub mod SummedLaws
-pub mod WeighedLaws
 pub mod WinnerLaws

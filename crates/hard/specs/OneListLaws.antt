@@ -51,7 +51,7 @@ module _ (L M edges : ℕ) (confidence limit : Float) (ts : ℕ → ℕ) (tab : 
       → Right n none edges limit hit (cond t (found c.placing.listed (key c) c.hits r.hits) not-far-ahead)
   judged c r W e true t = (ahead L M edges confidence limit ts tab n p q few ok c.placing.listed c W (rw e at t), sym W.at, rw e (runner-up-most L M edges confidence limit ts tab n p q few ok c.placing.listed c W))
   judged c r W e false t = (
-    (c.placing.listed, key c, W.in_List, W.inside, rw W.at W.allowed),
+    (c.placing.listed, key c, W.in_list, W.inside, rw W.at W.allowed),
     λ i k S. clash (passes L M edges confidence limit ts tab n p q few ok c.placing.listed c W i k S) (rw e at t),
   )
 
@@ -70,7 +70,7 @@ module _ (L M edges : ℕ) (confidence limit : Float) (ts : ℕ → ℕ) (tab : 
     where
       go : NoneWithin n none edges limit hit → (x : Choice) → Known x → x ≡ Nothing
       go h Nothing t = refl
-      go h (Chosen c r) t = let W = t.0 in clash (h c.placing.listed (key c) W.in_List W.inside) (rw W.at W.allowed)
+      go h (Chosen c r) t = let W = t.0 in clash (h c.placing.listed (key c) W.in_list W.inside) (rw W.at W.allowed)
 
   -- (b) a placing is chosen and the gate refuses it exactly when some placing is within the limit but none is ahead of every other
   pub refuses-not-ahead : (Stopped L M edges confidence limit ts tab n → Unclear L M edges confidence limit ts tab n) × (Unclear L M edges confidence limit ts tab n → Stopped L M edges confidence limit ts tab n)

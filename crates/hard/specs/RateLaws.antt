@@ -14,7 +14,7 @@ use Rattle.laws.specs.Words.{zero_f, one_f, Weight}
 use Rattle.laws.specs.Weights.{weightlike}
 use Rattle.laws.specs.WeightLaws.{confidence, lt-cross, eq-level}
 use Rattle.figures.specs.Figures.{rate_of}
-use Rattle.figures.specs.RangeLaws.{rate-is}
+use Rattle.figures.proofs.RangeLaws.{rate-is}
 use Rattle.scan.specs.Scan.{over_limit}
 
 -- ---- a rounded fraction from 0 to 1 is a weight

@@ -19,7 +19,7 @@ use Rattle.folding.specs.declared.transform.Ranked.{Ranked}
 module _ (L M n : ℕ) (ts : ℕ → ℕ) (hit : ℕ → ℕ → ℕ) (B O : ℕ → ℕ) (N : ℕ → Ranked) (tie : ℕ → Bool) (ss : List TransformSummary)
     (at_position : (i : ℕ) → i < n → get_or ss i no_summary ≡ summary_of M (record { hits = B i; key = O i }) (N i) (ts i))
     (sums : (i : ℕ) → i < n → Summed (origin_number L M) (hit i) (B i) (O i) (N i) (tie i))
-    (w key : ℕ) (in_List : w < n) (first : tie w ≡ false → key ≡ O w) where
+    (w key : ℕ) (in_list : w < n) (first : tie w ≡ false → key ≡ O w) where
   abbrev none : ℕ
   none = origin_number L M
 
@@ -31,7 +31,7 @@ module _ (L M n : ℕ) (ts : ℕ → ℕ) (hit : ℕ → ℕ → ℕ) (B O : ℕ
 
   pub runner-up-inside : (N w).hits ≤ r.hits
   unfolding summary_of competitor_of
-  runner-up-inside = rw (at_position w in_List) at (runner-up-own ss w n)
+  runner-up-inside = rw (at_position w in_list) at (runner-up-own ss w n)
 
   other : (i : ℕ) → i < n → (i ≡ w → ⊥) → B i ≤ r.hits
   unfolding summary_of competitor_of
@@ -40,7 +40,7 @@ module _ (L M n : ℕ) (ts : ℕ → ℕ) (hit : ℕ → ℕ → ℕ) (B O : ℕ
   -- what it is: the runner-up inside the winner's transform, or another position's best
   is : (r ≡ (summary w).within) ⊎ ((i : ℕ) × (i < n) × (i ≡ w → ⊥) × (r ≡ (summary i).best))
   is = ⊎_elim
-      (λ e. inl (e ∙ ap (λ (x : TransformSummary). x.within) (at_position w in_List)))
+      (λ e. inl (e ∙ ap (λ (x : TransformSummary). x.within) (at_position w in_list)))
       (λ u. inr (u.0, u.1, u.2, u.3 ∙ ap (λ (x : TransformSummary). x.best) (at_position u.0 u.1)))
       (runner-up-is ss w n)
 
@@ -49,7 +49,7 @@ module _ (L M n : ℕ) (ts : ℕ → ℕ) (hit : ℕ → ℕ → ℕ) (B O : ℕ
   others-bounded i j hi hj ne = go (decided i w) (cases (tie w))
     where
       s : Summed none (hit w) (B w) (O w) (N w) (tie w)
-      s = sums w in_List
+      s = sums w in_list
 
       go : (i ≡ w) ⊎ (i ≡ w → ⊥) → (tie w ≡ true) ⊎ (tie w ≡ false) → hit i j ≤ r.hits
       go (inl e) (inl t) = rw e (omega (arith, s.most j, s.tied t, runner-up-inside))
@@ -62,7 +62,7 @@ module _ (L M n : ℕ) (ts : ℕ → ℕ) (hit : ℕ → ℕ → ℕ) (B O : ℕ
   other-attains = ⊎_elim inside (λ u. let t = sums u.0 u.1 in (u.0, O u.0, u.1, t.inside, (λ x. u.2 x.0), t.at ∙ sym (ap (λ (x : RunnerUp). x.hits) u.3))) is
     where
       s : Summed none (hit w) (B w) (O w) (N w) (tie w)
-      s = sums w in_List
+      s = sums w in_list
 
       inside : r ≡ (summary w).within → (i : ℕ) × (j : ℕ) × (i < n) × (j < none) × ((i ≡ w) × (j ≡ key) → ⊥) × (hit i j ≡ r.hits)
       inside e = go (decided key (O w)) (cases (tie w))
@@ -71,15 +71,15 @@ module _ (L M n : ℕ) (ts : ℕ → ℕ) (hit : ℕ → ℕ → ℕ) (B O : ℕ
           hits = sym (ap (λ (x : RunnerUp). x.hits) e)
 
           go : (key ≡ O w) ⊎ (key ≡ O w → ⊥) → (tie w ≡ true) ⊎ (tie w ≡ false) → (i : ℕ) × (j : ℕ) × (i < n) × (j < none) × ((i ≡ w) × (j ≡ key) → ⊥) × (hit i j ≡ r.hits)
-          go (inl o) t = let u = s.had in (w, u.0, in_List, u.1, (λ x. u.2 (x.1 ∙ o)), u.3 ∙ hits)
-          go (inr d) (inl t) = (w, O w, in_List, s.inside, (λ x. d (sym x.1)), s.at ∙ sym (s.tied t) ∙ hits)
+          go (inl o) t = let u = s.had in (w, u.0, in_list, u.1, (λ x. u.2 (x.1 ∙ o)), u.3 ∙ hits)
+          go (inr d) (inl t) = (w, O w, in_list, s.inside, (λ x. d (sym x.1)), s.at ∙ sym (s.tied t) ∙ hits)
           go (inr d) (inr t) = absurd (d (first t))
 
   -- it stands at a list position, on the board
   pub runner-up-named : (i : ℕ) × (k : ℕ) × (i < n) × (k < none) × (ts i ≡ r.transform) × (r.row ≡ k / (3 * M)) × (r.col ≡ k % (3 * M))
   unfolding summary_of competitor_of
   runner-up-named = ⊎_elim
-      (λ e. rw e (w, (N w).key, in_List, (sums w in_List).key_in, refl, refl, refl))
+      (λ e. rw e (w, (N w).key, in_list, (sums w in_list).key_in, refl, refl, refl))
       (λ u. rw u.3 (u.0, O u.0, u.1, (sums u.0 u.1).inside, refl, refl, refl))
       is
 
@@ -96,9 +96,9 @@ module _ (L M n : ℕ) (ts : ℕ → ℕ) (hit : ℕ → ℕ → ℕ) (B O : ℕ
 
       inside : r ≡ (summary w).within → Named r
       inside d =
-          let u = (sums w in_List).named t in
+          let u = (sums w in_list).named t in
           let b = back (N w).key in
-          rw d (w, in_List, refl, rw b u.0, (λ x. u.1 (sym b ∙ x.1 ∙ first t)), rw b u.2)
+          rw d (w, in_list, refl, rw b u.0, (λ x. u.1 (sym b ∙ x.1 ∙ first t)), rw b u.2)
 
       outside : (i : ℕ) × (i < n) × (i ≡ w → ⊥) × (r ≡ (summary i).best) → Named r
       outside v =

@@ -25,7 +25,7 @@ use Rattle.folding.specs.Transform.{fold_transform, selected}
 use Rattle.folding.specs.TransformLaws.{selected-none, selected-more, selected-count}
 use Rattle.scan.specs.declared.scan.HardScan.{HardScan}
 use Rattle.scan.specs.declared.scan.Choice.{Choice}
-use Rattle.folding.specs.KeptLaws.{selected-sound}
+use Rattle.folding.proofs.KeptLaws.{selected-sound}
 use Rattle.hard.specs.declared.select.Selection.{Selection}
 use Rattle.hard.specs.declared.select.Selection.TheVariants.{Refused}
 use Rattle.refusals.specs.Numbers.{numbered}

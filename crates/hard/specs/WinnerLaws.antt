@@ -13,7 +13,7 @@ use Rattle.scan.specs.Scan.{over_limit, no_summary, runner_up_of, chosen, chosen
 use Rattle.direct.specs.Direct.{origin_candidate}
 use Rattle.folding.specs.Transform.{best_origin, best_hits, best_candidate, pairs_tied, runner_up_within, summary_of, transform_summary, selected, separation_product_cap}
 use Rattle.folding.specs.TransformLaws.{best-under, selected-count, summary-at}
-use Rattle.folding.specs.KeptLaws.{MostOf, Offers, Listed, kept-most, offers-place}
+use Rattle.folding.proofs.KeptLaws.{MostOf, Offers, Listed, kept-most, offers-place}
 use Rattle.hard.specs.RateLaws.{fewer-over, more_within}
 use Rattle.hard.specs.SummedLaws.{Summed, summed, many-tied}
 use Rattle.hard.specs.RunnerUpLaws.{runner-up-inside, others-bounded, other-attains, runner-up-named, own_origin}

@@ -1,4 +1,6 @@
 // The best placing of a list over its transforms, and the most hits of any other, from the best classes alone.
+#![tactic(auto)]
+
 ghost use Rattle.std.specs.Prelude.{◌≡◌, [], ◌-◌, length};
 ghost use Rattle.board.specs.Hits.{edges, tables};
 ghost use Rattle.classes.specs.Classes.{CountReady};

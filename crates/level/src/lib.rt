@@ -1,4 +1,6 @@
 // One table of likelihood sums, by cell.
+#![tactic(auto)]
+
 ghost use Rattle.std.specs.Prelude.{◌≡◌, ◌<◌, length};
 ghost use Rattle.laws.specs.Words.{eq_z};
 ghost use Rattle.level.specs.Level.{level_best, level_around, level_of};

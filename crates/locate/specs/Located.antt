@@ -12,7 +12,7 @@ use Rattle.refusals.specs.Numbers as why
 use Rattle.figures.specs.Figures.{no_confidence}
 use Rattle.hard.specs.Placings.{NoneWithin, SomeWithin, Sole}
 use Rattle.hard.specs.OneList.{origin_number}
-use Rattle.hard.specs.SelectTheorems.{hits_at_key}
+use Rattle.hard.proofs.SelectTheorems.{hits_at_key}
 use Rattle.locate_answer.specs.declared.Located.{Located}
 use Rattle.locate_answer.specs.declared.LocateAnswer.{LocateAnswer}
 use Rattle.locate_answer.specs.declared.LocateAnswer.TheVariants.{Found, Refused}

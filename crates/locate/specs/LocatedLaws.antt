@@ -9,7 +9,7 @@ use Rattle.laws.specs.First.{first-none, first_passes, first-before}
 use Rattle.board.specs.Hits.{EdgeList, Board, size, bare, look, hit, hits}
 use Rattle.board.specs.Sides.{period_of}
 use Rattle.board.specs.Domain.{BoardOk}
-use Rattle.board.specs.HitsLaws.{hits-le}
+use Rattle.board.proofs.HitsLaws.{hits-le}
 use Rattle.classes.specs.ClassesLaws.{hits-bare}
 use Rattle.answer.specs.declared.Square.{Square}
 use Rattle.refusals.specs.declared.Refusal.{Refusal}
@@ -26,7 +26,7 @@ use Rattle.grid.specs.BoardGrid.{period-h, period-v, none-small}
 use Rattle.scan.specs.Scan.{over_limit}
 use Rattle.hard.specs.Placings.{NoneWithin, SomeWithin, Sole}
 use Rattle.hard.specs.RateLaws.{fewer-over}
-use Rattle.hard.specs.SelectTheorems.{hits_at_key}
+use Rattle.hard.proofs.SelectTheorems.{hits_at_key}
 use Rattle.firsts.specs.Firsts.{key_has, first_key}
 use Rattle.lead.specs.declared.Lead.{Lead}
 use Rattle.lead.specs.Lead.{lead_after, peaks}
@@ -53,14 +53,14 @@ module _ (n none edges : ℕ) (limit : Float) (hit : ℕ → ℕ → ℕ) (S : L
 
   -- the best is within the limit
   pub some-within : over_limit edges limit S.best ≡ false → SomeWithin n none edges limit hit
-  some-within o = (S.listed, S.key, A.Listed-in, A.key_in, ap (over_limit edges limit) A.at ∙ o)
+  some-within o = (S.listed, S.key, A.listed_in, A.key_in, ap (over_limit edges limit) A.at ∙ o)
 
   -- the gate is not passed: none is ahead
   pub none_ahead : passed edges S.best S.next ≡ false → (p k : ℕ) → Sole n none edges limit hit p k → ⊥
   none_ahead g p k Z = go (decided p S.listed) (decided k S.key)
     where
       behind : ((S.listed ≡ p) × (S.key ≡ k) → ⊥) → ⊥
-      behind ne = omega (arith, Z.ahead S.listed S.key A.Listed-in A.key_in ne, A.at, most p k Z.listed Z.key)
+      behind ne = omega (arith, Z.ahead S.listed S.key A.listed_in A.key_in ne, A.at, most p k Z.listed Z.key)
 
       go : (p ≡ S.listed) ⊎ (p ≡ S.listed → ⊥) → (k ≡ S.key) ⊎ (k ≡ S.key → ⊥) → ⊥
       go (inl e) (inl d) =
@@ -77,7 +77,7 @@ module _ (n none edges : ℕ) (limit : Float) (hit : ℕ → ℕ → ℕ) (S : L
     -- the gate is passed: the best is ahead of every other
     pub sole : over_limit edges limit S.best ≡ false → Sole n none edges limit hit S.listed S.key
     sole o = record {
-      listed = A.Listed-in;
+      listed = A.listed_in;
       key = A.key_in;
       allowed = ap (over_limit edges limit) A.at ∙ o;
       ahead = λ q j h l ne. omega (arith, A.others q j h l ne, A.at, ahead);

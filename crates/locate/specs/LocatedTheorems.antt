@@ -8,7 +8,7 @@ use Rattle.refusals.specs.declared.Admission.{Admission}
 use Rattle.refusals.specs.declared.Admission.TheVariants as admission
 use Rattle.hard.specs.Placings.{MostOther, Sole}
 use Rattle.hard.specs.PlacingsLaws.{sole-only}
-use Rattle.hard.specs.SelectTheorems.{hits_at_key}
+use Rattle.hard.proofs.SelectTheorems.{hits_at_key}
 use Rattle.locate_answer.specs.declared.Located.{Located}
 use Rattle.locate_answer.specs.declared.LocateAnswer.{LocateAnswer}
 use Rattle.locate_answer.specs.declared.LocateAnswer.TheVariants.{Found, Refused}

@@ -1,4 +1,6 @@
 // One list located without tables and without lent room: the placing that leads, its hits, and the first of the others with most hits, or a refusal.
+#![tactic(auto)]
+
 ghost use Rattle.std.specs.Prelude.{◌≡◌, ◌*◌, ◌/◌, ◌%◌, ◌≤◌, ◌<◌, length};
 ghost use Rattle.refusals.specs.Numbers.{numbered};
 ghost use Rattle.locate_answer.specs.declared.LocateAnswer.TheVariants.{Refused};

@@ -22,13 +22,13 @@ use Rattle.hard.specs.declared.select.Selection.TheVariants as sel
 use Rattle.hard.specs.Placings.{Sole, MostOther}
 use Rattle.hard.specs.PlacingsLaws.{sole-only, most-other-one}
 use Rattle.hard.specs.OneList.{key_at}
-use Rattle.hard.specs.Ready.{ready-logical}
+use Rattle.hard.proofs.Ready.{ready-logical}
 use Rattle.hard.specs.Select.{selection}
-use Rattle.hard.specs.SelectTheorems.{hits_at_key, refuses-10, selected-in-range}
+use Rattle.hard.proofs.SelectTheorems.{hits_at_key, refuses-10, selected-in-range}
 use Rattle.decide.specs.declared.Outcome.{Outcome}
 use Rattle.decide.specs.declared.Outcome.TheVariants as tables
 use Rattle.decide.specs.Decide.{when_passed, gated}
-use Rattle.decide.specs.DecideTheorems.{RightOutcome, decided-by-hits}
+use Rattle.decide.proofs.DecideTheorems.{RightOutcome, decided-by-hits}
 use Rattle.locate_answer.specs.declared.Located.{Located}
 use Rattle.locate_answer.specs.declared.LocateAnswer.{LocateAnswer}
 use Rattle.locate_answer.specs.declared.LocateAnswer.TheVariants.{Found, Refused}

@@ -1,5 +1,5 @@
 -- The numbers of the placings of one list position: which are in a part's rows and columns, and the value of each, from two cells.
-use Rattle.std.specs.Prelude.{◌≡◌, Bool, ◌&&◌, List, ℕ, ◌+◌, ◌*◌, ◌/◌, ◌%◌, ◌≤◌, ◌<◌, length}
+use Rattle.std.specs.Prelude.{◌≡◌, Bool, ◌&&◌, List, ℕ, ◌+◌, ◌*◌, ◌/◌, ◌%◌, ◌<◌, length}
 use Rattle.laws.specs.Words.{origins}
 use Rattle.values.specs.Values.{v_at, pair_value}
 use Rattle.part.specs.declared.Runs.{Runs}

@@ -1,6 +1,6 @@
 -- Laws of the walk over one list position.
-use Rattle.std.specs.Prelude.{◌≡◌, refl, Bool, true, false, cond, ◌&&◌, ◌||◌, List, ℕ, zero, suc, ◌+◌, ◌*◌, ◌/◌, ◌-◌, ◌%◌, ◌≤◌, ◌<◌, ltb, leb}
-use Rattle.std.proofs.Common.{sym, subst, ◌∙◌}
+use Rattle.std.specs.Prelude.{◌≡◌, refl, Bool, true, false, ◌&&◌, List, ℕ, ◌+◌, ◌*◌, ◌/◌, ◌-◌, ◌%◌, ◌≤◌, ◌<◌}
+use Rattle.std.proofs.Common.{sym, ◌∙◌}
 use Rattle.std.proofs.Math.Path.{ap, ap₂}
 use native.Mathlib.Omega.{arith}
 use borrow.Author.Tests.{lt-ltb, le-ltb, lt-leb, le-leb}
@@ -11,7 +11,7 @@ use Rattle.part.specs.Part.{in_runs, RunsOk}
 use Rattle.part_scan.specs.declared.kept.PartKept.{PartKept}
 use Rattle.part_scan.specs.Kept.{offered, walked}
 use Rattle.part_scan.specs.KeptLaws.{walk_none, walk_more, walk-join, two_runs}
-use Rattle.part_scan.specs.Walk.{first_number, row_at, col_at, number_value, in_cols, in_both, TablesReady}
+use Rattle.part_scan.specs.Walk.{first_number, row_at, col_at, number_value, in_cols, in_both}
 
 -- the next class of a column, by 3 and by 167
 pub next-short : (x c : ℕ) → x ≡ c % 3 → (x + 1) % 3 ≡ (c + 1) % 3

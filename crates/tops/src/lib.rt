@@ -1,4 +1,6 @@
 // The best class of a side and the second best, and the best of each short residue: each class is counted, one long residue after the other, and only what is best so far is kept.
+#![tactic(auto)]
+
 ghost use Rattle.std.specs.Prelude.{◌≡◌, false, [], ◌*◌, ◌≤◌, ◌<◌};
 ghost use Rattle.board.specs.Hits.{edges, tables};
 ghost use Rattle.board.specs.Sides.{period_of};

@@ -1,0 +1,13 @@
+use mathlib.Core.Path.{◌≡◌}
+use Prim.Native.Nat.{◌≤◌, ◌-◌}
+use lib.ListN.{length}
+use Rattle.laws.specs.Words.{origins}
+use Rattle.grid.specs.RowMajor.{row_major}
+use Rattle.level.specs.Level.{tied_sum}
+use Rattle.pair.proofs.pair.row_major_first_tied.Given as goal
+
+abbrev pub invariant-loop-h : goal.invariant-loop-h
+invariant-loop-h l = (l.h ≤ length l.hs) × (l.best ≡ row_major (origins l.periods.h l.periods.v) (length l.vs) (tied_sum l.hs l.ht) (tied_sum l.vs l.vt) l.h)
+
+abbrev pub decreases-loop-h : goal.decreases-loop-h
+decreases-loop-h l = length l.hs - l.h

@@ -1,5 +1,5 @@
 -- Laws of exact decode: the two ways in which it ends, and that the promise determines the result.
-use Rattle.std.specs.Prelude.{◌≡◌, refl, List, ℕ, length}
+use Rattle.std.specs.Prelude.{◌≡◌, List, ℕ, length}
 use Rattle.std.proofs.Math.Path.{sym, ap}
 use Rattle.std.proofs.Common.{◌∙◌}
 use Rattle.laws.specs.Words.{cleared}

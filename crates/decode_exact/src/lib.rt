@@ -1,4 +1,6 @@
 // Exact decode (request C-15): which square the camera faces, judged by hits, with weights that add exactly, or a refusal.
+#![tactic(auto)]
+
 ghost use Rattle.std.specs.Prelude.{◌≡◌, length};
 ghost use Rattle.board.specs.Hits.{edges, tables};
 ghost use Rattle.admission.specs.Calls.{hard_call};

@@ -1,5 +1,5 @@
 -- Laws of decode over a part: the two ways in which it ends, how much room it leaves zero, and that the promise determines the result.
-use Rattle.std.specs.Prelude.{◌≡◌, refl, List, ℕ, length}
+use Rattle.std.specs.Prelude.{◌≡◌, List, ℕ, length}
 use Rattle.std.proofs.Math.Path.{sym, ap}
 use Rattle.std.proofs.Common.{◌∙◌}
 use Rattle.laws.specs.Words.{cleared}
@@ -15,7 +15,7 @@ use Rattle.part.specs.declared.Part.{Part}
 use Rattle.part_answer.specs.declared.PartAnswer.{PartAnswer}
 use Rattle.part_answer.specs.declared.PartAnswer.TheVariants.{Refused}
 use Rattle.part_admission.specs.PartAdmission.{part_admission, PartAccepted}
-use Rattle.part_admission.specs.PartAdmissionLaws.{part-accepted}
+use Rattle.part_admission.proofs.PartAdmissionLaws.{part-accepted}
 use Rattle.part_core.specs.PartCore.{part_core, PartCoreDone}
 use Rattle.decode_part.specs.PartAnswer.{part_answer, PartCallDone}
 

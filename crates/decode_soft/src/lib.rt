@@ -1,4 +1,6 @@
 // Soft decode: which square the camera faces, judged by likelihoods and then by hits, or a refusal.
+#![tactic(auto)]
+
 ghost use Rattle.std.specs.Prelude.{◌≡◌, ◌≤◌, ◌<◌, length};
 ghost use Rattle.board.specs.Hits.{edges, tables};
 ghost use Rattle.likelihood.specs.Likelihood.{likelihoods};

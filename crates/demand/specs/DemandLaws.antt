@@ -1,16 +1,16 @@
 -- A placing by row and column, and by key: a lead on one list is a sole placing of hard selection, and what is reported of one list is told by placings.
-use Rattle.std.specs.Prelude.{◌≡◌, refl, Bool, true, false, List, ◌⊎◌, ℕ, ◌+◌, ◌*◌, ◌-◌, ◌/◌, ◌%◌, ◌≤◌, ◌<◌, eqb, get_or, length, Float}
-use Rattle.std.proofs.Common.{sym, ap, ap₂, subst, ◌∙◌, inl, inr, ⊎_elim, mod-lt, div-lt_iff_lt-mul, div-add-mod', arith, eqb-true}
+use Rattle.std.specs.Prelude.{◌≡◌, refl, Bool, true, false, List, ◌⊎◌, ℕ, ◌*◌, ◌/◌, ◌%◌, ◌<◌, eqb, get_or, length, Float}
+use Rattle.std.proofs.Common.{sym, ap, ap₂, ◌∙◌, inl, inr, ⊎_elim, mod-lt, div-lt_iff_lt-mul, div-add-mod', arith, eqb-true}
 use Rattle.std.proofs.Math.Arith.{digits_div, digits_mod, digits_lt}
 use Rattle.std.proofs.lemmas.Bool.{eqb-false}
 use Rattle.board.specs.declared.edge.Placing.{Placing}
 use Rattle.board.specs.Hits.{EdgeList, Board, size, hits, hits_at}
 use Rattle.board.specs.Sides.{period_of}
-use Rattle.board.specs.Domain.{BoardOk, ListOk}
+use Rattle.board.specs.Domain.{BoardOk}
 use Rattle.scan.specs.Scan.{over_limit}
 use Rattle.hard.specs.Placings.{Sole, MostOther}
 use Rattle.hard.specs.OneList.{origin_number, key_at}
-use Rattle.hard.specs.SelectTheorems.{hits_at_key}
+use Rattle.hard.proofs.SelectTheorems.{hits_at_key}
 use Rattle.answer.specs.declared.Square.{Square}
 use Rattle.demand.specs.Demand.{OnBoard, Same, Leads, RunsUp, RunnerUpExists, Names}
 

@@ -1,8 +1,8 @@
 -- What a selection on one list comes to, in words of placings: no confidence, no placing within the limit, or a winner. Hits are board's, edge by edge.
-use Rattle.std.specs.Prelude.{◌≡◌, Bool, true, false, cond, List, ◌⊎◌, ℕ, ◌≤◌, ◌<◌, get_or, length, Float}
+use Rattle.std.specs.Prelude.{◌≡◌, Bool, true, false, cond, List, ◌⊎◌, ℕ, ◌≤◌, length, Float}
 use Rattle.std.proofs.Math.Path.{refl}
 use Rattle.std.proofs.Common.{sym, ap, subst, ◌∙◌, inl, inr, le_trans, le_of_eq, arith}
-use Rattle.laws.specs.Tests.{clash, cases}
+use Rattle.laws.specs.Tests.{clash}
 use Rattle.board.specs.declared.edge.Placing.{Placing}
 use Rattle.board.specs.Hits.{EdgeList, Board, size, hits_at}
 use Rattle.board.specs.Sides.{period_of}
@@ -22,10 +22,10 @@ use Rattle.hard.specs.declared.select.Selection.TheVariants.{Refused, Selected}
 use Rattle.hard.specs.Placings.{found, not-far-ahead, NoneWithin, SomeWithin, Right}
 use Rattle.hard.specs.OneList.{key_at, origin_number, outcome_of}
 use Rattle.hard.specs.Select.{of_choice, or_refused, scan_of, selection}
-use Rattle.hard.specs.SelectTheorems.{hits_at_key, selection-is, selected-most, one-list-by-hits}
+use Rattle.hard.proofs.SelectTheorems.{hits_at_key, selected-most, one-list-by-hits}
 use Rattle.demand.specs.Demand.{OnBoard, Leads}
 use Rattle.demand.specs.Winners.{winner-on}
-use Rattle.demand.specs.DemandLaws.{key_of, placing, placing-on, key_below, key_back, hits-key, leads-sole}
+use Rattle.demand.specs.DemandLaws.{key_of, placing, placing-on, key_below, hits-key, leads-sole}
 
 -- ---- in words of placings
 module _ (B : Board) (E : EdgeList) (ts : List ℕ) (limit : Float) where

@@ -11,7 +11,7 @@ use Rattle.hard.specs.Placings.{Sole, MostOther}
 use Rattle.hard.specs.OneList.{key_at, origin_number, InRange}
 use Rattle.figures.specs.Figures.{total_confidence}
 use Rattle.hard.specs.Select.{tables_of, selection}
-use Rattle.hard.specs.SelectTheorems.{hits_at_key, selected-in-range, selected-most-other, selected-right, selected-runner-up}
+use Rattle.hard.proofs.SelectTheorems.{hits_at_key, selected-in-range, selected-most-other, selected-right, selected-runner-up}
 use Rattle.scan.specs.declared.scan.Candidate.{Candidate}
 use Rattle.scan.specs.declared.scan.RunnerUp.{RunnerUp}
 use Rattle.hard.specs.declared.select.Selection.TheVariants.{Selected}

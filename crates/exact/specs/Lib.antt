@@ -1,4 +1,3 @@
-pub mod ExactTheorems
 pub mod Select
 pub mod SelectLaws
 pub mod Winner

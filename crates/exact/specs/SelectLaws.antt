@@ -19,7 +19,7 @@ use Rattle.refusals.specs.Numbers as why
 use Rattle.board.specs.Hits.{EdgeList, Board, size, hit, hits}
 use Rattle.board.specs.Sides.{period_of}
 use Rattle.board.specs.Domain.{ListOk, BoardOk}
-use Rattle.board.specs.HitsLaws.{hits-le}
+use Rattle.board.proofs.HitsLaws.{hits-le}
 use Rattle.room.specs.Room.{used}
 use Rattle.cells.specs.Cells.{cell_count}
 use Rattle.unit_terms.specs.Values.{unit_of, one_hit, value_of}

@@ -1,19 +1,18 @@
 -- What the selections of an accepted exact call ask, what their winners are known for, and that the surplus of the room stays.
-use Rattle.std.specs.Prelude.{◌≡◌, List, ℕ, ◌*◌, ◌≤◌, ◌<◌, get_or, length, Float}
-use Rattle.std.proofs.Common.{sym, ap, subst, ◌∙◌, arith}
+use Rattle.std.specs.Prelude.{◌≡◌, List, ℕ, ◌≤◌, ◌<◌, get_or, length}
+use Rattle.std.proofs.Common.{subst, arith}
 use Rattle.laws.specs.Words.{one_f}
 use Rattle.board.specs.Hits.{EdgeList, Board, size}
-use Rattle.board.specs.HitsLaws.{hits-le}
+use Rattle.board.proofs.HitsLaws.{hits-le}
 use Rattle.board.specs.Domain.{ListOk, BoardOk}
 use Rattle.room.specs.Room.{tables_room}
 use Rattle.admission.specs.Calls.{HardCall}
 use Rattle.admission.specs.Accepted.{TransformsOk, StatsAccepted, HardAccepted}
 use Rattle.scan.specs.declared.scan.RunnerUp.{RunnerUp}
 use Rattle.exact_scan.specs.declared.kept.ExactWinner.{ExactWinner}
-use Rattle.exact_scan.specs.declared.kept.ExactSelection.{ExactSelection}
 use Rattle.exact_scan.specs.declared.kept.ExactSelection.TheVariants as sel
 use Rattle.exact.specs.Select.{exact_selection, ExactSelectReady}
-use Rattle.exact.specs.ExactTheorems.{exact-winner, exact-runner-up-on}
+use Rattle.exact.proofs.ExactTheorems.{exact-winner, exact-runner-up-on}
 
 -- ---- what a selection asks
 exact-ready : (B : Board) (E : EdgeList) (ts u : List ℕ) → ListOk E → 0 < size E → BoardOk B → TransformsOk ts → tables_room B ≤ length u → ExactSelectReady B E ts u

@@ -12,7 +12,7 @@ use Rattle.admission.specs.Calls.{HardCall, HardRoom}
 use Rattle.admission.specs.Refusals.{hard_admission}
 use Rattle.admission.specs.Conditions.{Condition, AllMet, FirstFails}
 use Rattle.admission.specs.Domain.{Between, PoleLength, Lent, early, hard_early}
-use Rattle.admission.specs.DomainLaws.{hard-domain, hard-first}
+use Rattle.admission.proofs.DomainLaws.{hard-domain, hard-first}
 
 -- the room that an exact call is lent
 pub record ExactRoom : Type 0 where

@@ -6,7 +6,7 @@ use Rattle.scan.specs.declared.scan.RunnerUp.{RunnerUp}
 use Rattle.figures.specs.Figures.{rate_of}
 use Rattle.figures.specs.Gate.{passed}
 use Rattle.exact_scan.specs.declared.kept.ExactWinner.{ExactWinner}
-use Rattle.verdict.specs.VerdictTheorems.{test}
+use Rattle.verdict.proofs.VerdictTheorems.{test}
 use Rattle.exact_answer.specs.declared.ExactDecoded.{ExactDecoded}
 use Rattle.exact_answer.specs.declared.ExactAnswer.{ExactAnswer}
 use Rattle.exact_answer.specs.declared.ExactAnswer.TheVariants.{Found, Refused}

@@ -1,4 +1,6 @@
 // The verdict on the exact winners (request C-15), by value: whether they agree, the gate, and the found answer put together.
+#![tactic(auto)]
+
 ghost use Rattle.std.specs.Prelude.{◌≡◌, ◌≤◌};
 ghost use Rattle.exact_verdict.specs.ExactVerdict.{exact_decoded_of, exact_judged};
 

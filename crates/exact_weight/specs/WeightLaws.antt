@@ -1,7 +1,7 @@
 -- One edge more of a weight that is counted edge by edge.
 use Rattle.std.specs.Prelude.{◌≡◌, Bool}
 use Rattle.std.proofs.Math.Path.{refl, sym, ap₂}
-use Rattle.std.proofs.Common.{ap, ◌∙◌}
+use Rattle.std.proofs.Common.{◌∙◌}
 use Prim.Native.Nat.{ℕ, ◌+◌, ◌^◌, ◌≤◌}
 use Rattle.laws.specs.Words.{put, fold}
 use Rattle.laws.specs.Fold.{fold-zero, fold_more}

@@ -1,4 +1,6 @@
 // The weight of a list at one known square (request C-15), counted edge by edge, without tables.
+#![tactic(auto)]
+
 ghost use Rattle.std.specs.Prelude.{◌≡◌, ◌+◌, ◌≤◌, ◌^◌};
 ghost use Rattle.laws.specs.Words.{put, Weight};
 ghost use Rattle.board.specs.Hits.{edges, tables};

@@ -1,22 +1,18 @@
 -- Document 01, 'Hard selection', last paragraph, and 'Refusal numbers': "Hard then: 10 logical, 11, 10 physical, 12, 13."
-use Rattle.std.specs.Prelude.{◌≡◌, Bool, true, false, cond, ◌&&◌, List, ℕ, ◌-◌, get_or, length, pos, Float}
-use Rattle.std.specs.Float.{nan, binary32}
-use Rattle.std.specs.Float.Ieee.{of_int}
+use Rattle.std.specs.Prelude.{◌≡◌, List, ℕ, get_or, Float}
+use Rattle.std.specs.Float.{nan}
 use Rattle.laws.specs.Words.{one_f}
 use Rattle.laws.specs.Cleared.{SameBeyond}
-use Rattle.board.specs.Hits.{EdgeList, Board, size}
+use Rattle.board.specs.Hits.{EdgeList, size}
 use Rattle.room.specs.Room.{tables_room}
 use Rattle.admission.specs.Calls.{HardCall}
 use Rattle.scan.specs.declared.scan.Candidate.{Candidate}
 use Rattle.scan.specs.declared.scan.RunnerUp.{RunnerUp}
 use Rattle.hard.specs.declared.select.Selection.{Selection}
 use Rattle.hard.specs.declared.select.Selection.TheVariants as sel
-use Rattle.figures.specs.Figures.{rate_of, mean_of}
-use Rattle.figures.specs.Gate.{passed}
 use Rattle.hard.specs.Select.{selection, Rooms, built_to}
-use Rattle.answer.specs.declared.Decoded.{Decoded}
 use Rattle.answer.specs.declared.Answer.{Answer}
-use Rattle.answer.specs.declared.Answer.TheVariants.{Found, Refused}
+use Rattle.answer.specs.declared.Answer.TheVariants.{Refused}
 use Rattle.verdict.specs.Verdict.{judged}
 
 -- "select on the logical list with the limit, then on the physical list with limit 1; origin and matrix must agree; then the gate on the logical list"

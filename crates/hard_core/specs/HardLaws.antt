@@ -1,29 +1,25 @@
 -- Laws of an accepted hard call: the ways in which it ends, and that its promise determines the result.
-use Rattle.std.specs.Prelude.{◌≡◌, refl, Bool, true, false, not, ◌&&◌, cond, List, [], ◌∷◌, ℕ, zero, suc, ◌+◌, ◌*◌, ◌≤◌, ◌<◌, T, get_or, length, ℤ, pos, negsuc, Float}
+use Rattle.std.specs.Prelude.{◌≡◌, refl, List, ℕ, get_or, length, Float}
 use Rattle.std.proofs.Math.Path.{sym, ap, subst}
-use Rattle.std.proofs.Common.{ap₂, ◌∙◌, le_trans, le_of_eq, arith, lit<}
+use Rattle.std.proofs.Common.{◌∙◌}
 use Rattle.std.specs.Float.{nan}
 use Rattle.laws.specs.Words.{one_f}
 use Rattle.laws.specs.Cleared.{SameBeyond, beyond-trans}
-use Rattle.board.specs.Hits.{EdgeList, Board, size}
-use Rattle.board.specs.Transform.{mat}
-use Rattle.board.specs.Sides.{period_of}
-use Rattle.board.specs.Domain.{ListOk, BoardOk}
+use Rattle.board.specs.Hits.{size}
 use Rattle.room.specs.Room.{tables_room}
 use Rattle.refusals.specs.declared.Refusal.{Refusal}
 use Rattle.admission.specs.Calls.{HardCall}
-use Rattle.admission.specs.Accepted.{TransformsOk, HardAccepted}
+use Rattle.admission.specs.Accepted.{HardAccepted}
 use Rattle.scan.specs.declared.scan.Candidate.{Candidate}
 use Rattle.scan.specs.declared.scan.RunnerUp.{RunnerUp}
 use Rattle.hard.specs.declared.select.Selection.{Selection}
 use Rattle.hard.specs.declared.select.Selection.TheVariants as sel
-use Rattle.hard.specs.Select.{selection, SelectReady, SelectDone}
-use Rattle.hard.specs.SelectLaws.{select-beyond, select-unique}
-use Rattle.hard.specs.SelectTheorems.{selected-in-range}
+use Rattle.hard.specs.Select.{selection, SelectDone}
+use Rattle.hard.specs.SelectLaws.{select-unique}
 use Rattle.answer.specs.declared.Answer.{Answer}
-use Rattle.answer.specs.declared.Answer.TheVariants.{Found, Refused}
+use Rattle.answer.specs.declared.Answer.TheVariants.{Refused}
 use Rattle.verdict.specs.Verdict.{judged}
-use Rattle.hard.specs.Ready.{ready-logical, ready-physical, beyond}
+use Rattle.hard.proofs.Ready.{ready-logical, ready-physical, beyond}
 use Rattle.hard_core.specs.Hard.{after_physical, after_logical, hard_core, PhysicalRooms, CoreRooms, CoreDone}
 
 -- ---- the three ways in which the core ends

@@ -1,4 +1,6 @@
 // What an accepted hard call answers: the winners of both lists, judged by hits.
+#![tactic(auto)]
+
 ghost use Rattle.std.specs.Prelude.{◌≡◌, ◌≤◌, ◌<◌, length};
 ghost use Rattle.board.specs.Hits.{edges, tables};
 ghost use Rattle.admission.specs.Calls.{hard_call};

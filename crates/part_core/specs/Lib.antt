@@ -1,3 +1,2 @@
 pub mod PartCore
 pub mod PartReady
-pub mod PartCoreLaws

@@ -3,7 +3,7 @@ use Rattle.std.specs.Prelude.{◌≡◌, List, ℕ, ◌≤◌, ◌<◌, get_or, 
 use Rattle.std.proofs.Common.{arith}
 use Rattle.laws.specs.Words.{one_f}
 use Rattle.board.specs.Hits.{size}
-use Rattle.board.specs.HitsLaws.{hits-le}
+use Rattle.board.proofs.HitsLaws.{hits-le}
 use Rattle.room.specs.Room.{tables_room}
 use Rattle.admission.specs.Calls.{HardCall}
 use Rattle.admission.specs.Accepted.{HardAccepted}
@@ -17,7 +17,7 @@ use Rattle.part_select.specs.declared.kept.PartNext.{PartNext}
 use Rattle.part_select.specs.declared.kept.PartNext.TheVariants.{NoneShown, Shown}
 use Rattle.part_select.specs.declared.kept.PartSelection.TheVariants as sel
 use Rattle.part_select.specs.Select.{part_selection, PartSelectReady}
-use Rattle.part_select.specs.PartTheorems.{PartSelected, part-winner}
+use Rattle.part_select.proofs.PartTheorems.{PartSelected, part-winner}
 
 -- a runner-up that is shown stands in the list of transforms
 abbrev pub NextListed : List ℕ → PartNext → Type 0

@@ -1,4 +1,6 @@
 // What an accepted call over a part answers (request C-20): the winners of both lists over the part by hits and then weight, judged by hits.
+#![tactic(auto)]
+
 ghost use Rattle.std.specs.Prelude.{◌≡◌, length};
 ghost use Rattle.board.specs.Hits.{edges, tables};
 ghost use Rattle.admission.specs.Calls.{hard_call};

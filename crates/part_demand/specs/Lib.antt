@@ -1,6 +1,1 @@
 pub mod PartDemand
-pub mod PartSelections
-pub mod PartEnds
-pub mod PartTheorems
-pub mod PartRange
-pub mod FullPart

@@ -1,4 +1,2 @@
 pub mod Select
-pub mod SelectLaws
 pub mod PartWinner
-pub mod PartTheorems

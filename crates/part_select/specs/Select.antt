@@ -1,5 +1,5 @@
 -- C-20, one list: the placings of a part over the list's transforms, by number, and what the selection comes to.
-use Rattle.std.specs.Prelude.{◌≡◌, Bool, true, false, cond, List, ℕ, ◌+◌, ◌*◌, ◌/◌, ◌≤◌, ◌<◌, get_or, length, Float}
+use Rattle.std.specs.Prelude.{◌≡◌, true, false, cond, List, ℕ, ◌*◌, ◌/◌, ◌≤◌, ◌<◌, get_or, length, Float}
 use Rattle.refusals.specs.Numbers.{numbered}
 use Rattle.refusals.specs.Numbers as why
 use Rattle.board.specs.Hits.{EdgeList, Board, size}

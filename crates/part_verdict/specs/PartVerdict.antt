@@ -6,7 +6,7 @@ use Rattle.refusals.specs.Numbers as why
 use Rattle.figures.specs.Figures.{rate_of}
 use Rattle.figures.specs.Gate.{passed}
 use Rattle.exact_scan.specs.declared.kept.ExactWinner.{ExactWinner}
-use Rattle.verdict.specs.VerdictTheorems.{test}
+use Rattle.verdict.proofs.VerdictTheorems.{test}
 use Rattle.part_answer.specs.declared.PartRunnerUp.{PartRunnerUp}
 use Rattle.part_answer.specs.declared.PartRunnerUp.TheVariants.{NoneShown, Shown}
 use Rattle.part_answer.specs.declared.PartDecoded.{PartDecoded}

@@ -1,4 +1,6 @@
 // The verdict on the winners of a part (request C-20), by value: whether they agree, the gate, and the found answer put together.
+#![tactic(auto)]
+
 ghost use Rattle.std.specs.Prelude.{◌≡◌, ◌≤◌};
 ghost use Rattle.part_verdict.specs.PartVerdict.{hits_shown, part_decoded_of, part_judged};
 

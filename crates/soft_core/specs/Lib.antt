@@ -2,8 +2,4 @@ pub mod Soft
 pub mod SoftLaws
 pub mod SoftDemand
 pub mod SoftPlaces
-pub mod SoftTheorems
-pub mod SoftNumbers
 pub mod SoftLate
-pub mod SoftLateLaws
-pub mod SoftRange

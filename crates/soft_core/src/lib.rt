@@ -1,4 +1,6 @@
 // What an accepted soft call answers: the best placing by likelihoods, its margin, and then the hits of the logical list.
+#![tactic(auto)]
+
 ghost use Rattle.std.specs.Prelude.{◌≡◌, ◌≤◌, ◌<◌, length};
 ghost use Rattle.board.specs.Hits.{edges, tables};
 ghost use Rattle.likelihood.specs.Likelihood.{likelihoods};

@@ -23,7 +23,7 @@ use Rattle.scan.specs.declared.scan.Candidate.{Candidate}
 use Rattle.scan.specs.declared.scan.RunnerUp.{RunnerUp}
 use Rattle.hard.specs.declared.select.Selection.{Selection}
 use Rattle.hard.specs.declared.select.Selection.TheVariants as sel
-use Rattle.best.specs.CellTables.{Period, CellTables, cells}
+use Rattle.best.specs.CellTables.{Period, CellTables}
 use Rattle.hard.specs.Select.{selection, SelectDone}
 use Rattle.grid.specs.BoardGrid.{period-h, period-v}
 use Rattle.hard.specs.SelectLaws.{RoomReady, room_cells, built-cells, tables-ok, select-unique}
@@ -32,7 +32,7 @@ use Rattle.soft_verdict.specs.declared.SoftBest.{SoftBest}
 use Rattle.answer.specs.declared.SoftDecoded.{SoftDecoded}
 use Rattle.answer.specs.declared.SoftAnswer.{SoftAnswer}
 use Rattle.answer.specs.declared.SoftAnswer.TheVariants.{Found, Refused}
-use Rattle.hard.specs.Ready.{ready-logical, beyond}
+use Rattle.hard.proofs.Ready.{ready-logical, beyond}
 use Rattle.verdict.specs.Verdict.{when_accepted}
 use Rattle.soft_verdict.specs.SoftVerdict.{soft_verdict, soft_decoded_of}
 use Rattle.soft_logical.specs.Logical.{cell_fit, fit_of, soft_judged, after_hard, FitDone, Figured, LogicalRooms, LogicalDone}

@@ -1,4 +1,6 @@
 // The soft winner against the logical list: hard selection on it, the verdict, and the figures of the physical list where the answer is found.
+#![tactic(auto)]
+
 ghost use Rattle.std.specs.Prelude.{◌≡◌, ◌≤◌, ◌<◌, length};
 ghost use Rattle.board.specs.Hits.{edges, tables};
 ghost use Rattle.tables.specs.Built.{TablesReady};

@@ -16,7 +16,7 @@ use Rattle.figures.specs.Gate.{passed}
 use Rattle.figures.specs.declared.Fit.{Fit}
 use Rattle.margin.specs.declared.slots.SoftCandidate.{SoftCandidate}
 use Rattle.verdict.specs.Answers.{Answers}
-use Rattle.verdict.specs.VerdictTheorems.{Agree, Says, test, agree_of, of_agree, of-differ, both_hold, first_holds, none-holds}
+use Rattle.verdict.proofs.VerdictTheorems.{Agree, Says, test, agree_of, of_agree, of-differ, both_hold, first_holds, none-holds}
 use Rattle.soft_verdict.specs.declared.SoftBest.{SoftBest}
 use Rattle.answer.specs.declared.SoftDecoded.{SoftDecoded}
 use Rattle.answer.specs.declared.SoftAnswer.{SoftAnswer}

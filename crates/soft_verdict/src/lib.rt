@@ -1,4 +1,6 @@
 // The verdict on the soft winner, by value: against the hard winner and the gate, and the found answer put together.
+#![tactic(auto)]
+
 ghost use Rattle.std.specs.Prelude.{◌≡◌, ◌≤◌, ◌<◌};
 ghost use Rattle.soft_verdict.specs.SoftVerdict.{soft_refused_by, soft_verdict, soft_decoded_of};
 

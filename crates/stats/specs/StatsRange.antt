@@ -11,9 +11,9 @@ use Rattle.laws.specs.WeightLaws.{sum-upto}
 use Rattle.laws.specs.WithinLaws.{within-finite, upto-within}
 use Rattle.board.specs.Hits.{EdgeList, Board, size, hit, hits}
 use Rattle.board.specs.Domain.{ListOk}
-use Rattle.board.specs.HitsLaws.{hits-le}
+use Rattle.board.proofs.HitsLaws.{hits-le}
 use Rattle.figures.specs.Figures.{rate_of, mean_of}
-use Rattle.figures.specs.RangeLaws.{rate-within, mean-within}
+use Rattle.figures.proofs.RangeLaws.{rate-within, mean-within}
 use Rattle.answer.specs.declared.MatchStats.{MatchStats}
 use Rattle.stats.specs.Stats.{stats_rate, hit_weight, stats_of}
 

@@ -1,4 +1,6 @@
 // Document 01's answer of ten fields, derived from the answers that say by their names what they count: for comparisons with the Rust, and for those who knew the old answer.
+#![tactic(auto)]
+
 ghost use Rattle.std.specs.Prelude.{◌≡◌};
 ghost use Rattle.ten_fields.specs.TenFields.{any_of_hard, any_of_soft, as_score, ten_of_hard, ten_of_soft, ten_fields};
 

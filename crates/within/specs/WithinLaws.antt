@@ -1,12 +1,12 @@
 -- The steps of the walk, and the ways in which it ends.
-use Rattle.std.specs.Prelude.{◌≡◌, refl, Bool, true, false, ◌||◌, cond, eqb, Float}
+use Rattle.std.specs.Prelude.{◌≡◌, refl, Bool, true, false, ◌||◌, eqb, Float}
 use Rattle.std.proofs.Math.Path.{sym, ap, ap₂}
 use Rattle.std.proofs.Common.{◌∙◌, ⊎_elim, arith}
 use Rattle.std.proofs.Math.Bool.{not}
 use Prim.Native.Nat.{ℕ, ◌+◌, ◌-◌, ◌≤◌, ◌<◌}
 use borrow.Author.Tests.{eqb-true, not-false}
 use Rattle.laws.specs.Tests.{clash, or-false, compared}
-use Rattle.laws.specs.Words.{put, one, first, count}
+use Rattle.laws.specs.Words.{put, one}
 use Rattle.laws.specs.First.{Searching, search-starts, search-goes-on, search-finds, search-ends, first-le}
 use Rattle.laws.specs.Fold.{fold-zero, fold_more}
 use Rattle.laws.specs.Counting.{count-le}

@@ -1,4 +1,6 @@
 // Whether one known placing of a list is within the error limit, read edge by edge only until that is certain.
+#![tactic(auto)]
+
 ghost use Rattle.std.specs.Prelude.{◌≡◌, not, ◌||◌, ◌≤◌, ◌<◌, ◌+◌, eqb, length};
 ghost use Rattle.laws.specs.Words.{put};
 ghost use Rattle.board.specs.Transform.{matrix_of};

@@ -1,22 +1,21 @@
 -- That certain means certain: as long as the answer is not certain by the edges read, the others can still make it yes and can still make it no. So no reader of a list could stop earlier.
-use Rattle.std.specs.Prelude.{◌≡◌, refl, Bool, not, ◌||◌, cond, List, [], ◌∷◌, ltb, eqb, get_or, length, ℤ, pos, ◌+ℤ◌, Float}
+use Rattle.std.specs.Prelude.{◌≡◌, refl, Bool, cond, List, [], ◌∷◌, ltb, eqb, get_or, length, ℤ, pos, ◌+ℤ◌, Float}
 use Rattle.std.proofs.Math.Path.{sym, ap, ap₂}
 use Rattle.std.proofs.Common.{◌∙◌, le_refl, arith}
 use Rattle.std.proofs.Math.Bool.{true, false}
 use Rattle.std.proofs.Math.Logic.{⊎_elim}
-use Prim.Native.Nat.{ℕ, zero, suc, ◌+◌, ◌-◌, ◌*◌, ◌/◌, ◌%◌, ◌^◌, ◌≤◌, ◌<◌}
+use Prim.Native.Nat.{ℕ, zero, suc, ◌+◌, ◌-◌, ◌%◌, ◌≤◌, ◌<◌}
 use Rattle.std.proofs.Math.Decide.{le_ind}
-use Rattle.std.specs.Int.Signed.{lt_z}
 use Rattle.std.specs.Float.Ieee.{nan, le, lt, eq}
 use borrow.Author.Tests.{lt-ltb, le-ltb, eq-eqb, ne_eqb, not-false}
-use Rattle.laws.specs.Tests.{clash, or-false, compared}
-use Rattle.laws.specs.Words.{put, fold, one, count, zero_f, one_f}
+use Rattle.laws.specs.Tests.{or-false, compared}
+use Rattle.laws.specs.Words.{put, fold, one, count, zero_f}
 use Rattle.laws.specs.DoubleCounting.{fold-ext}
 use Rattle.answer.specs.declared.Square.{Square}
 use Rattle.board.specs.declared.edge.Edge.{Edge}
 use Rattle.board.specs.Transform.{lookup_of}
 use Rattle.board.specs.Hits.{EdgeList, Board, size, edge_at, pattern_bit, predicted, edge_hit, horizontal, hit, hits}
-use Rattle.board.specs.HitsLaws.{hit-edge}
+use Rattle.board.proofs.HitsLaws.{hit-edge}
 use Rattle.checks.specs.Checks.{far}
 use Rattle.ranges.specs.Ranges.{in_range}
 use Rattle.within_admission.specs.WithinAdmission.{fault_of, fault_at, Columns}

@@ -1,5 +1,5 @@
 -- What is promised of the test of one placing, by its answer: what was read, and which lists it cannot tell apart.
-use Rattle.std.specs.Prelude.{◌≡◌, Bool, true, false, ℕ, suc, ◌≤◌, ◌<◌, get_or, Float}
+use Rattle.std.specs.Prelude.{◌≡◌, Bool, true, false, ℕ, ◌≤◌, ◌<◌, get_or, Float}
 use Rattle.std.specs.Float.{nan}
 use Rattle.board.specs.Hits.{EdgeList, Board, size, edge_at}
 use Rattle.within_answer.specs.declared.LimitTest.{LimitTest}

@@ -1,5 +1,2 @@
 pub mod Equal
-pub mod RateLaws
-pub mod EqualTheorems
 pub mod Completions
-pub mod Promise

@@ -1,0 +1,4 @@
+pub mod HardTheorems
+pub mod HardNumbers
+pub mod HardLateLaws
+pub mod HardRange

@@ -1,0 +1,5 @@
+pub mod PartSelections
+pub mod PartEnds
+pub mod PartTheorems
+pub mod PartRange
+pub mod FullPart

@@ -1,0 +1,4 @@
+pub mod SoftTheorems
+pub mod SoftNumbers
+pub mod SoftLateLaws
+pub mod SoftRange

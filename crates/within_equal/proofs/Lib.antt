@@ -1,0 +1,4 @@
+pub mod RateLaws
+pub mod EqualTheorems
+pub mod Unread
+pub mod Promise

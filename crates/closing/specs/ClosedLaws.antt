@@ -1,11 +1,11 @@
 -- A column that closed up, by index; and a loop that closes it up, one place a turn.
-use Rattle.std.specs.Prelude.{◌≡◌, refl, Bool, true, false, cond, ◌⊎◌, List, ◌∷◌, ◌++◌, ℕ, zero, suc, ◌+◌, ◌-◌, ◌≤◌, ◌<◌, ltb, length, get_or, set, take, drop}
+use Rattle.std.specs.Prelude.{◌≡◌, refl, cond, List, ◌∷◌, ◌++◌, ℕ, suc, ◌+◌, ◌-◌, ◌≤◌, ◌<◌, ltb, length, get_or, set, take, drop}
 use Rattle.std.proofs.Math.Path.{sym}
-use Rattle.std.proofs.Common.{ap, ◌∙◌, inl, inr, arith, lt-ltb, le-ltb, length-append, length-drop, get_or-append-add, get_or-take, get_or-drop, length-take-le}
+use Rattle.std.proofs.Common.{ap, ◌∙◌, arith, lt-ltb, le-ltb, length-append, length-drop, get_or-append-add, get_or-take, get_or-drop, length-take-le}
 use Rattle.std.proofs.Math.Logic.{⊎_elim}
 use Rattle.std.proofs.Math.ListN.{length-take, get_or-append}
 use Rattle.laws.specs.Tests.{compared}
-use Rattle.laws.specs.Written.{Written, written_none, written-more, written-unique}
+use Rattle.laws.specs.Written.{Written, written-more, written-unique}
 use Rattle.closing.specs.Closed.{closed}
 
 module _ {A : Type 0} (d z : A) (p n : ℕ) (l : List A) where

@@ -1,4 +1,6 @@
 // One element taken out of the front of a column: the rest closes up, the freed place is zero, and what stands behind the front stays. One function for each type.
+#![tactic(auto)]
+
 ghost use Rattle.std.specs.Prelude.{◌≡◌, ◌<◌, ◌≤◌, length, pos};
 ghost use Rattle.laws.specs.Words.{zero_f};
 ghost use Rattle.closing.specs.Closed.{closed};

@@ -1,5 +1,5 @@
 -- Each way in which two found answers end, by the tests that were made before it.
-use Rattle.std.specs.Prelude.{◌≡◌, refl, Bool, true, false, cond, ◌||◌, ℕ, ◌+◌, ◌-◌, ◌^◌, ◌≤◌, ◌<◌, eqb, ltb, leb, ℤ, pos, nat_abs, ◌-ℤ◌}
+use Rattle.std.specs.Prelude.{◌≡◌, Bool, true, false, cond, ℕ, ◌+◌, ◌-◌, ◌^◌, ◌≤◌, ◌<◌, ltb, leb, ℤ, pos, nat_abs, ◌-ℤ◌}
 use Rattle.std.proofs.Math.Path.{sym, ap}
 use Rattle.std.proofs.Common.{ap₂, ◌∙◌, mod-lt, arith, lit<, eq-eqb, ne_eqb, lt-ltb, le-ltb, ltb-false}
 use Rattle.std.specs.Int.{w32}

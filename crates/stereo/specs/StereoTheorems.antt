@@ -1,8 +1,8 @@
 -- THE SHIFT IS RIGHT, and no other number is (`shift-right`, `shift-only`); swapping the cameras negates it (`shift-swapped`); along a chain of three shifts add up (`shift-chain`); hits and misses
 -- are the sums of both, and together both lists' edges (`totals`). Of two answers: `given`, `given-only`, `swapped`, `chain`.
-use Rattle.std.specs.Prelude.{◌≡◌, refl, Bool, true, false, cond, ℕ, zero, suc, ◌+◌, ◌-◌, ◌*◌, ◌%◌, ◌≤◌, ◌<◌, eqb, leb, ltb, ℤ, pos, negsuc, neg_ℤ, nat_abs, ◌+ℤ◌, ◌-ℤ◌}
+use Rattle.std.specs.Prelude.{◌≡◌, refl, Bool, true, false, ℕ, zero, suc, ◌+◌, ◌-◌, ◌*◌, ◌%◌, ◌≤◌, ◌<◌, eqb, ltb, ℤ, pos, negsuc, neg_ℤ, ◌+ℤ◌, ◌-ℤ◌}
 use Rattle.std.proofs.Common.{sym, ap, ap₂, subst, ◌∙◌, ⊎_elim, mod-lt, arith, nltb→le, lit<, le-leb, le-ltb, eqb-true}
-use Rattle.std.proofs.Math.IntN.{sub_ℕ, +ℤ_assoc, +ℤ_comm, -ℤ-+ℤ_cancel, pos-+ℤ-pos}
+use Rattle.std.proofs.Math.IntN.{+ℤ_assoc, +ℤ_comm, pos-+ℤ-pos}
 use Rattle.std.proofs.lemmas.Bool.{lt-leb, eqb-false}
 use Rattle.laws.specs.Tests.{by-test, compared}
 use Rattle.laws.specs.Words.{emod}
@@ -263,3 +263,5 @@ chain a b c s t p q = go a b c (given-only a b s p) (given-only b c t q)
             cols = sums d.square.col e.square.col g.square.col r.cols v.cols w.0.cols f.first_on.col f.second_on.col h.second_on.col l.cols m.cols n.cols;
           },
         )
+
+-- ---- so far the theorems of two cameras, and of three

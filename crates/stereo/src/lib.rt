@@ -1,4 +1,6 @@
 // Two cameras, one board (request C-23): how far the second camera's square lies from the first one's. It knows what hard decode answers, and nothing of how.
+#![tactic(auto)]
+
 ghost use Rattle.std.specs.Prelude.{◌≡◌, ◌≤◌};
 ghost use Rattle.answer_checks.specs.FoundBad.{FoundFits};
 ghost use Rattle.stereo.specs.Stereo.{ahead, shift_of, off_board, refused_by, shift_found, both_found, shift_between, OnBoard};

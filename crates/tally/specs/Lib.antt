@@ -1,4 +1,3 @@
 pub mod Tally
 pub mod TallyLaws
 pub mod Counted
-pub mod CountedLaws

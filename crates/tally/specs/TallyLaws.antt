@@ -1,6 +1,6 @@
 -- Records that add up still do with one edge more, and with one less where they have it to give up.
-use Rattle.std.specs.Prelude.{◌≡◌, refl, Bool, true, false, ◌⊎◌, ℕ, zero, suc, ◌+◌, ◌-◌, ◌≤◌, ◌<◌}
-use Rattle.std.proofs.Common.{sym, ap, ◌∙◌, inl, inr, arith}
+use Rattle.std.specs.Prelude.{◌≡◌, Bool, true, false, ℕ, zero, suc, ◌<◌}
+use Rattle.std.proofs.Common.{arith}
 use Rattle.tally.specs.declared.Tally.{Tally}
 use Rattle.answer.specs.declared.Square.{Square}
 use Rattle.tally.specs.Tally.{Adds, tally, with_edge, without_edge, count_of}

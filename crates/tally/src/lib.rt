@@ -1,4 +1,6 @@
 // The record that is kept of a list while it is edited: what it holds, and one edge more or less of it.
+#![tactic(auto)]
+
 ghost use Rattle.std.specs.Prelude.{◌≡◌, ◌<◌, ◌+◌, ◌-◌};
 ghost use Rattle.laws.specs.Words.{put};
 ghost use Rattle.tally.specs.Tally.{belongs, Adds, with_edge, without_edge, count_of};

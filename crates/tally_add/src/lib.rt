@@ -1,4 +1,6 @@
 // An edge added at the end of a list, and the list's record kept with it.
+#![tactic(auto)]
+
 ghost use Rattle.std.specs.Prelude.{◌≡◌};
 ghost use Rattle.board.specs.Hits.{edges, tables};
 ghost use Rattle.tally_add.specs.Added.{AddDone};

@@ -1,7 +1,7 @@
 -- Request C-17: "Refusals, in this order: 2; 24 when the record's length is above the slices' or its hits and misses don't add up to it; 3 when adding to full slices or to 8,192 edges or
 -- more; the field numbers of the edge added (its position: the length), or of the one named if it exists; 7 to 9; 18 when the position to remove or flip doesn't exist; 24 also when the
 -- record has no such hit or miss to give up."
-use Rattle.std.specs.Prelude.{◌≡◌, Bool, false, not, ◌||◌, cond, List, [], ◌∷◌, ℕ, ◌+◌, ltb, leb, eqb, get_or, length, Float}
+use Rattle.std.specs.Prelude.{Bool, false, not, ◌||◌, cond, [], ◌∷◌, ℕ, ◌+◌, ltb, leb, eqb, get_or, length, Float}
 use Rattle.std.specs.Float.{nan}
 use Rattle.laws.specs.Words.{one_f}
 use Rattle.answer.specs.declared.Square.{Square}
@@ -24,7 +24,7 @@ use Rattle.tally.specs.declared.Judged.{Judged}
 use Rattle.tally.specs.declared.Judged.TheVariants as judged
 use Rattle.tally.specs.Tally.{count_of}
 use Rattle.tally.specs.Tally as tally
-use Rattle.tally.specs.Counted.{listed_as, hit_at}
+use Rattle.tally.specs.Counted.{hit_at}
 
 -- ---- what is found, of each kind
 -- "24 when the record's length is above the slices' or its hits and misses don't add up to it"

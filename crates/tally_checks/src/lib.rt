@@ -1,4 +1,6 @@
 // How an edit of a list is judged, before anything is written: refused by the first number of the request's order, or taken, with whether its edge is a hit.
+#![tactic(auto)]
+
 ghost use Rattle.std.specs.Prelude.{◌≡◌, false, length};
 ghost use Rattle.board.specs.Hits.{edges, tables, edge_hit};
 ghost use Rattle.tally_checks.specs.Judged.{record_bad, record_found, full, moved_to, judged_edge, judged_missing, judged_there, judged_add, judged_named};

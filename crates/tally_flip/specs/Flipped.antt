@@ -8,7 +8,7 @@ use Rattle.tally.specs.Tally.{Adds, with_edge, without_edge}
 use Rattle.tally.specs.TallyLaws.{without-adds}
 use Rattle.tally.specs.Counted.{listed_as, hit_at}
 use Rattle.tally_checks.specs.Judged.{judged_named}
-use Rattle.tally_checks.specs.JudgedLaws.{NamedOk}
+use Rattle.tally_checks.proofs.JudgedLaws.{NamedOk}
 use Rattle.tally_checks.specs.Edited.{Done}
 
 -- bit p is the other one

@@ -1,4 +1,6 @@
 // An edge's bit flipped, and the list's record kept with it.
+#![tactic(auto)]
+
 ghost use Rattle.std.specs.Prelude.{◌≡◌};
 ghost use Rattle.board.specs.Hits.{edges, tables};
 ghost use Rattle.tally_flip.specs.Flipped.{FlipDone};

@@ -1,4 +1,2 @@
 pub mod Listed
-pub mod ListedLaws
 pub mod Edits
-pub mod Promise

@@ -1,9 +1,8 @@
 -- The ways in which counting a record ends, and the turns of its loop.
-use Rattle.std.specs.Prelude.{◌≡◌, refl, Bool, true, false, cond, List, ℕ, ◌+◌, ◌≤◌, ◌<◌, ltb, get_or, length, take, ℤ, pos, Float}
+use Rattle.std.specs.Prelude.{◌≡◌, refl, Bool, true, false, List, ℕ, ◌+◌, ◌≤◌, ◌<◌, take, ℤ, pos, Float}
 use Rattle.std.proofs.Math.Path.{sym, ap}
 use Rattle.std.proofs.Common.{ap₂, ◌∙◌, arith, get_or-take, length-take-le}
 use borrow.Author.Tests.{lt-ltb, le-ltb}
-use Rattle.laws.specs.Words.{count}
 use Rattle.answer.specs.declared.Square.{Square}
 use Rattle.board.specs.declared.edge.Edge.{Edge}
 use Rattle.board.specs.Hits.{EdgeList, Board, edges, size, edge_at}
@@ -13,16 +12,15 @@ use Rattle.refusals.specs.declared.Admission.TheVariants as admission
 use Rattle.refusals.specs.Numbers.{numbered}
 use Rattle.refusals.specs.Numbers as why
 use Rattle.checks.specs.Checks.{lengths_differ}
-use Rattle.findings.specs.Findings.{refused_if, or_else}
+use Rattle.findings.specs.Findings.{or_else}
 use Rattle.admission.specs.Refusals.{stats_admission}
 use Rattle.tally.specs.declared.Tally.{Tally}
-use Rattle.tally.specs.declared.TallyAnswer.{TallyAnswer}
 use Rattle.tally.specs.declared.TallyAnswer.TheVariants.{Kept, Refused}
 use Rattle.tally.specs.Tally as tally
 use Rattle.tally.specs.Tally.{Adds, with_edge}
 use Rattle.tally.specs.TallyLaws.{with-adds}
 use Rattle.tally.specs.Counted.{listed_as, hit_at, tally_of}
-use Rattle.tally.specs.CountedLaws.{tally-none, tally-more, tally-same}
+use Rattle.tally.proofs.CountedLaws.{tally-none, tally-more, tally-same}
 use Rattle.admission.specs.Accepted.{bytes_ok, stats-tests-of}
 use Rattle.tally_of.specs.Begun.{Sides, front, begin_found, or_kept, counted_all, tally_answer}
 

@@ -1,4 +1,6 @@
 // The record of a list counted from nothing, so that edits can begin.
+#![tactic(auto)]
+
 ghost use Rattle.std.specs.Prelude.{◌≡◌};
 ghost use Rattle.board.specs.Hits.{edges, tables, size};
 ghost use Rattle.admission.specs.Accepted.{StatsAccepted};

@@ -1,0 +1,43 @@
+use mathlib.Core.Path.{◌∙◌}
+use native.Mathlib.Omega.{arith}
+use Rattle.board.specs.Hits.{edges, tables}
+use Rattle.board.proofs.HitsLaws.{hit-edge}
+use Rattle.board.specs.DomainLaws.{edges-ok}
+use Rattle.tally_of.specs.BegunLaws.{counting-none, counting-edges, counting_more, counting-done}
+use Rattle.tally_of.proofs.count_edges.Goals as goal
+
+pub matrix_of-matrix-requires : goal.matrix_of-matrix-requires
+matrix_of-matrix-requires c = c.requires.stats_accepted.transform
+
+pub loop-i-init : goal.loop-i-init
+loop-i-init c = counting-none _ _ _
+
+pub hit_at-hit-requires : goal.hit_at-hit-requires
+hit_at-hit-requires c =
+    let p = c.requires.stats_accepted in
+    record {
+      columns_ok = (edges-ok (edges c.args.rows.now c.args.cols.now c.args.orientations.now c.args.bits.now c.args.confidences.now) p.list, c.loop-i-test.true);
+      board_ok = p.board;
+      transform_bound = (p.transform, c.matrix_of-matrix.ensures);
+      row_bound = (omega (arith, p.origin.0, p.board.h.few), omega (arith, p.origin.1));
+    }
+
+pub bounds-orientations-i : goal.bounds-orientations-i
+bounds-orientations-i c = omega (arith, c.loop-i-test.true, c.requires.stats_accepted.list.orientations)
+
+pub with_edge-tally-requires : goal.with_edge-tally-requires
+with_edge-tally-requires c =
+    let v = c.loop-i.invariant in
+    (v.adds, omega (arith, counting-edges (edges c.args.rows.now c.args.cols.now c.args.orientations.now c.args.bits.now c.args.confidences.now) c.args.square (tables c.args.h.now c.args.v.now) c.loop-i.tally c.loop-i.i v, c.loop-i-test.true, c.requires.stats_accepted.list.few))
+
+pub loop-i-preserved : goal.loop-i-preserved
+loop-i-preserved c =
+    let i = c.loop-i.i in
+    let q = c.args.square in
+    let hit = c.hit_at-hit.ensures ∙ hit-edge (tables c.args.h.now c.args.v.now) (edges c.args.rows.now c.args.cols.now c.args.orientations.now c.args.bits.now c.args.confidences.now) q.transform q.row q.col i in
+    let t = c.loop-i-test.true in
+    counting_more (edges c.args.rows.now c.args.cols.now c.args.orientations.now c.args.bits.now c.args.confidences.now) q (tables c.args.h.now c.args.v.now) c.loop-i.tally _ i c.hit_at-hit.result c.loop-i.invariant t
+    (c.requires.sides i (omega (arith, t, c.requires.stats_accepted.list.orientations))) hit c.with_edge-tally.ensures
+
+pub returns : goal.returns
+returns c = counting-done _ _ _ _ _ c.loop-i.invariant c.loop-i-test.false

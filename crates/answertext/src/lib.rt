@@ -1,4 +1,6 @@
 // The answer in words and as a picture. It needs the answer's types, and no decoder.
+#![tactic(auto)]
+
 mod words; // numbers in words
 pub mod shown; // what all found answers have in common
 pub mod told; // an answer of any decoder, as it is told

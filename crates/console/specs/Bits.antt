@@ -1,5 +1,5 @@
 -- The bits of a float, where every NaN counts as one.
-use Rattle.std.specs.Prelude.{◌≡◌, ℕ, Bool, true, false, cond, not, T, to_bits, refl, Float}
+use Rattle.std.specs.Prelude.{◌≡◌, ℕ, true, false, cond, not, T, to_bits, refl, Float}
 use Rattle.std.proofs.Common.{sym, subst, ◌∙◌}
 use Rattle.std.specs.Float.{binary32, nan, inf, fin}
 use Rattle.std.specs.Float.Ieee.{ne, is_nan}

@@ -2,8 +2,9 @@
 ghost use Rattle.std.specs.Prelude.{◌≡◌};
 ghost use Rattle.console.specs.Numeral.{PutNumber};
 
-use libc::STDOUT_FILENO;
 use slices::page::{front, put, put_byte};
+use std::env::Env;
+use std::io::Write;
 
 // A whole number.
 pub fn put_number(page: &mut [u8; 32768], at: usize, n: u64) -> usize
@@ -87,20 +88,20 @@ pub(crate) fn put_float(page: &mut [u8; 32768], at: usize, x: f32) -> usize {
 }
 
 // The text of argument i.
-pub fn put_argument(page: &mut [u8; 32768], at: usize, i: usize) -> usize {
-    let mut word = io::buffer();
-    let n = os::arg(i, &mut word);
-    put(page, at, &word[..n])
-}
-
-// The page written to a descriptor; whether all of it went.
-pub fn write(fd: i32, page: &[u8; 32768], n: usize) -> bool {
-    io::write_all(fd, front(page, n))
-}
-
-// The page written as what the program says; a message where that fails.
-pub fn say(page: &[u8; 32768], n: usize) {
-    if !write(STDOUT_FILENO, page, n) {
-        os::fail(b"standard output");
+pub fn put_argument(rt: &impl Env, page: &mut [u8; 32768], at: usize, i: usize) -> usize {
+    let mut word = [0u8; 4096];
+    match rt.arg(i, &mut word) {
+        Ok(n) => put(page, at, &word[..n]),
+        Err(_) => at,
     }
+}
+
+// The page written to a writer: all of it, or an error.
+pub fn write<W: Write>(to: &mut W, page: &[u8; 32768], n: usize) -> std::io::Result<()> {
+    to.write_all(front(page, n))
+}
+
+// The page written as what the program says.
+pub fn say(rt: &impl Print, page: &[u8; 32768], n: usize) -> std::io::Result<()> {
+    rt.write_all(front(page, n))
 }

@@ -3,30 +3,36 @@ ghost use Rattle.std.specs.Prelude.{◌≡◌};
 ghost use Rattle.console.specs.Bits.{bits_of};
 
 use crate::form::put_form;
-use crate::page::{put_word, write};
-use libc::STDOUT_FILENO;
+use crate::page::{put_word, say};
 use slices::page::{blank, put};
 
 // Text as it is.
-pub fn print(text: &[u8]) {
-    io::write_all(STDOUT_FILENO, text);
+pub fn print(rt: &impl Print, text: &[u8]) -> std::io::Result<()> {
+    rt.write_all(text)
 }
 
 // n in decimal digits.
-pub fn print_long(n: u64) {
-    io::print_decimal(STDOUT_FILENO, n);
+pub fn print_long(rt: &impl Print, n: u64) -> std::io::Result<()> {
+    let mut digits = [0u8; 20];
+    let k = io::decimal(n, &mut digits);
+    rt.write_all(&digits[..k])
 }
 
 // n in decimal digits, for the width that most numbers have.
-pub fn print_number(n: u32) {
-    print_long(n as u64);
+pub fn print_number(rt: &impl Print, n: u32) -> std::io::Result<()> {
+    print_long(rt, n as u64)
 }
 
 // A form with its numbers.
-pub fn print_form(form: &[u8], wholes: &[u32], floats: &[f32]) {
+pub fn print_form(
+    rt: &impl Print,
+    form: &[u8],
+    wholes: &[u32],
+    floats: &[f32],
+) -> std::io::Result<()> {
     let mut page = blank();
     let n = put_form(&mut page, 0, form, b"", wholes, floats);
-    write(STDOUT_FILENO, &page, n);
+    say(rt, &page, n)
 }
 
 // The bits of a float; each NaN gives the same, 7fc00000.
@@ -49,8 +55,8 @@ pub(crate) fn put_bits(page: &mut [u8; 32768], at: usize, x: f32) -> usize {
 }
 
 // The same, written.
-pub fn print_float(x: f32) {
+pub fn print_float(rt: &impl Print, x: f32) -> std::io::Result<()> {
     let mut page = blank();
     let n = put_bits(&mut page, 0, x);
-    write(STDOUT_FILENO, &page, n);
+    say(rt, &page, n)
 }

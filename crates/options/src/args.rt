@@ -1,4 +1,5 @@
 // What the command was asked for.
+use std::env::{Env, FillError};
 use viewtext::text::{is_name, name_of};
 
 // The options, and for each file the argument that names it (0 for none). Wrong: it cannot be understood, as help beside anything else. Awaits: the next
@@ -82,23 +83,32 @@ fn with_text(o: Options, i: usize, text: &[u8]) -> Options {
     out
 }
 
-// The options with argument i.
-fn with_argument(o: Options, i: usize) -> Options {
-    let mut word = io::buffer();
-    let n = os::arg(i, &mut word);
-    if os::errno() != 0 {
-        let mut out = o;
-        out.wrong = true;
-        return out;
+// The options with argument i; wrong where it is longer than a path can be.
+fn with_argument(rt: &impl Env, o: Options, i: usize) -> Options {
+    let mut word = [0u8; 4096];
+    match rt.arg(i, &mut word) {
+        Ok(n) => with_text(o, i, &word[..n]),
+        Err(_) => {
+            let mut out = o;
+            out.wrong = true;
+            out
+        }
     }
-    with_text(o, i, &word[..n])
+}
+
+// Whether there is an argument i.
+fn is_given(rt: &impl Env, i: usize) -> bool {
+    let mut start = [0u8; 1];
+    match rt.arg(i, &mut start) {
+        Err(FillError::NotPresent) => false,
+        _ => true,
+    }
 }
 
 // All options. Six arguments are the most that can be understood.
-pub fn all_options() -> Options {
-    let count = os::arg_count();
+pub fn all_options(rt: &impl Env) -> Options {
     let mut o = Options {
-        wrong: count > 7,
+        wrong: is_given(rt, 7),
         help: false,
         plain: false,
         exact: false,
@@ -109,11 +119,11 @@ pub fn all_options() -> Options {
         map: 0,
     };
     for i in 1..7usize {
-        if i < count {
-            o = with_argument(o, i);
+        if is_given(rt, i) {
+            o = with_argument(rt, o, i);
         }
     }
-    if o.help && count == 2 {
+    if o.help && !is_given(rt, 2) {
         return o;
     }
     if o.help || o.view == 0 || o.awaits {

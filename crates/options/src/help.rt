@@ -1,6 +1,8 @@
 // What the command says of itself.
-use console::page::{say, write};
+use console::files::warn;
+use console::page::say;
 use slices::page::{blank, put};
+use std::io;
 
 // How it is used, in one line.
 fn put_use(page: &mut [u8; 32768], at: usize) -> usize {
@@ -12,7 +14,7 @@ fn put_use(page: &mut [u8; 32768], at: usize) -> usize {
 }
 
 // All of it, as an answer: what it is, how it is used, the files with an example, and what the answer says.
-pub fn show() {
+pub fn show(rt: &impl Print) -> io::Result<()> {
     let mut page = blank();
     let n = put(
         &mut page,
@@ -63,13 +65,13 @@ pub fn show() {
         \n\
         Exit status: 0 found, 1 refused, 2 bad use or a file that cannot be read.\n",
     );
-    say(&page, n);
+    say(rt, &page, n)
 }
 
 // How it is used, as a message.
-pub fn show_use() {
+pub fn show_use(rt: HostRuntime) {
     let mut page = blank();
     let n = put_use(&mut page, 0);
     let n = put(&mut page, n, b"samburext --help says more\n");
-    write(libc::STDERR_FILENO, &page, n);
+    warn(rt, &page, n);
 }

@@ -1,64 +1,73 @@
-// The command: which square of a board a camera faces. A program has no exit status; the script `samburext` at the root makes one of the first word written.
+// The command: which square of a board a camera faces. Its own exit status says only whether it could say what it had to; the script `samburext` at the root makes one of the first word written.
+#![tactic(auto)]
+
 mod decode; // the decoder called on what the files gave
 
 use answertext::map;
 use answertext::told::{HARD, SOFT};
+use console::files::fail;
 use options::args::Options;
 use outcome::{conclude, give_up, give_up_both, give_up_soft};
+use std::io;
+use std::process::ExitCode;
 use viewfiles::files;
 use viewtext::view_file;
 
 // The view of the options on a board of a pole's length whose tables are read: decoded, and the answer written.
-fn face(o: Options, tables: &[u8; 667], length: usize) {
+fn face(rt: HostRuntime, o: Options, tables: &[u8; 667], length: usize) -> io::Result<()> {
     let mut wholes = view_file::columns_i32();
     let mut bytes = view_file::columns_u8();
     let mut floats = view_file::columns_f32();
-    let view = files::load_view(o.view, &mut wholes, &mut bytes, &mut floats);
+    let view = files::load_view(rt, o.view, &mut wholes, &mut bytes, &mut floats);
     if view.what != 0 {
-        give_up(o);
-        return;
+        return give_up(rt, o);
     }
     let asked = decode::asked(o);
     let how = decode::how_of(view, asked);
     if asked != HARD && how == SOFT {
-        give_up_soft(o);
-        return;
+        return give_up_soft(rt, o);
     }
     let a = decode::decode(view, how, &wholes, &bytes, &floats, tables, length);
-    conclude(o, a, view, how, length);
+    conclude(rt, o, a, view, how, length)
 }
 
 // The board, then the view. Where a picture cannot take its place, no answer is given.
-fn run(o: Options) {
+fn run(rt: HostRuntime, o: Options) -> io::Result<()> {
     if o.map != 0 {
-        if !map::is_ready(o.map) {
-            give_up(o);
-            return;
+        if !map::is_ready(rt, o.map) {
+            return give_up(rt, o);
         }
     }
     let mut tables = [0u8; 667];
-    let board = files::load_board(o.board, &mut tables);
+    let board = files::load_board(rt, o.board, &mut tables);
     if board.what != 0 {
-        give_up(o);
-        return;
+        return give_up(rt, o);
     }
-    face(o, &tables, board.length);
+    face(rt, o, &tables, board.length)
 }
 
-fn main() {
-    let o = options::args::all_options();
+// What the command was asked for, done.
+fn obey(rt: HostRuntime) -> io::Result<()> {
+    let o = options::args::all_options(&rt);
     if o.wrong {
-        options::help::show_use();
-        give_up(o);
-        return;
+        options::help::show_use(rt);
+        return give_up(rt, o);
     }
     if o.help {
-        options::help::show();
-        return;
+        return options::help::show(&rt);
     }
     if o.exact && o.no_tables {
-        give_up_both(o);
-        return;
+        return give_up_both(rt, o);
     }
-    run(o);
+    run(rt, o)
+}
+
+fn main(rt: HostRuntime) -> ExitCode {
+    match obey(rt) {
+        Ok(()) => ExitCode::SUCCESS,
+        Err(e) => {
+            fail(rt, b"standard output", e);
+            ExitCode::FAILURE
+        }
+    }
 }

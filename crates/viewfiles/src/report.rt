@@ -1,7 +1,7 @@
 // The message of a file that is at fault.
+use console::files::warn;
 use console::form::{put_form, put_wholes};
-use console::page::{put_argument, write};
-use libc::STDERR_FILENO;
+use console::page::put_argument;
 use slices::page::{blank, put, put_byte};
 use viewtext::fault::{HORIZONTAL, VERTICAL};
 use viewtext::text::{Word, byte_after, line_of, next_word, none};
@@ -107,19 +107,19 @@ fn put_instead(page: &mut [u8; 32768], at: usize, s: &[u8], place: usize, table:
 }
 
 // The message of a fault: the file that argument i names, the line, what was expected there and what there is.
-pub(crate) fn report(i: usize, s: &[u8], what: u32, place: usize) {
+pub(crate) fn report(rt: HostRuntime, i: usize, s: &[u8], what: u32, place: usize) {
     let mut page = blank();
-    let n = put_argument(&mut page, 0, i);
+    let n = put_argument(&rt, &mut page, 0, i);
     let n = put_expected(&mut page, n, line_of(s, place), what);
     let table = what == HORIZONTAL || what == VERTICAL;
     let n = put_instead(&mut page, n, s, place, table);
-    write(STDERR_FILENO, &page, n);
+    warn(rt, &page, n);
 }
 
 // The message of a file that is too large.
-pub(crate) fn report_size(i: usize, most: u32) {
+pub(crate) fn report_size(rt: HostRuntime, i: usize, most: u32) {
     let mut page = blank();
-    let n = put_argument(&mut page, 0, i);
+    let n = put_argument(&rt, &mut page, 0, i);
     let size = [most];
     let n = put_wholes(
         &mut page,
@@ -127,5 +127,5 @@ pub(crate) fn report_size(i: usize, most: u32) {
         b": expected a file of at most % bytes\n",
         &size,
     );
-    write(STDERR_FILENO, &page, n);
+    warn(rt, &page, n);
 }

@@ -1,6 +1,6 @@
 -- The bytes of a text file: a name at a place, and the line of a place.
 use Rattle.std.specs.Prelude.{◌≡◌, ℕ, zero, suc, ◌+◌, ◌-◌, ◌<◌, ◌≤◌, min, Bool, true, false, cond, ◌⊎◌, List, length, ◌==◌, ◌≢◌, nat_le, slice_index, refl}
-use Rattle.std.proofs.Common.{sym, ap, ◌∙◌, inl, inr, eq-or-lt_of_le, add-one, arith}
+use Rattle.std.proofs.Common.{ap, ◌∙◌, inl, inr, eq-or-lt_of_le, add-one, arith}
 use borrow.Author.Tests.{le-leb, lt-leb, eq-eqb, ne_eqb}
 
 -- the first n bytes of a name stand in the text s from a place on

@@ -1,4 +1,6 @@
 // Views and boards as text: their lines, words and decimals, and what is wrong with them. It needs no decoder.
+#![tactic(auto)]
+
 pub mod text; // words and lines
 pub mod decimal; // numbers as people write them
 pub mod fault; // what a file should have had, by number

@@ -2,10 +2,12 @@
 ghost use Rattle.std.specs.Prelude.{◌≡◌, true, ◌%◌};
 ghost use Rattle.wordfile.specs.Bits.{real_bits, signed_of, float_of};
 
-// Where the next word stands in the buffer, how far the buffer is filled, and the file.
+use std::io;
+use std::io::Read;
+
+// Where the next word stands in the buffer, and how far the buffer is filled.
 #[derive(Clone, Copy)]
 pub struct Cursor {
-    pub fd: i32,
     pub at: usize,
     pub len: usize,
 }
@@ -30,39 +32,47 @@ fn used_up(at: usize, len: usize) -> bool {
     len < at + 4
 }
 
+// The buffer filled from its start until it is full or the file ends: how far.
+fn fill(file: &mut impl Read, buf: &mut [u8; 65536]) -> io::Result<usize> {
+    let mut done = 0;
+    while done < buf.len() {
+        let n = file.read(&mut buf[done..])?;
+        if n == 0 {
+            break;
+        }
+        done += n;
+    }
+    Ok(done)
+}
+
 // The buffer filled again from the file.
-fn refill(buf: &mut [u8; 65536], fd: i32) -> Cursor {
-    let len = io::read_full(fd, buf);
-    Cursor { fd, at: 0, len }
+fn refill(file: &mut impl Read, buf: &mut [u8; 65536]) -> io::Result<Cursor> {
+    let len = fill(file, buf)?;
+    Ok(Cursor { at: 0, len })
 }
 
 // The buffer with a word in it, where the file has one.
-fn ready(buf: &mut [u8; 65536], c: Cursor) -> Cursor {
+fn ready(file: &mut impl Read, buf: &mut [u8; 65536], c: Cursor) -> io::Result<Cursor> {
     if used_up(c.at, c.len) {
-        return refill(buf, c.fd);
+        return refill(file, buf);
     }
-    c
+    Ok(c)
 }
 
 // The next word; 0 past the end of the file.
-pub fn next_word(buf: &mut [u8; 65536], c: Cursor) -> Word {
-    let d = ready(buf, c);
+pub fn next_word(file: &mut impl Read, buf: &mut [u8; 65536], c: Cursor) -> io::Result<Word> {
+    let d = ready(file, buf, c)?;
     let at = d.at;
     let len = d.len;
-    let fd = d.fd;
     if used_up(at, len) {
-        return Word { value: 0, next: d };
+        return Ok(Word { value: 0, next: d });
     }
     if 65532 < at {
-        return Word { value: 0, next: d };
+        return Ok(Word { value: 0, next: d });
     }
     let value = number(buf[at], buf[at + 1], buf[at + 2], buf[at + 3]);
-    let next = Cursor {
-        fd,
-        at: at + 4,
-        len,
-    };
-    Word { value, next }
+    let next = Cursor { at: at + 4, len };
+    Ok(Word { value, next })
 }
 
 // A word as a coordinate, by two's complement.

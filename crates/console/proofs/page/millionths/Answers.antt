@@ -1,0 +1,11 @@
+-- `millionths`: the tests keep the number within u64.
+use Rattle.std.proofs.Common.{T, sym, subst}
+use lib.Ieee.{of_bits, neg}
+use Rattle.console.proofs.page.millionths.Goals as goal
+
+pub truncating_f64_to_u64-requires : goal.truncating_f64_to_u64-requires
+unfolding of_bits neg
+truncating_f64_to_u64-requires c = record {
+  lower_bound = subst T (sym c.if-y.true) tt;
+  upper_bound = subst T (sym c.if-y-2.true) tt;
+}

@@ -1,9 +1,10 @@
 // Each refusal of exact decode. A good call is a clean 12 by 12 window at 17, 400 as both lists, over the four rotations; each line has one fault, by its refusal's number.
 use console::print::print;
 use runs::cut::{fill_patterns, front_f32, front_i32, front_u8, put_window};
+use runs::lent::print_unit_room;
 use runs::print::print_exact_answer;
-use runs::room::print_unit_room;
 use slices::part::{room_u32, room_u64};
+use std::io;
 
 // The faults: refusals by their numbers, and two more: 1 by the u64 room, and 10 by the physical list.
 const NONE: u32 = 0;
@@ -45,7 +46,7 @@ fn cut(
 }
 
 // The good call with a fault, on a board.
-fn decode<'a>(fault: u32, h: &'a [u8], v: &'a [u8]) {
+fn decode<'a>(rt: &impl Print, fault: u32, h: &'a [u8], v: &'a [u8]) -> io::Result<()> {
     let mut rows = [0i32; 8193];
     let mut cols = [0i32; 8193];
     let mut orientations = [0u8; 8193];
@@ -85,53 +86,54 @@ fn decode<'a>(fault: u32, h: &'a [u8], v: &'a [u8]) {
         room_u32(&mut counts, pick(fault == 1, 3005, 3010)),
         room_u64(&mut units, pick(fault == SHORT_UNITS, 3005, 3010)),
     );
-    print(b": ");
-    print_exact_answer(answer);
-    print_unit_room(&counts, &units);
-    print(b"\n");
+    print(rt, b": ")?;
+    print_exact_answer(rt, answer)?;
+    print_unit_room(rt, &counts, &units)?;
+    print(rt, b"\n")
 }
 
 // The same under its name.
-fn show(name: &[u8], fault: u32) {
-    print(name);
+fn show(rt: &impl Print, name: &[u8], fault: u32) -> io::Result<()> {
+    print(rt, name)?;
     let mut h = [0u8; 168];
     let mut v = [0u8; 167];
     fill_patterns(&mut h, 1);
     fill_patterns(&mut v, 2);
     decode(
+        rt,
         fault,
         slices::part::front_u8(&h, pick(fault == 8, 168, 167)),
         &v,
-    );
+    )
 }
 
 // The early refusals, in their order.
-fn early() {
-    show(b"u32 room of 3005", 1);
-    show(b"u64 room of 3005", SHORT_UNITS);
-    show(b"one physical confidence", 2);
-    show(b"an empty logical list", 3);
-    show(b"column 1000001", 4);
-    show(b"orientation 2", 16);
-    show(b"bit 2", 17);
-    show(b"confidence 1.5", 5);
-    show(b"transform 8", 7);
-    show(b"a horizontal table of 168", 8);
-    show(b"limit 1.5", 9);
+fn early(rt: &impl Print) -> io::Result<()> {
+    show(rt, b"u32 room of 3005", 1)?;
+    show(rt, b"u64 room of 3005", SHORT_UNITS)?;
+    show(rt, b"one physical confidence", 2)?;
+    show(rt, b"an empty logical list", 3)?;
+    show(rt, b"column 1000001", 4)?;
+    show(rt, b"orientation 2", 16)?;
+    show(rt, b"bit 2", 17)?;
+    show(rt, b"confidence 1.5", 5)?;
+    show(rt, b"transform 8", 7)?;
+    show(rt, b"a horizontal table of 168", 8)?;
+    show(rt, b"limit 1.5", 9)
 }
 
 // The call without a fault, and the late refusals, in their order.
-fn late() {
-    show(b"good", NONE);
-    show(b"every logical confidence 2^-26", 10);
-    show(b"one edge of 288 missed, limit 0.001", 11);
-    show(b"every physical confidence 2^-26", PHYSICAL_TEN);
-    show(b"physical list cut at row 18", 12);
-    show(b"transform 0 listed twice", 13);
+fn late(rt: &impl Print) -> io::Result<()> {
+    show(rt, b"good", NONE)?;
+    show(rt, b"every logical confidence 2^-26", 10)?;
+    show(rt, b"one edge of 288 missed, limit 0.001", 11)?;
+    show(rt, b"every physical confidence 2^-26", PHYSICAL_TEN)?;
+    show(rt, b"physical list cut at row 18", 12)?;
+    show(rt, b"transform 0 listed twice", 13)
 }
 
 // All of them.
-pub(crate) fn show_all() {
-    early();
-    late();
+pub(crate) fn show_all(rt: &impl Print) -> io::Result<()> {
+    early(rt)?;
+    late(rt)
 }

@@ -6,6 +6,7 @@
 use console::print::print;
 use runs::cut::{front_f32, front_i32, front_u8, put_window};
 use runs::print::{print_answer, print_exact_answer};
+use std::io;
 
 // 2^-10, and one unit less.
 const LIGHT: f32 = 1.0 / 1024.0;
@@ -29,6 +30,7 @@ fn one_within(i: usize, from: usize, n: usize) -> u8 {
 
 // Hard decode of a window with a physical list of its own.
 fn show_hard<'a>(
+    rt: &impl Print,
     rows: &[i32],
     cols: &[i32],
     orientations: &[u8],
@@ -41,33 +43,37 @@ fn show_hard<'a>(
     pconfidences: &[f32],
     h: &'a [u8],
     v: &'a [u8],
-) {
+) -> io::Result<()> {
     let transforms = [0u8; 1];
     let mut counts = [7u32; 3006];
     let mut weights = [7.0f32; 3006];
-    print(b"  hard: ");
-    print_answer(decode_hard::decode_hard(
-        rows,
-        cols,
-        orientations,
-        bits,
-        confidences,
-        prows,
-        pcols,
-        porientations,
-        pbits,
-        pconfidences,
-        &transforms,
-        h,
-        v,
-        0.25,
-        &mut counts,
-        &mut weights,
-    ));
+    print(rt, b"  hard: ")?;
+    print_answer(
+        rt,
+        decode_hard::decode_hard(
+            rows,
+            cols,
+            orientations,
+            bits,
+            confidences,
+            prows,
+            pcols,
+            porientations,
+            pbits,
+            pconfidences,
+            &transforms,
+            h,
+            v,
+            0.25,
+            &mut counts,
+            &mut weights,
+        ),
+    )
 }
 
 // Exact decode of the same.
 fn show_exact<'a>(
+    rt: &impl Print,
     rows: &[i32],
     cols: &[i32],
     orientations: &[u8],
@@ -80,34 +86,38 @@ fn show_exact<'a>(
     pconfidences: &[f32],
     h: &'a [u8],
     v: &'a [u8],
-) {
+) -> io::Result<()> {
     let transforms = [0u8; 1];
     let mut counts = [7u32; 3006];
     let mut units = [7u64; 3006];
-    print(b"\n  exact: ");
-    print_exact_answer(decode_exact::decode_exact(
-        rows,
-        cols,
-        orientations,
-        bits,
-        confidences,
-        prows,
-        pcols,
-        porientations,
-        pbits,
-        pconfidences,
-        &transforms,
-        h,
-        v,
-        0.25,
-        &mut counts,
-        &mut units,
-    ));
-    print(b"\n");
+    print(rt, b"\n  exact: ")?;
+    print_exact_answer(
+        rt,
+        decode_exact::decode_exact(
+            rows,
+            cols,
+            orientations,
+            bits,
+            confidences,
+            prows,
+            pcols,
+            porientations,
+            pbits,
+            pconfidences,
+            &transforms,
+            h,
+            v,
+            0.25,
+            &mut counts,
+            &mut units,
+        ),
+    )?;
+    print(rt, b"\n")
 }
 
 // A logical window of 45 by 45 squares cut at a row and column 21 of a board, with this physical list, in both modes.
 fn show_on<'a>(
+    rt: &impl Print,
     h: &'a [u8; 167],
     v: &'a [u8; 167],
     row: u32,
@@ -116,7 +126,7 @@ fn show_on<'a>(
     porientations: &[u8],
     pbits: &[u8],
     pconfidences: &[f32],
-) {
+) -> io::Result<()> {
     let mut rows = [0i32; 8193];
     let mut cols = [0i32; 8193];
     let mut orientations = [0u8; 8193];
@@ -140,6 +150,7 @@ fn show_on<'a>(
     let b = front_u8(&bits, n);
     let f = front_f32(&ones, n);
     show_hard(
+        rt,
         r,
         c,
         o,
@@ -152,8 +163,9 @@ fn show_on<'a>(
         pconfidences,
         h,
         v,
-    );
+    )?;
     show_exact(
+        rt,
         r,
         c,
         o,
@@ -166,11 +178,12 @@ fn show_on<'a>(
         pconfidences,
         h,
         v,
-    );
+    )
 }
 
 // The same under its name, on the board of these views.
 fn show(
+    rt: &impl Print,
     name: &[u8],
     row: u32,
     prows: &[i32],
@@ -178,13 +191,14 @@ fn show(
     porientations: &[u8],
     pbits: &[u8],
     pconfidences: &[f32],
-) {
-    print(name);
+) -> io::Result<()> {
+    print(rt, name)?;
     let mut h = [0u8; 167];
     let mut v = [0u8; 167];
     fill_ones(&mut h, 9, 32);
     fill_ones(&mut v, 20, 41);
     show_on(
+        rt,
         &h,
         &v,
         row,
@@ -193,11 +207,11 @@ fn show(
         porientations,
         pbits,
         pconfidences,
-    );
+    )
 }
 
 // 1,024 class pairs.
-fn show_1024(name: &[u8], row: u32) {
+fn show_1024(rt: &impl Print, name: &[u8], row: u32) -> io::Result<()> {
     let rows = [0i32; 12];
     let cols = [0i32, 0, 0, 1, 2, 3, 4, 5, 6, 7, 8, 9];
     let orientations = [0u8, 0, 1, 1, 1, 1, 1, 1, 1, 1, 1, 1];
@@ -205,11 +219,20 @@ fn show_1024(name: &[u8], row: u32) {
     let mut confidences = [1.0f32; 12];
     confidences[0] = LIGHTER;
     confidences[1] = LIGHT;
-    show(name, row, &rows, &cols, &orientations, &bits, &confidences);
+    show(
+        rt,
+        name,
+        row,
+        &rows,
+        &cols,
+        &orientations,
+        &bits,
+        &confidences,
+    )
 }
 
 // 1,025 class pairs.
-fn show_1025(name: &[u8], row: u32) {
+fn show_1025(rt: &impl Print, name: &[u8], row: u32) -> io::Result<()> {
     let rows = [0i32, 0, 1, 2, 3, 4, 5, 6, 7, 0];
     let cols = [0i32; 10];
     let orientations = [0u8, 0, 0, 0, 0, 0, 0, 0, 0, 1];
@@ -217,13 +240,22 @@ fn show_1025(name: &[u8], row: u32) {
     let mut confidences = [LIGHT; 10];
     confidences[0] = LIGHTER;
     confidences[9] = 1.0;
-    show(name, row, &rows, &cols, &orientations, &bits, &confidences);
+    show(
+        rt,
+        name,
+        row,
+        &rows,
+        &cols,
+        &orientations,
+        &bits,
+        &confidences,
+    )
 }
 
 // Both lists with both windows.
-pub(crate) fn show_all() {
-    show_1024(b"1024 pairs, logical window at row 12\n", 12);
-    show_1025(b"1025 pairs, logical window at row 12\n", 12);
-    show_1024(b"1024 pairs, logical window at row 9\n", 9);
-    show_1025(b"1025 pairs, logical window at row 9\n", 9);
+pub(crate) fn show_all(rt: &impl Print) -> io::Result<()> {
+    show_1024(rt, b"1024 pairs, logical window at row 12\n", 12)?;
+    show_1025(rt, b"1025 pairs, logical window at row 12\n", 12)?;
+    show_1024(rt, b"1024 pairs, logical window at row 9\n", 9)?;
+    show_1025(rt, b"1025 pairs, logical window at row 9\n", 9)
 }

@@ -2,11 +2,13 @@
 // call and is longer than it need be.
 use console::print::print;
 use runs::cut::{fill_patterns, front_f32, front_i32, front_u8, put_window};
+use runs::lent::print_unit_room;
 use runs::print::print_exact_answer;
-use runs::room::print_unit_room;
+use std::io;
 
 // Exact decode of the first n edges as both lists, on a board.
 fn show<'a>(
+    rt: &impl Print,
     rows: &[i32; 8193],
     cols: &[i32; 8193],
     orientations: &[u8; 8193],
@@ -16,7 +18,7 @@ fn show<'a>(
     transforms: &[u8],
     h: &'a [u8],
     v: &'a [u8],
-) {
+) -> io::Result<()> {
     let mut counts = [7u32; 6007];
     let mut units = [7u64; 6007];
     let r = front_i32(rows, n);
@@ -42,14 +44,15 @@ fn show<'a>(
         &mut counts,
         &mut units,
     );
-    print(b": ");
-    print_exact_answer(answer);
-    print_unit_room(&counts, &units);
-    print(b"\n");
+    print(rt, b": ")?;
+    print_exact_answer(rt, answer)?;
+    print_unit_room(rt, &counts, &units)?;
+    print(rt, b"\n")
 }
 
 // A clean window of some squares, cut at a placing of a board whose horizontal table has `length` patterns: its first n edges decoded, with these confidences.
 fn show_cut(
+    rt: &impl Print,
     name: &[u8],
     length: usize,
     squares: u8,
@@ -59,8 +62,8 @@ fn show_cut(
     col: u32,
     transforms: &[u8],
     confidences: &[f32; 8193],
-) {
-    print(name);
+) -> io::Result<()> {
+    print(rt, name)?;
     let mut h = [0u8; 500];
     let mut v = [0u8; 167];
     fill_patterns(&mut h, 1);
@@ -84,6 +87,7 @@ fn show_cut(
     );
     let some = if n < count { n } else { count };
     show(
+        rt,
         &rows,
         &cols,
         &orientations,
@@ -93,11 +97,12 @@ fn show_cut(
         transforms,
         board,
         &v,
-    );
+    )
 }
 
 // The same of a whole window of 12 by 12 squares, with one confidence for all edges.
 fn show_window(
+    rt: &impl Print,
     name: &[u8],
     length: usize,
     transform: u8,
@@ -105,9 +110,10 @@ fn show_window(
     col: u32,
     transforms: &[u8],
     confidence: f32,
-) {
+) -> io::Result<()> {
     let confidences = [confidence; 8193];
     show_cut(
+        rt,
         name,
         length,
         12,
@@ -117,17 +123,27 @@ fn show_window(
         col,
         transforms,
         &confidences,
-    );
+    )
 }
 
 // Windows of the flat board, of the smallest pole and of the largest, the poles' across the seam; a transform that is listed twice, which wins or does not.
-fn boards() {
+fn boards(rt: &impl Print) -> io::Result<()> {
     let rotations = [0u8, 1, 2, 3];
     let all = [0u8, 1, 2, 3, 4, 5, 6, 7];
     let twice = [0u8, 1, 1, 3];
-    show_window(b"12 by 12 under 0 at 17, 400", 167, 0, 17, 400, &all, 1.0);
-    show_window(b"12 by 12 under 7 at 1, 2", 167, 7, 1, 2, &all, 1.0);
     show_window(
+        rt,
+        b"12 by 12 under 0 at 17, 400",
+        167,
+        0,
+        17,
+        400,
+        &all,
+        1.0,
+    )?;
+    show_window(rt, b"12 by 12 under 7 at 1, 2", 167, 7, 1, 2, &all, 1.0)?;
+    show_window(
+        rt,
         b"a pole of 4, under 0 at 11, 500",
         4,
         0,
@@ -135,8 +151,9 @@ fn boards() {
         500,
         &rotations,
         1.0,
-    );
+    )?;
     show_window(
+        rt,
         b"a pole of 500, under 0 at 1499, 500",
         500,
         0,
@@ -144,8 +161,9 @@ fn boards() {
         500,
         &rotations,
         1.0,
-    );
+    )?;
     show_window(
+        rt,
         b"under 1 at 500, 0, listed twice",
         167,
         1,
@@ -153,8 +171,9 @@ fn boards() {
         0,
         &twice,
         1.0,
-    );
+    )?;
     show_window(
+        rt,
         b"under 3 at 166, 167, another listed twice",
         167,
         3,
@@ -162,14 +181,15 @@ fn boards() {
         167,
         &twice,
         1.0,
-    );
+    )
 }
 
 // The limits of a list's length, and one edge alone.
-fn lengths() {
+fn lengths(rt: &impl Print) -> io::Result<()> {
     let ones = [1.0f32; 8193];
     let rotations = [0u8, 1, 2, 3];
     show_cut(
+        rt,
         b"8192 edges under 0 at 17, 400",
         167,
         65,
@@ -179,8 +199,9 @@ fn lengths() {
         400,
         &rotations,
         &ones,
-    );
+    )?;
     show_cut(
+        rt,
         b"8193 edges under 0 at 17, 400",
         167,
         65,
@@ -190,13 +211,24 @@ fn lengths() {
         400,
         &rotations,
         &ones,
-    );
-    show_cut(b"one edge alone", 167, 1, 1, 0, 17, 400, &rotations, &ones);
+    )?;
+    show_cut(
+        rt,
+        b"one edge alone",
+        167,
+        1,
+        1,
+        0,
+        17,
+        400,
+        &rotations,
+        &ones,
+    )
 }
 
 // 1,000 edges at row 0 and column 0, all of them horizontal but the second, on a board whose patterns and in a list whose bits are all 0.
-fn all_zero() {
-    print(b"all patterns and bits 0");
+fn all_zero(rt: &impl Print) -> io::Result<()> {
+    print(rt, b"all patterns and bits 0")?;
     let table = [0u8; 167];
     let zeros = [0i32; 8193];
     let mut orientations = [0u8; 8193];
@@ -205,6 +237,7 @@ fn all_zero() {
     let ones = [1.0f32; 8193];
     let first = [0u8; 1];
     show(
+        rt,
         &zeros,
         &zeros,
         &orientations,
@@ -214,7 +247,7 @@ fn all_zero() {
         &first,
         &table,
         &table,
-    );
+    )
 }
 
 // 2^-25, which is half a unit and becomes one; the next smaller float, which becomes none; and 2^-26.
@@ -225,9 +258,10 @@ const BELOW_HALF: f32 = 16777215.0 / 562949953421312.0;
 const QUARTER: f32 = 1.0 / 67108864.0;
 
 // Windows of which every edge has such a confidence: where all units are 0 the list is refused with 10, although its confidences are not 0.
-fn around_half_a_unit() {
+fn around_half_a_unit(rt: &impl Print) -> io::Result<()> {
     let first = [0u8; 1];
     show_window(
+        rt,
         b"every confidence 2^-25",
         167,
         0,
@@ -235,8 +269,9 @@ fn around_half_a_unit() {
         400,
         &first,
         HALF_UNIT,
-    );
+    )?;
     show_window(
+        rt,
         b"every confidence just below 2^-25",
         167,
         0,
@@ -244,13 +279,22 @@ fn around_half_a_unit() {
         400,
         &first,
         BELOW_HALF,
-    );
-    show_window(b"every confidence 2^-26", 167, 0, 17, 400, &first, QUARTER);
-    show_window(b"every confidence -0", 167, 0, 17, 400, &first, -0.0);
+    )?;
+    show_window(
+        rt,
+        b"every confidence 2^-26",
+        167,
+        0,
+        17,
+        400,
+        &first,
+        QUARTER,
+    )?;
+    show_window(rt, b"every confidence -0", 167, 0, 17, 400, &first, -0.0)
 }
 
 // A window of which single edges have other confidences: those that become no unit, and those that become 1, 2, 8,388,608 (from half a unit below 1/2) and 2^24.
-fn mixed() {
+fn mixed(rt: &impl Print) -> io::Result<()> {
     let mut confidences = [-0.0f32; 8193];
     confidences[0] = HALF_UNIT;
     confidences[1] = BELOW_HALF;
@@ -260,6 +304,7 @@ fn mixed() {
     confidences[5] = 1.0;
     let first = [0u8; 1];
     show_cut(
+        rt,
         b"confidences 2^-25, below it, 2^-26, 3 * 2^-25, 1/2 - 2^-25, 1, and -0 for all others",
         167,
         12,
@@ -269,14 +314,14 @@ fn mixed() {
         400,
         &first,
         &confidences,
-    );
+    )
 }
 
 // All runs.
-pub(crate) fn show_all() {
-    boards();
-    lengths();
-    all_zero();
-    around_half_a_unit();
-    mixed();
+pub(crate) fn show_all(rt: &impl Print) -> io::Result<()> {
+    boards(rt)?;
+    lengths(rt)?;
+    all_zero(rt)?;
+    around_half_a_unit(rt)?;
+    mixed(rt)
 }

@@ -3,9 +3,10 @@ use console::print::{print, print_form};
 use locate_answer::{LocateAnswer, Located};
 use refusals::Admission;
 use runs::print::{print_admission, print_answer};
+use std::io;
 
 // What is located.
-fn print_found(d: Located) {
+fn print_found(rt: &impl Print, d: Located) -> io::Result<()> {
     let square = d.square;
     let runner = d.runner_up;
     let wholes = [
@@ -20,25 +21,28 @@ fn print_found(d: Located) {
     ];
     let none = [0.0f32; 1];
     print_form(
+        rt,
         b"found transform % row % column %, hits %, runner-up transform % row % column % with % hits",
         &wholes,
         &none,
-    );
+    )
 }
 
 // All that `locate` answers.
-fn print_located(a: LocateAnswer) {
+fn print_located(rt: &impl Print, a: LocateAnswer) -> io::Result<()> {
     match a {
-        LocateAnswer::Found(d) => print_found(d),
+        LocateAnswer::Found(d) => print_found(rt, d)?,
         LocateAnswer::Refused(r) => {
-            print(b"refused ");
-            print_admission(Admission::Refused(r));
+            print(rt, b"refused ")?;
+            print_admission(rt, Admission::Refused(r))?;
         }
     }
+    Ok(())
 }
 
 // Hard decode of the list as both lists; the lent room is long enough for every pole.
 fn show_tables<'a>(
+    rt: &impl Print,
     rows: &[i32],
     cols: &[i32],
     orientations: &[u8],
@@ -48,32 +52,36 @@ fn show_tables<'a>(
     h: &'a [u8],
     v: &'a [u8],
     limit: f32,
-) {
+) -> io::Result<()> {
     let mut counts = [7u32; 6007];
     let mut weights = [7.0f32; 6007];
-    print(b"\n  tables: ");
-    print_answer(decode_hard::decode_hard(
-        rows,
-        cols,
-        orientations,
-        bits,
-        confidences,
-        rows,
-        cols,
-        orientations,
-        bits,
-        confidences,
-        transforms,
-        h,
-        v,
-        limit,
-        &mut counts,
-        &mut weights,
-    ));
+    print(rt, b"\n  tables: ")?;
+    print_answer(
+        rt,
+        decode_hard::decode_hard(
+            rows,
+            cols,
+            orientations,
+            bits,
+            confidences,
+            rows,
+            cols,
+            orientations,
+            bits,
+            confidences,
+            transforms,
+            h,
+            v,
+            limit,
+            &mut counts,
+            &mut weights,
+        ),
+    )
 }
 
 // Both answers, under the list's name.
 pub(crate) fn show_both<'a>(
+    rt: &impl Print,
     rows: &[i32],
     cols: &[i32],
     orientations: &[u8],
@@ -83,8 +91,9 @@ pub(crate) fn show_both<'a>(
     h: &'a [u8],
     v: &'a [u8],
     limit: f32,
-) {
+) -> io::Result<()> {
     show_tables(
+        rt,
         rows,
         cols,
         orientations,
@@ -94,18 +103,21 @@ pub(crate) fn show_both<'a>(
         h,
         v,
         limit,
-    );
-    print(b"\n  located: ");
-    print_located(locate::locate(
-        rows,
-        cols,
-        orientations,
-        bits,
-        confidences,
-        transforms,
-        h,
-        v,
-        limit,
-    ));
-    print(b"\n");
+    )?;
+    print(rt, b"\n  located: ")?;
+    print_located(
+        rt,
+        locate::locate(
+            rows,
+            cols,
+            orientations,
+            bits,
+            confidences,
+            transforms,
+            h,
+            v,
+            limit,
+        ),
+    )?;
+    print(rt, b"\n")
 }

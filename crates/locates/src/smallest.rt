@@ -3,9 +3,10 @@
 // located one is the first origin, row by row. One edge alone is never found, for other origins of its class have as many hits, so no smaller list shows it.
 use crate::both::show_both;
 use console::print::print;
+use std::io;
 
-pub(crate) fn show_all() {
-    print(b"two edges on a pole of 4");
+pub(crate) fn show_all(rt: &impl Print) -> io::Result<()> {
+    print(rt, b"two edges on a pole of 4")?;
     let mut h = [0u8; 4];
     h[1] = 1;
     let mut v = [0u8; 167];
@@ -16,6 +17,7 @@ pub(crate) fn show_all() {
     let confidences = [1.0f32; 2];
     let first = [0u8; 1];
     show_both(
+        rt,
         &zeros,
         &zeros,
         &orientations,
@@ -25,5 +27,5 @@ pub(crate) fn show_all() {
         &h,
         &v,
         1.0,
-    );
+    )
 }

@@ -2,9 +2,11 @@
 use crate::both::show_both;
 use console::print::{print, print_form};
 use runs::cut::{fill_patterns, front_f32, front_i32, front_u8, put_window};
+use std::io;
 
 // A window of some squares, cut at a placing of a board whose horizontal table has `length` patterns: its first n edges, with one confidence for all and the first bit turned or not.
 fn show_cut(
+    rt: &impl Print,
     length: usize,
     squares: u8,
     n: usize,
@@ -15,7 +17,7 @@ fn show_cut(
     confidence: f32,
     turned: bool,
     limit: f32,
-) {
+) -> io::Result<()> {
     let mut h = [0u8; 500];
     let mut v = [0u8; 167];
     fill_patterns(&mut h, 1);
@@ -42,6 +44,7 @@ fn show_cut(
     bits[0] = if turned { 1 - first } else { first };
     let confidences = [confidence; 8193];
     show_both(
+        rt,
         front_i32(&rows, some),
         front_i32(&cols, some),
         front_u8(&orientations, some),
@@ -51,107 +54,136 @@ fn show_cut(
         board,
         &v,
         limit,
-    );
+    )
 }
 
 // A clean window of 12 by 12 squares of such a board.
-fn show_window(name: &[u8], length: usize, transform: u8, row: u32, col: u32, transforms: &[u8]) {
-    print(name);
+fn show_window(
+    rt: &impl Print,
+    name: &[u8],
+    length: usize,
+    transform: u8,
+    row: u32,
+    col: u32,
+    transforms: &[u8],
+) -> io::Result<()> {
+    print(rt, name)?;
     show_cut(
-        length, 12, 8193, transform, row, col, transforms, 1.0, false, 1.0,
-    );
+        rt, length, 12, 8193, transform, row, col, transforms, 1.0, false, 1.0,
+    )
 }
 
 // The same of the flat board over all transforms, under its placing.
-fn show_clean(transform: u8, row: u32, col: u32) {
+fn show_clean(rt: &impl Print, transform: u8, row: u32, col: u32) -> io::Result<()> {
     let wholes = [transform as u32, row, col];
     let none = [0.0f32; 1];
-    print_form(b"12 by 12 under % at %, %", &wholes, &none);
+    print_form(rt, b"12 by 12 under % at %, %", &wholes, &none)?;
     let all = [0u8, 1, 2, 3, 4, 5, 6, 7];
-    show_window(b"", 167, transform, row, col, &all);
+    show_window(rt, b"", 167, transform, row, col, &all)
 }
 
 // A clean window under each transform.
-fn clean() {
-    show_clean(0, 17, 400);
-    show_clean(1, 500, 0);
-    show_clean(2, 0, 500);
-    show_clean(3, 166, 167);
-    show_clean(4, 333, 334);
-    show_clean(5, 123, 456);
-    show_clean(6, 250, 251);
-    show_clean(7, 1, 2);
+fn clean(rt: &impl Print) -> io::Result<()> {
+    show_clean(rt, 0, 17, 400)?;
+    show_clean(rt, 1, 500, 0)?;
+    show_clean(rt, 2, 0, 500)?;
+    show_clean(rt, 3, 166, 167)?;
+    show_clean(rt, 4, 333, 334)?;
+    show_clean(rt, 5, 123, 456)?;
+    show_clean(rt, 6, 250, 251)?;
+    show_clean(rt, 7, 1, 2)
 }
 
 // A transform that is listed twice, which wins or does not; the smallest pole and the largest, across the seam.
-fn listed_and_poles() {
+fn listed_and_poles(rt: &impl Print) -> io::Result<()> {
     let twice = [0u8, 1, 1, 3];
     let rotations = [0u8, 1, 2, 3];
-    show_window(b"under 1 at 500, 0, listed twice", 167, 1, 500, 0, &twice);
     show_window(
+        rt,
+        b"under 1 at 500, 0, listed twice",
+        167,
+        1,
+        500,
+        0,
+        &twice,
+    )?;
+    show_window(
+        rt,
         b"under 3 at 166, 167, another listed twice",
         167,
         3,
         166,
         167,
         &twice,
-    );
+    )?;
     show_window(
+        rt,
         b"a pole of 4, under 0 at 11, 500",
         4,
         0,
         11,
         500,
         &rotations,
-    );
+    )?;
     show_window(
+        rt,
         b"a pole of 500, under 0 at 1499, 500",
         500,
         0,
         1499,
         500,
         &rotations,
-    );
+    )
 }
 
 // The first n edges of a window at 17, 400 over the rotations, with a confidence, the first bit turned or not, and a limit.
-fn show_list(name: &[u8], squares: u8, n: usize, confidence: f32, turned: bool, limit: f32) {
-    print(name);
+fn show_list(
+    rt: &impl Print,
+    name: &[u8],
+    squares: u8,
+    n: usize,
+    confidence: f32,
+    turned: bool,
+    limit: f32,
+) -> io::Result<()> {
+    print(rt, name)?;
     let rotations = [0u8, 1, 2, 3];
     show_cut(
-        167, squares, n, 0, 17, 400, &rotations, confidence, turned, limit,
-    );
+        rt, 167, squares, n, 0, 17, 400, &rotations, confidence, turned, limit,
+    )
 }
 
 // The limits of a list's length, one edge alone, and the late refusals.
-fn lists() {
-    show_list(b"8192 edges", 65, 8192, 1.0, false, 1.0);
-    show_list(b"8193 edges", 65, 8193, 1.0, false, 1.0);
-    show_list(b"one edge alone", 1, 1, 1.0, false, 1.0);
-    show_list(b"an empty list", 12, 0, 1.0, false, 1.0);
-    show_list(b"every confidence -0", 12, 8193, -0.0, false, 1.0);
-    show_list(b"every confidence 1.5", 12, 8193, 1.5, false, 1.0);
+fn lists(rt: &impl Print) -> io::Result<()> {
+    show_list(rt, b"8192 edges", 65, 8192, 1.0, false, 1.0)?;
+    show_list(rt, b"8193 edges", 65, 8193, 1.0, false, 1.0)?;
+    show_list(rt, b"one edge alone", 1, 1, 1.0, false, 1.0)?;
+    show_list(rt, b"an empty list", 12, 0, 1.0, false, 1.0)?;
+    show_list(rt, b"every confidence -0", 12, 8193, -0.0, false, 1.0)?;
+    show_list(rt, b"every confidence 1.5", 12, 8193, 1.5, false, 1.0)?;
     show_list(
+        rt,
         b"one edge of 288 missed, limit 0.01",
         12,
         8193,
         1.0,
         true,
         0.01,
-    );
+    )?;
     show_list(
+        rt,
         b"one edge of 288 missed, limit 0.001",
         12,
         8193,
         1.0,
         true,
         0.001,
-    );
+    )
 }
 
 // All runs.
-pub(crate) fn show_all() {
-    clean();
-    listed_and_poles();
-    lists();
+pub(crate) fn show_all(rt: &impl Print) -> io::Result<()> {
+    clean(rt)?;
+    listed_and_poles(rt)?;
+    lists(rt)
 }

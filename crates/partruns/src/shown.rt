@@ -3,26 +3,29 @@ use console::print::{print, print_form, print_long};
 use part_answer::{PartAnswer, PartDecoded, PartRunnerUp};
 use refusals::Admission;
 use runs::print::print_admission;
+use std::io;
 
 // The runner-up with its hits and its weight, or that none is shown.
-fn print_next(next: PartRunnerUp) {
+fn print_next(rt: &impl Print, next: PartRunnerUp) -> io::Result<()> {
     match next {
-        PartRunnerUp::NoneShown => print(b", no runner-up is shown"),
+        PartRunnerUp::NoneShown => print(rt, b", no runner-up is shown")?,
         PartRunnerUp::Shown(square, hits, weight) => {
             let wholes = [square.transform as u32, square.row, square.col, hits];
             let none = [0.0f32; 1];
             print_form(
+                rt,
                 b", runner-up transform % row % column % with % hits, weight ",
                 &wholes,
                 &none,
-            );
-            print_long(weight);
+            )?;
+            print_long(rt, weight)?;
         }
     }
+    Ok(())
 }
 
 // What a found answer holds: weights in units.
-fn print_found(d: PartDecoded) {
+fn print_found(rt: &impl Print, d: PartDecoded) -> io::Result<()> {
     let square = d.square;
     let next = d.runner_up;
     let wholes = [
@@ -34,23 +37,25 @@ fn print_found(d: PartDecoded) {
     ];
     let floats = [d.error_rate];
     print_form(
+        rt,
         b"found transform % row % column %, hits % of %, rate ^, weight ",
         &wholes,
         &floats,
-    );
-    print_long(d.weight);
-    print(b" of ");
-    print_long(d.total);
-    print_next(next);
+    )?;
+    print_long(rt, d.weight)?;
+    print(rt, b" of ")?;
+    print_long(rt, d.total)?;
+    print_next(rt, next)
 }
 
 // All that decode over a part answers; a refusal is its number and its place alone.
-pub(crate) fn print_part_answer(a: PartAnswer) {
+pub(crate) fn print_part_answer(rt: &impl Print, a: PartAnswer) -> io::Result<()> {
     match a {
-        PartAnswer::Found(d) => print_found(d),
+        PartAnswer::Found(d) => print_found(rt, d)?,
         PartAnswer::Refused(r) => {
-            print(b"refused ");
-            print_admission(Admission::Refused(r));
+            print(rt, b"refused ")?;
+            print_admission(rt, Admission::Refused(r))?;
         }
     }
+    Ok(())
 }

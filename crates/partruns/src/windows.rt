@@ -4,11 +4,13 @@ use crate::shown::print_part_answer;
 use console::print::print;
 use part::Part;
 use runs::cut::{fill_patterns, front_f32, front_i32, front_u8, put_window};
+use runs::lent::print_unit_room;
 use runs::print::print_exact_answer;
-use runs::room::print_unit_room;
+use std::io;
 
 // Exact decode of a list as both lists, over the whole board.
 fn show_whole<'a>(
+    rt: &impl Print,
     rows: &[i32],
     cols: &[i32],
     orientations: &[u8],
@@ -17,32 +19,36 @@ fn show_whole<'a>(
     transforms: &[u8],
     h: &'a [u8],
     v: &'a [u8],
-) {
+) -> io::Result<()> {
     let mut counts = [7u32; 3010];
     let mut units = [7u64; 3010];
-    print(b"\n  whole board: ");
-    print_exact_answer(decode_exact::decode_exact(
-        rows,
-        cols,
-        orientations,
-        bits,
-        confidences,
-        rows,
-        cols,
-        orientations,
-        bits,
-        confidences,
-        transforms,
-        h,
-        v,
-        1.0,
-        &mut counts,
-        &mut units,
-    ));
+    print(rt, b"\n  whole board: ")?;
+    print_exact_answer(
+        rt,
+        decode_exact::decode_exact(
+            rows,
+            cols,
+            orientations,
+            bits,
+            confidences,
+            rows,
+            cols,
+            orientations,
+            bits,
+            confidences,
+            transforms,
+            h,
+            v,
+            1.0,
+            &mut counts,
+            &mut units,
+        ),
+    )
 }
 
 // Decode of the same over a part, and what it left in the room.
 fn show_part<'a>(
+    rt: &impl Print,
     rows: &[i32],
     cols: &[i32],
     orientations: &[u8],
@@ -52,7 +58,7 @@ fn show_part<'a>(
     h: &'a [u8],
     v: &'a [u8],
     part: Part,
-) {
+) -> io::Result<()> {
     let mut counts = [7u32; 3010];
     let mut units = [7u64; 3010];
     let answer = decode_part::decode_part(
@@ -74,10 +80,10 @@ fn show_part<'a>(
         &mut counts,
         &mut units,
     );
-    print(b"\n  part: ");
-    print_part_answer(answer);
-    print_unit_room(&counts, &units);
-    print(b"\n");
+    print(rt, b"\n  part: ")?;
+    print_part_answer(rt, answer)?;
+    print_unit_room(rt, &counts, &units)?;
+    print(rt, b"\n")
 }
 
 // A bit, turned or not.
@@ -94,6 +100,7 @@ fn turn(bits: &mut [u8; 8193], wrong: usize) {
 
 // The first n edges as both lists: over the whole board and over a part.
 fn show_both<'a>(
+    rt: &impl Print,
     rows: &[i32; 8193],
     cols: &[i32; 8193],
     orientations: &[u8; 8193],
@@ -103,19 +110,20 @@ fn show_both<'a>(
     h: &'a [u8],
     v: &'a [u8],
     part: Part,
-) {
+) -> io::Result<()> {
     let ones = [1.0f32; 8193];
     let r = front_i32(rows, n);
     let c = front_i32(cols, n);
     let o = front_u8(orientations, n);
     let b = front_u8(bits, n);
     let f = front_f32(&ones, n);
-    show_whole(r, c, o, b, f, transforms, h, v);
-    show_part(r, c, o, b, f, transforms, h, v, part);
+    show_whole(rt, r, c, o, b, f, transforms, h, v)?;
+    show_part(rt, r, c, o, b, f, transforms, h, v, part)
 }
 
 // A window of some squares cut at a placing, of which the first bits are turned: over the whole board and over a part.
 fn show(
+    rt: &impl Print,
     name: &[u8],
     squares: u8,
     wrong: usize,
@@ -124,8 +132,8 @@ fn show(
     col: u32,
     transforms: &[u8],
     part: Part,
-) {
-    print(name);
+) -> io::Result<()> {
+    print(rt, name)?;
     let mut h = [0u8; 167];
     let mut v = [0u8; 167];
     fill_patterns(&mut h, 1);
@@ -148,6 +156,7 @@ fn show(
     );
     turn(&mut bits, wrong);
     show_both(
+        rt,
         &rows,
         &cols,
         &orientations,
@@ -157,7 +166,7 @@ fn show(
         &h,
         &v,
         part,
-    );
+    )
 }
 
 // A part that starts at a row and a column and has so many rows and columns.
@@ -171,10 +180,11 @@ fn part_at(row: u32, col: u32, rows: u32, cols: u32) -> Part {
 }
 
 // Parts across both seams, and windows that have too few edges for the whole board.
-fn parts() {
+fn parts(rt: &impl Print) -> io::Result<()> {
     let rotations = [0u8, 1, 2, 3];
     let all = [0u8, 1, 2, 3, 4, 5, 6, 7];
     show(
+        rt,
         b"12 by 12 squares under 0 at 500, 0; 20 by 20 origins from 491, 491",
         12,
         0,
@@ -183,8 +193,9 @@ fn parts() {
         0,
         &rotations,
         part_at(491, 491, 20, 20),
-    );
+    )?;
     show(
+        rt,
         b"12 by 12 squares under 7 at 0, 500; 10 by 10 origins from 495, 495",
         12,
         3,
@@ -193,8 +204,9 @@ fn parts() {
         500,
         &all,
         part_at(495, 495, 10, 10),
-    );
+    )?;
     show(
+        rt,
         b"3 by 3 squares under 1 at 2, 499; 6 by 6 origins from 499, 497",
         3,
         0,
@@ -203,8 +215,9 @@ fn parts() {
         499,
         &rotations,
         part_at(499, 497, 6, 6),
-    );
+    )?;
     show(
+        rt,
         b"12 by 12 squares under 0 at 17, 400; 100 by 100 origins from 18, 350, which do not hold it",
         12,
         0,
@@ -213,16 +226,17 @@ fn parts() {
         400,
         &rotations,
         part_at(18, 350, 100, 100),
-    );
+    )
 }
 
 // One origin, with one list position and with two. Of 8 edges 5 hits are found and 4 refused.
-fn one_origin() {
+fn one_origin(rt: &impl Print) -> io::Result<()> {
     let first = [0u8; 1];
     let two = [0u8, 3];
     let twice = [0u8; 2];
     let alone = part_at(17, 400, 1, 1);
     show(
+        rt,
         b"2 by 2 squares under 0 at 17, 400; one origin, one transform",
         2,
         0,
@@ -231,8 +245,9 @@ fn one_origin() {
         400,
         &first,
         alone,
-    );
+    )?;
     show(
+        rt,
         b"the same with 3 of its 8 bits turned",
         2,
         3,
@@ -241,8 +256,9 @@ fn one_origin() {
         400,
         &first,
         alone,
-    );
+    )?;
     show(
+        rt,
         b"the same with 4 of its 8 bits turned",
         2,
         4,
@@ -251,8 +267,9 @@ fn one_origin() {
         400,
         &first,
         alone,
-    );
+    )?;
     show(
+        rt,
         b"4 by 4 squares; one origin, transforms 0 and 3",
         4,
         0,
@@ -261,8 +278,9 @@ fn one_origin() {
         400,
         &two,
         alone,
-    );
+    )?;
     show(
+        rt,
         b"4 by 4 squares; one origin, transform 0 listed twice",
         4,
         0,
@@ -271,13 +289,14 @@ fn one_origin() {
         400,
         &twice,
         alone,
-    );
+    )
 }
 
 // The full part from three starts: the whole board's answer, but for the runner-up's place.
-fn full() {
+fn full(rt: &impl Print) -> io::Result<()> {
     let all = [0u8, 1, 2, 3, 4, 5, 6, 7];
     show(
+        rt,
         b"12 by 12 squares under 5 at 123, 456; all origins from 0, 0",
         12,
         2,
@@ -286,8 +305,9 @@ fn full() {
         456,
         &all,
         part_at(0, 0, 501, 501),
-    );
+    )?;
     show(
+        rt,
         b"the same; all origins from 124, 457",
         12,
         2,
@@ -296,8 +316,9 @@ fn full() {
         456,
         &all,
         part_at(124, 457, 501, 501),
-    );
+    )?;
     show(
+        rt,
         b"the same; all origins from 500, 250",
         12,
         2,
@@ -306,8 +327,9 @@ fn full() {
         456,
         &all,
         part_at(500, 250, 501, 501),
-    );
+    )?;
     show(
+        rt,
         b"one square under 0 at 17, 400; all origins from 500, 500",
         1,
         0,
@@ -316,12 +338,12 @@ fn full() {
         400,
         &all,
         part_at(500, 500, 501, 501),
-    );
+    )
 }
 
 // All runs.
-pub(crate) fn show_all() {
-    parts();
-    one_origin();
-    full();
+pub(crate) fn show_all(rt: &impl Print) -> io::Result<()> {
+    parts(rt)?;
+    one_origin(rt)?;
+    full(rt)
 }

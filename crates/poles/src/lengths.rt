@@ -3,6 +3,7 @@ use answer::StatsAnswer;
 use console::print::{print, print_form, print_long};
 use refusals::Admission;
 use slices::part::front_u8;
+use std::io;
 
 // More than any length of a table, and more room or rows than any asks for.
 const LENGTHS: usize = 511;
@@ -181,17 +182,19 @@ fn is_shown(length: usize) -> bool {
 }
 
 // The line of a length.
-fn show(length: usize, found: [u32; 8]) {
+fn show(rt: &impl Print, length: usize, found: [u32; 8]) -> io::Result<()> {
     if is_shown(length) {
-        print(b"length ");
-        print_long(length as u64);
+        print(rt, b"length ")?;
+        print_long(rt, length as u64)?;
         let none = [0.0f32; 1];
         print_form(
+            rt,
             b": %, hard from % u32 and % f32 on, soft from % u32, % f32 and % i64 on, % rows and % columns\n",
             &found,
             &none,
-        );
+        )?;
     }
+    Ok(())
 }
 
 // How many lengths are accepted, how many refused with 8, and a checksum over all that was found.
@@ -227,20 +230,21 @@ fn add(t: Totals, found: [u32; 8]) -> Totals {
 }
 
 // The totals, in a line.
-fn show_totals(t: Totals) {
+fn show_totals(rt: &impl Print, t: Totals) -> io::Result<()> {
     let wholes = [t.accepted, t.refused];
     let none = [0.0f32; 1];
     print_form(
+        rt,
         b"of the lengths from 0 to 510 % are accepted and % refused with 8; checksum ",
         &wholes,
         &none,
-    );
-    print_long(t.sum);
-    print(b"\n");
+    )?;
+    print_long(rt, t.sum)?;
+    print(rt, b"\n")
 }
 
 // Every length.
-pub(crate) fn show_all() {
+pub(crate) fn show_all(rt: &impl Print) -> io::Result<()> {
     let mut totals = Totals {
         accepted: 0,
         refused: 0,
@@ -248,8 +252,9 @@ pub(crate) fn show_all() {
     };
     for length in 0..LENGTHS {
         let found = all_of(length);
-        show(length, found);
+        show(rt, length, found)?;
         totals = add(totals, found);
     }
-    show_totals(totals);
+    show_totals(rt, totals)?;
+    Ok(())
 }

@@ -2,9 +2,10 @@
 // mismatch one of -4, the limit is 0.25, the four rotations are listed. The room is just enough, in arrays that hold 7 before.
 use console::print::{print, print_form};
 use runs::cut::{fill_patterns, front_f32, front_i32, front_u8, put_window};
+use runs::lent::{print_room, print_sums};
 use runs::print::{print_answer, print_soft_answer};
-use runs::room::{print_room, print_sums};
 use slices::part::{room_f32, room_i64, room_u32};
+use std::io;
 
 // What a pole of that length asks of the u32 and of the f32 room, and of the i64 room.
 fn tables_room(length: u16) -> usize {
@@ -17,6 +18,7 @@ fn sums_room(length: u16) -> usize {
 
 // Hard decode of the first n edges.
 fn show_hard<'a>(
+    rt: &impl Print,
     rows: &[i32; 8193],
     cols: &[i32; 8193],
     orientations: &[u8; 8193],
@@ -25,7 +27,7 @@ fn show_hard<'a>(
     h: &'a [u8],
     v: &'a [u8],
     room: usize,
-) {
+) -> io::Result<()> {
     let confidences = [0.5f32; 8193];
     let transforms = [0u8, 1, 2, 3];
     let mut counts = [7u32; 6007];
@@ -53,14 +55,15 @@ fn show_hard<'a>(
         room_u32(&mut counts, room),
         room_f32(&mut weights, room),
     );
-    print(b"  hard: ");
-    print_answer(answer);
-    print_room(&counts, &weights);
-    print(b"\n");
+    print(rt, b"  hard: ")?;
+    print_answer(rt, answer)?;
+    print_room(rt, &counts, &weights)?;
+    print(rt, b"\n")
 }
 
 // Soft decode of them.
 fn show_soft<'a>(
+    rt: &impl Print,
     rows: &[i32; 8193],
     cols: &[i32; 8193],
     orientations: &[u8; 8193],
@@ -70,7 +73,7 @@ fn show_soft<'a>(
     v: &'a [u8],
     room: usize,
     sums_room: usize,
-) {
+) -> io::Result<()> {
     let confidences = [0.5f32; 8193];
     let matches = [-0.125f32; 8193];
     let mismatches = [-4.0f32; 8193];
@@ -105,22 +108,31 @@ fn show_soft<'a>(
         room_f32(&mut weights, room),
         room_i64(&mut sums, sums_room),
     );
-    print(b"  soft: ");
-    print_soft_answer(answer);
-    print_room(&counts, &weights);
-    print_sums(&sums);
-    print(b"\n");
+    print(rt, b"  soft: ")?;
+    print_soft_answer(rt, answer)?;
+    print_room(rt, &counts, &weights)?;
+    print_sums(rt, &sums)?;
+    print(rt, b"\n")
 }
 
 // A window of so many squares cut at a placing of a pole of `cut` patterns, decoded as one of a pole of `length`: the front of the same table.
-fn show(squares: u8, cut: u16, length: u16, transform: u8, row: u32, col: u32) {
+fn show(
+    rt: &impl Print,
+    squares: u8,
+    cut: u16,
+    length: u16,
+    transform: u8,
+    row: u32,
+    col: u32,
+) -> io::Result<()> {
     let wholes = [cut as u32, transform as u32, row, col, length as u32];
     let none = [0.0f32; 1];
     print_form(
+        rt,
         b"cut from a pole of % under % at %, %, read as one of %\n",
         &wholes,
         &none,
-    );
+    )?;
     let mut h = [0u8; 500];
     let mut v = [0u8; 167];
     fill_patterns(&mut h, 1);
@@ -143,6 +155,7 @@ fn show(squares: u8, cut: u16, length: u16, transform: u8, row: u32, col: u32) {
     );
     let board = slices::part::front_u8(&h, length as usize);
     show_hard(
+        rt,
         &rows,
         &cols,
         &orientations,
@@ -151,8 +164,9 @@ fn show(squares: u8, cut: u16, length: u16, transform: u8, row: u32, col: u32) {
         board,
         &v,
         tables_room(length),
-    );
+    )?;
     show_soft(
+        rt,
         &rows,
         &cols,
         &orientations,
@@ -162,21 +176,21 @@ fn show(squares: u8, cut: u16, length: u16, transform: u8, row: u32, col: u32) {
         &v,
         tables_room(length),
         sums_room(length),
-    );
+    )
 }
 
 // The smallest poles, the largest, and those beside the flat board; then windows of one length read as another.
-pub(crate) fn show_all() {
-    show(10, 4, 4, 0, 11, 500);
-    show(10, 5, 5, 1, 0, 0);
-    show(10, 7, 7, 2, 20, 17);
-    show(10, 166, 166, 3, 497, 400);
-    show(10, 167, 167, 0, 500, 400);
-    show(10, 169, 169, 1, 506, 1);
-    show(10, 499, 499, 2, 0, 250);
-    show(10, 500, 500, 0, 1499, 500);
-    show(10, 500, 500, 0, 499, 500);
-    show(10, 166, 167, 0, 497, 400);
-    show(10, 167, 166, 0, 500, 400);
-    show(10, 4, 6, 0, 11, 500);
+pub(crate) fn show_all(rt: &impl Print) -> io::Result<()> {
+    show(rt, 10, 4, 4, 0, 11, 500)?;
+    show(rt, 10, 5, 5, 1, 0, 0)?;
+    show(rt, 10, 7, 7, 2, 20, 17)?;
+    show(rt, 10, 166, 166, 3, 497, 400)?;
+    show(rt, 10, 167, 167, 0, 500, 400)?;
+    show(rt, 10, 169, 169, 1, 506, 1)?;
+    show(rt, 10, 499, 499, 2, 0, 250)?;
+    show(rt, 10, 500, 500, 0, 1499, 500)?;
+    show(rt, 10, 500, 500, 0, 499, 500)?;
+    show(rt, 10, 166, 167, 0, 497, 400)?;
+    show(rt, 10, 167, 166, 0, 500, 400)?;
+    show(rt, 10, 4, 6, 0, 11, 500)
 }

@@ -5,7 +5,7 @@ use Rattle.board.specs.Hits.{EdgeList, Board}
 use Rattle.likelihood.specs.Likelihood.{Likelihoods}
 use Rattle.tables.specs.Built.{TablesReady}
 use Rattle.sums.specs.SumsRoom.{SumsReady}
-use Rattle.admission.specs.Calls.{SoftCall, soft_call}
+use Rattle.admission.specs.Calls.{soft_call}
 use Rattle.admission.specs.Accepted.{SoftAccepted}
 
 module _ (E : EdgeList) (X : Likelihoods) (t : ℕ) (B : Board) (limit margin : Float) (m n k : ℕ) (A : SoftAccepted (soft_call E E X (t ∷ []) B limit margin) m n k) where

@@ -3,6 +3,7 @@
 use console::form::put_wholes;
 use console::page::say;
 use slices::page::blank;
+use std::io;
 
 pub(crate) const LISTS: usize = 512;
 
@@ -20,31 +21,33 @@ pub(crate) fn add(tally: &mut [u32; 516], at: usize, n: u32) {
 }
 
 // A form with its numbers.
-pub(crate) fn say_wholes(form: &[u8], wholes: &[u32]) {
+pub(crate) fn say_wholes(rt: &impl Print, form: &[u8], wholes: &[u32]) -> io::Result<()> {
     let mut page = blank();
     let n = put_wholes(&mut page, 0, form, wholes);
-    say(&page, n);
+    say(rt, &page, n)
 }
 
 // One length of a horizontal table, where there are lists with one.
-fn show_length(tally: &[u32; 516], length: usize) {
+fn show_length(rt: &impl Print, tally: &[u32; 516], length: usize) -> io::Result<()> {
     if length < 512 {
         let n = tally[length];
         if n != 0 {
             let wholes = [length as u32, n];
-            say_wholes(b"horizontal tables of %: % lists\n", &wholes);
+            say_wholes(rt, b"horizontal tables of %: % lists\n", &wholes)?;
         }
     }
+    Ok(())
 }
 
 // All lengths, and the totals.
-pub(crate) fn show(tally: &[u32; 516]) {
+pub(crate) fn show(rt: &impl Print, tally: &[u32; 516]) -> io::Result<()> {
     for length in 0..512 {
-        show_length(tally, length);
+        show_length(rt, tally, length)?;
     }
     let wholes = [tally[LISTS], tally[CELLS], tally[DIFFER], tally[REFUSED]];
     say_wholes(
+        rt,
         b"% lists, % cells with counts, weights and sums, % lists differ, % are refused\n",
         &wholes,
-    );
+    )
 }

@@ -2,6 +2,10 @@
 // 3 match statistics of the physical list, 4 hard selection on the logical list before the gate, 5 exact decode, 6 the logical list located without tables.
 use crate::calls::{Lengths, Room, Settings, call};
 use crate::tally::{compare, show};
+use std::env::Env;
+use std::io;
+use std::io::Read;
+use std::rt::Files;
 use wordfile::columns::{
     FIFTH, FIRST, FOURTH, SECOND, SEVENTH, SIXTH, THIRD, read_f32, read_list, read_u8,
 };
@@ -24,17 +28,17 @@ pub struct Roomy {
 }
 
 // Three lengths.
-fn read_room(buf: &mut [u8; 65536], c: Cursor) -> Roomy {
-    let a = next_word(buf, c);
-    let b = next_word(buf, a.next);
-    let d = next_word(buf, b.next);
+fn read_room(file: &mut impl Read, buf: &mut [u8; 65536], c: Cursor) -> io::Result<Roomy> {
+    let a = next_word(file, buf, c)?;
+    let b = next_word(file, buf, a.next)?;
+    let d = next_word(file, buf, b.next)?;
     let room = Room {
         counts: a.value as usize,
         weights: b.value as usize,
         sums: d.value as usize,
     };
     let next = d.next;
-    Roomy { room, next }
+    Ok(Roomy { room, next })
 }
 
 // The settings of a call, and where the next word stands.
@@ -45,12 +49,12 @@ pub struct Set {
 }
 
 // Limit, margin, transform, row and column.
-fn read_settings(buf: &mut [u8; 65536], c: Cursor) -> Set {
-    let limit = next_word(buf, c);
-    let margin = next_word(buf, limit.next);
-    let transform = next_word(buf, margin.next);
-    let row = next_word(buf, transform.next);
-    let col = next_word(buf, row.next);
+fn read_settings(file: &mut impl Read, buf: &mut [u8; 65536], c: Cursor) -> io::Result<Set> {
+    let limit = next_word(file, buf, c)?;
+    let margin = next_word(file, buf, limit.next)?;
+    let transform = next_word(file, buf, margin.next)?;
+    let row = next_word(file, buf, transform.next)?;
+    let col = next_word(file, buf, row.next)?;
     let settings = Settings {
         limit: float(limit.value),
         margin: float(margin.value),
@@ -59,7 +63,7 @@ fn read_settings(buf: &mut [u8; 65536], c: Cursor) -> Set {
         col: col.value,
     };
     let next = col.next;
-    Set { settings, next }
+    Ok(Set { settings, next })
 }
 
 // The seventeen words of an answer, and where the next word stands.
@@ -70,19 +74,21 @@ pub struct Expected {
 }
 
 // An answer.
-fn read_answer(buf: &mut [u8; 65536], c: Cursor) -> Expected {
+fn read_answer(file: &mut impl Read, buf: &mut [u8; 65536], c: Cursor) -> io::Result<Expected> {
     let mut words = [0u32; 17];
     let mut next = c;
     for i in 0..17 {
-        let w = next_word(buf, next);
+        let w = next_word(file, buf, next)?;
         next = w.next;
         words[i] = w.value;
     }
-    Expected { words, next }
+    Ok(Expected { words, next })
 }
 
 // A call: it is read, made, and its answer compared with the stored one.
 fn entry(
+    rt: &impl Print,
+    file: &mut impl Read,
     buf: &mut [u8; 65536],
     place: Place,
     c: Cursor,
@@ -92,15 +98,15 @@ fn entry(
     bytes: &mut [u8; 57351],
     floats: &mut [f32; 32772],
     tally: &mut [u32; 132],
-) -> Cursor {
-    let room = read_room(buf, c);
-    let l = read_list(buf, room.next, wholes, bytes, floats, FIRST, FIRST);
-    let p = read_list(buf, l.next, wholes, bytes, floats, THIRD, SECOND);
-    let m = read_f32(buf, p.next, floats, THIRD);
-    let mm = read_f32(buf, m.next, floats, FOURTH);
-    let t = read_u8(buf, mm.next, bytes, FIFTH);
-    let s = read_settings(buf, t.next);
-    let expected = read_answer(buf, s.next);
+) -> io::Result<Cursor> {
+    let room = read_room(file, buf, c)?;
+    let l = read_list(file, buf, room.next, wholes, bytes, floats, FIRST, FIRST)?;
+    let p = read_list(file, buf, l.next, wholes, bytes, floats, THIRD, SECOND)?;
+    let m = read_f32(file, buf, p.next, floats, THIRD)?;
+    let mm = read_f32(file, buf, m.next, floats, FOURTH)?;
+    let t = read_u8(file, buf, mm.next, bytes, FIFTH)?;
+    let s = read_settings(file, buf, t.next)?;
+    let expected = read_answer(file, buf, s.next)?;
     let lengths = Lengths {
         matches: m.n,
         mismatches: mm.n,
@@ -112,12 +118,14 @@ fn entry(
         kind, l.sizes, p.sizes, lengths, s.settings, room.room, wholes, bytes, floats,
     );
     let stored = expected.words;
-    compare(at, kind, stored, got, tally);
-    expected.next
+    compare(rt, at, kind, stored, got, tally)?;
+    Ok(expected.next)
 }
 
 // One entry: two tables, or a call.
 fn step(
+    rt: &impl Print,
+    file: &mut impl Read,
     buf: &mut [u8; 65536],
     place: Place,
     at: u32,
@@ -125,41 +133,43 @@ fn step(
     bytes: &mut [u8; 57351],
     floats: &mut [f32; 32772],
     tally: &mut [u32; 132],
-) -> Place {
-    let kind = next_word(buf, place.next);
+) -> io::Result<Place> {
+    let kind = next_word(file, buf, place.next)?;
     if kind.value == 0 {
-        let a = read_u8(buf, kind.next, bytes, SIXTH);
-        let b = read_u8(buf, a.next, bytes, SEVENTH);
+        let a = read_u8(file, buf, kind.next, bytes, SIXTH)?;
+        let b = read_u8(file, buf, a.next, bytes, SEVENTH)?;
         let next = b.next;
-        return Place {
+        return Ok(Place {
             next,
             h: a.n,
             v: b.n,
-        };
+        });
     }
     let next = entry(
-        buf, place, kind.next, at, kind.value, wholes, bytes, floats, tally,
-    );
-    Place {
+        rt, file, buf, place, kind.next, at, kind.value, wholes, bytes, floats, tally,
+    )?;
+    Ok(Place {
         next,
         h: place.h,
         v: place.v,
-    }
+    })
 }
 
 // All entries of an open file.
-fn run(fd: i32) {
-    let mut buf = io::large_buffer();
+fn run(rt: &impl Print, file: &mut impl Read) -> io::Result<()> {
+    let mut buf = [0u8; 65536];
     let mut wholes = [0i32; 32772];
     let mut bytes = [0u8; 57351];
     let mut floats = [0.0f32; 32772];
     let mut tally = [0u32; 132];
-    let start = Cursor { fd, at: 0, len: 0 };
-    let head = next_word(&mut buf, start);
+    let start = Cursor { at: 0, len: 0 };
+    let head = next_word(file, &mut buf, start)?;
     let next = head.next;
     let mut place = Place { next, h: 0, v: 0 };
     for at in 0..head.value {
         place = step(
+            rt,
+            file,
             &mut buf,
             place,
             at,
@@ -167,17 +177,13 @@ fn run(fd: i32) {
             &mut bytes,
             &mut floats,
             &mut tally,
-        );
+        )?;
     }
-    show(&tally);
+    show(rt, &tally)
 }
 
 // The file that argument i names.
-pub(crate) fn run_file(i: usize) {
-    let fd = open_named(i);
-    if fd < 0 {
-        return;
-    }
-    run(fd);
-    libc::close(fd);
+pub(crate) fn run_file<R: Print + Env + Files>(rt: &R, i: usize) -> io::Result<()> {
+    let mut file = open_named(rt, i)?;
+    run(rt, &mut file)
 }

@@ -3,6 +3,7 @@
 use console::form::{put_form, put_wholes};
 use console::page::{put_word, say};
 use slices::page::{blank, put, put_byte};
+use std::io;
 
 // One more at a place.
 fn bump(tally: &mut [u32; 132], at: usize) {
@@ -18,7 +19,14 @@ fn name_of(kind: u32, i: usize) -> u32 {
 }
 
 // A word that differs, by its name.
-fn print_difference(at: u32, kind: u32, i: usize, theirs: u32, ours: u32) {
+fn print_difference(
+    rt: &impl Print,
+    at: u32,
+    kind: u32,
+    i: usize,
+    theirs: u32,
+    ours: u32,
+) -> io::Result<()> {
     let mut page = blank();
     let wholes = [at, name_of(kind, i)];
     let none = [0.0f32; 1];
@@ -38,21 +46,27 @@ fn print_difference(at: u32, kind: u32, i: usize, theirs: u32, ours: u32) {
     let n = put(&mut page, n, b", ours ");
     let n = put_word(&mut page, n, ours);
     let n = put_byte(&mut page, n, b'\n');
-    say(&page, n);
+    say(rt, &page, n)
 }
 
 // Whether no word differs; each that does is written.
-fn same_words(at: u32, kind: u32, theirs: [u32; 17], ours: [u32; 17]) -> bool {
+fn same_words(
+    rt: &impl Print,
+    at: u32,
+    kind: u32,
+    theirs: [u32; 17],
+    ours: [u32; 17],
+) -> io::Result<bool> {
     let mut same = true;
     for i in 0..17 {
         let x = theirs[i];
         let y = ours[i];
         if x != y {
-            print_difference(at, kind, i, x, y);
+            print_difference(rt, at, kind, i, x, y)?;
             same = false;
         }
     }
-    same
+    Ok(same)
 }
 
 // The stored answer, where it says 13 or 15 (1315) and ours is one of them: ours.
@@ -77,12 +91,13 @@ fn place_of(kind: u32, number: u32) -> usize {
 
 // A call's stored answer and ours.
 pub(crate) fn compare(
+    rt: &impl Print,
     at: u32,
     kind: u32,
     theirs: [u32; 17],
     ours: [u32; 17],
     tally: &mut [u32; 132],
-) {
+) -> io::Result<()> {
     let first = theirs[0];
     let number = settled(first, ours[0]);
     let mut stored = theirs;
@@ -92,9 +107,10 @@ pub(crate) fn compare(
     }
     bump(tally, 0);
     bump(tally, place_of(kind, number));
-    if !same_words(at, kind, stored, ours) {
+    if !same_words(rt, at, kind, stored, ours)? {
         bump(tally, 1);
     }
+    Ok(())
 }
 
 // The count at a place; 0 where there is none.
@@ -112,7 +128,7 @@ fn put_refused(page: &mut [u8; 32768], at: usize, count: u32, number: u32) -> us
 }
 
 // One kind of call: how many were found, and how many refused with each number.
-fn show_kind(tally: &[u32; 132], kind: u32) {
+fn show_kind(rt: &impl Print, tally: &[u32; 132], kind: u32) -> io::Result<()> {
     let mut page = blank();
     let found = [kind, count_at(tally, place_of(kind, 0))];
     let none = [0.0f32; 1];
@@ -133,13 +149,13 @@ fn show_kind(tally: &[u32; 132], kind: u32) {
         );
     }
     n = put_byte(&mut page, n, b'\n');
-    say(&page, n);
+    say(rt, &page, n)
 }
 
 // All kinds, and the sums.
-pub(crate) fn show(tally: &[u32; 132]) {
+pub(crate) fn show(rt: &impl Print, tally: &[u32; 132]) -> io::Result<()> {
     for kind in 1..7u32 {
-        show_kind(tally, kind);
+        show_kind(rt, tally, kind)?;
     }
     let mut page = blank();
     let wholes = [tally[2], tally[0], tally[1]];
@@ -149,5 +165,5 @@ pub(crate) fn show(tally: &[u32; 132]) {
         b"% cases are stored as 13 or 15\n% cases, % differ\n",
         &wholes,
     );
-    say(&page, n);
+    say(rt, &page, n)
 }

@@ -8,28 +8,30 @@ use console::print::{print, print_form, print_long, print_number};
 use exact_answer::{ExactAnswer, ExactDecoded};
 use refusals::{Admission, ListName, Place, Refusal};
 use slices::page::blank;
+use std::io;
 
 // Line k of a text, counted from 0.
-pub fn print_line(lines: &[u8], k: u32) {
+pub fn print_line(rt: &impl Print, lines: &[u8], k: u32) -> io::Result<()> {
     let mut page = blank();
     let n = put_line(&mut page, 0, lines, k);
-    say(&page, n);
+    say(rt, &page, n)
 }
 
 // n in decimal digits, with its sign.
-pub fn print_whole(n: i64)
+pub fn print_whole(rt: &impl Print, n: i64) -> io::Result<()>
     requires { unsigned_abs n ≤ 2 ^ 53 }
 {
     if n < 0 {
-        print(b"-");
-        print_long((0 - n) as u64);
+        print(rt, b"-")?;
+        print_long(rt, (0 - n) as u64)?;
     } else {
-        print_long(n as u64);
+        print_long(rt, n as u64)?;
     }
+    Ok(())
 }
 
 // What a found hard answer holds.
-fn print_found(d: Decoded) {
+fn print_found(rt: &impl Print, d: Decoded) -> io::Result<()> {
     let square = d.square;
     let runner = d.runner_up;
     let wholes = [
@@ -51,15 +53,16 @@ fn print_found(d: Decoded) {
         d.best_score,
     ];
     print_form(
+        rt,
         b"found transform % row % column %, hits % of %, weighted ^, rate ^, mean ^, best ^, margin % hits, \
         runner-up transform % row % column % with % hits",
         &wholes,
         &floats,
-    );
+    )
 }
 
 // What a found soft answer holds.
-fn print_soft_found(d: SoftDecoded) {
+fn print_soft_found(rt: &impl Print, d: SoftDecoded) -> io::Result<()> {
     let square = d.square;
     let second = d.second;
     let runner = d.runner_up;
@@ -86,15 +89,16 @@ fn print_soft_found(d: SoftDecoded) {
         d.second_score,
     ];
     print_form(
+        rt,
         b"found transform % row % column %, hits % of %, weighted ^, rate ^, mean ^, best ^, margin ^, \
         second transform % row % column % with ^, runner-up transform % row % column % with % hits",
         &wholes,
         &floats,
-    );
+    )
 }
 
 // What a found exact answer holds: weights in units.
-fn print_exact_found(d: ExactDecoded) {
+fn print_exact_found(rt: &impl Print, d: ExactDecoded) -> io::Result<()> {
     let square = d.square;
     let runner = d.runner_up;
     let wholes = [
@@ -106,13 +110,14 @@ fn print_exact_found(d: ExactDecoded) {
     ];
     let floats = [d.error_rate];
     print_form(
+        rt,
         b"found transform % row % column %, hits % of %, rate ^, weight ",
         &wholes,
         &floats,
-    );
-    print_long(d.weight);
-    print(b" of ");
-    print_long(d.total);
+    )?;
+    print_long(rt, d.weight)?;
+    print(rt, b" of ")?;
+    print_long(rt, d.total)?;
     let others = [
         runner.transform as u32,
         runner.row,
@@ -121,80 +126,88 @@ fn print_exact_found(d: ExactDecoded) {
     ];
     let none = [0.0f32; 1];
     print_form(
+        rt,
         b", runner-up transform % row % column % with % hits, weight ",
         &others,
         &none,
-    );
-    print_long(d.runner_up_weight);
+    )?;
+    print_long(rt, d.runner_up_weight)
 }
 
 // The edge that a refusal is about, where it is about one: its list, and its position from 0.
-fn print_place(place: Place) {
+fn print_place(rt: &impl Print, place: Place) -> io::Result<()> {
     if let Place::At(edge) = place {
         let list = edge.list;
         match list {
-            ListName::Logical => print(b" (logical list, position "),
-            ListName::Physical => print(b" (physical list, position "),
-            ListName::Only => print(b" (only list, position "),
+            ListName::Logical => print(rt, b" (logical list, position ")?,
+            ListName::Physical => print(rt, b" (physical list, position ")?,
+            ListName::Only => print(rt, b" (only list, position ")?,
         }
-        print_number(edge.position);
-        print(b")");
+        print_number(rt, edge.position)?;
+        print(rt, b")")?;
     }
+    Ok(())
 }
 
 // A refusal's number and its place.
-fn print_number_and_place(refusal: Refusal) {
-    print_number(refusal.number);
+fn print_number_and_place(rt: &impl Print, refusal: Refusal) -> io::Result<()> {
+    print_number(rt, refusal.number)?;
     let place = refusal.place;
-    print_place(place);
+    print_place(rt, place)
 }
 
 // A refusal: its number and its place.
-fn print_refused(refusal: Refusal) {
-    print(b"refused ");
-    print_number_and_place(refusal);
+fn print_refused(rt: &impl Print, refusal: Refusal) -> io::Result<()> {
+    print(rt, b"refused ")?;
+    print_number_and_place(rt, refusal)
 }
 
 // All that hard decode answers; a refusal is its number and its place alone.
-pub fn print_answer(a: Answer) {
+pub fn print_answer(rt: &impl Print, a: Answer) -> io::Result<()> {
     match a {
-        Answer::Found(d) => print_found(d),
-        Answer::Refused(r) => print_refused(r),
+        Answer::Found(d) => print_found(rt, d),
+        Answer::Refused(r) => print_refused(rt, r),
     }
 }
 
 // The same of soft decode.
-pub fn print_soft_answer(a: SoftAnswer) {
+pub fn print_soft_answer(rt: &impl Print, a: SoftAnswer) -> io::Result<()> {
     match a {
-        SoftAnswer::Found(d) => print_soft_found(d),
-        SoftAnswer::Refused(r) => print_refused(r),
+        SoftAnswer::Found(d) => print_soft_found(rt, d),
+        SoftAnswer::Refused(r) => print_refused(rt, r),
     }
 }
 
 // The same of exact decode.
-pub fn print_exact_answer(a: ExactAnswer) {
+pub fn print_exact_answer(rt: &impl Print, a: ExactAnswer) -> io::Result<()> {
     match a {
-        ExactAnswer::Found(d) => print_exact_found(d),
-        ExactAnswer::Refused(r) => print_refused(r),
+        ExactAnswer::Found(d) => print_exact_found(rt, d),
+        ExactAnswer::Refused(r) => print_refused(rt, r),
     }
 }
 
 // What the checks say of a call: the number of its refusal and its place, or 0 where it is accepted.
-pub fn print_admission(a: Admission) {
+pub fn print_admission(rt: &impl Print, a: Admission) -> io::Result<()> {
     match a {
-        Admission::Accepted => print_number(0),
-        Admission::Refused(r) => print_number_and_place(r),
+        Admission::Accepted => print_number(rt, 0),
+        Admission::Refused(r) => print_number_and_place(rt, r),
     }
 }
 
 // What match statistics answer.
-pub fn print_stats(s: StatsAnswer) {
+pub fn print_stats(rt: &impl Print, s: StatsAnswer) -> io::Result<()> {
     match s {
         StatsAnswer::Counted(m) => {
             let wholes = [m.edges, m.hits];
             let floats = [m.error_rate, m.mean_confidence];
-            print_form(b"counted edges=% hits=% rate=^ mean=^", &wholes, &floats);
+            print_form(
+                rt,
+                b"counted edges=% hits=% rate=^ mean=^",
+                &wholes,
+                &floats,
+            )?;
         }
-        StatsAnswer::Refused(r) => print_refused(r),
+        StatsAnswer::Refused(r) => print_refused(rt, r)?,
     }
+    Ok(())
 }

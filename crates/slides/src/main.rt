@@ -1,12 +1,15 @@
 // A window slid by rows and columns, request C-21: the square that the camera faces slides by the transformed shift, negated. What it writes is held to the file `stdout`.
+#![tactic(auto)]
+
 mod slid; // windows cut from a board, and slid
 
 use console::print::print;
 use slid::show_all;
+use std::io;
 
-fn main() {
-    print(b"== the flat board ==\n");
-    show_all(167, 499, 3);
-    print(b"== a pole of 100 ==\n");
-    show_all(100, 1, 500);
+fn main(rt: HostRuntime) -> io::Result<()> {
+    print(&rt, b"== the flat board ==\n")?;
+    show_all(&rt, 167, 499, 3)?;
+    print(&rt, b"== a pole of 100 ==\n")?;
+    show_all(&rt, 100, 1, 500)
 }

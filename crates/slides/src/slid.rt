@@ -3,6 +3,7 @@
 use answer::{Answer, Decoded};
 use console::print::{print, print_form, print_number};
 use runs::cut::{fill_patterns, front_f32, front_i32, front_u8, put_window};
+use std::io;
 use wordfile::words::signed;
 
 // A coordinate moved by a number that is given as its word, by two's complement.
@@ -19,7 +20,7 @@ fn slide(rows: &mut [i32; 8193], cols: &mut [i32; 8193], down: u32, right: u32) 
 }
 
 // What a found answer says that slides, and what stays.
-fn print_found(d: Decoded) {
+fn print_found(rt: &impl Print, d: Decoded) -> io::Result<()> {
     let square = d.square;
     let wholes = [
         square.transform as u32,
@@ -30,22 +31,24 @@ fn print_found(d: Decoded) {
     ];
     let none = [0.0f32; 1];
     print_form(
+        rt,
         b"transform % row % column %, hits %, runner-up hits %\n",
         &wholes,
         &none,
-    );
+    )
 }
 
 // The answer, in one line.
-fn print_answer(answer: Answer) {
+fn print_answer(rt: &impl Print, answer: Answer) -> io::Result<()> {
     match answer {
-        Answer::Found(d) => print_found(d),
+        Answer::Found(d) => print_found(rt, d)?,
         Answer::Refused(r) => {
-            print(b"refused: ");
-            print_number(r.number);
-            print(b"\n");
+            print(rt, b"refused: ")?;
+            print_number(rt, r.number)?;
+            print(rt, b"\n")?;
         }
     }
+    Ok(())
 }
 
 // Hard decode of the first n edges.
@@ -88,7 +91,16 @@ fn decode<'a>(
 }
 
 // A window cut at a placing and slid so many rows down and columns to the right, with the shift in words of its own.
-fn show(length: u16, transform: u8, row: u32, col: u32, shift: &[u8], down: u32, right: u32) {
+fn show(
+    rt: &impl Print,
+    length: u16,
+    transform: u8,
+    row: u32,
+    col: u32,
+    shift: &[u8],
+    down: u32,
+    right: u32,
+) -> io::Result<()> {
     let mut h = [0u8; 167];
     let mut v = [0u8; 167];
     fill_patterns(&mut h, 1);
@@ -111,28 +123,47 @@ fn show(length: u16, transform: u8, row: u32, col: u32, shift: &[u8], down: u32,
         col,
     );
     slide(&mut rows, &mut cols, down, right);
-    print(b"  slid by ");
-    print(shift);
-    print(b": ");
-    print_answer(decode(&rows, &cols, &orientations, &bits, n, board, &v));
+    print(rt, b"  slid by ")?;
+    print(rt, shift)?;
+    print(rt, b": ")?;
+    print_answer(rt, decode(&rows, &cols, &orientations, &bits, n, board, &v))
 }
 
 // One transform, with shifts past both seams and below zero.
-fn show_shifts(length: u16, transform: u8, row: u32, col: u32) {
+fn show_shifts(rt: &impl Print, length: u16, transform: u8, row: u32, col: u32) -> io::Result<()> {
     let wholes = [transform as u32, row, col];
     let none = [0.0f32; 1];
-    print_form(b"cut under % at %, %\n", &wholes, &none);
-    show(length, transform, row, col, b"0, 0", 0, 0);
-    show(length, transform, row, col, b"1, -2", 1, 4294967294);
-    show(length, transform, row, col, b"-3, 5", 4294967293, 5);
-    show(length, transform, row, col, b"250, 251", 250, 251);
-    show(length, transform, row, col, b"501, -501", 501, 4294966795);
-    show(length, transform, row, col, b"-1000, 999", 4294966296, 999);
+    print_form(rt, b"cut under % at %, %\n", &wholes, &none)?;
+    show(rt, length, transform, row, col, b"0, 0", 0, 0)?;
+    show(rt, length, transform, row, col, b"1, -2", 1, 4294967294)?;
+    show(rt, length, transform, row, col, b"-3, 5", 4294967293, 5)?;
+    show(rt, length, transform, row, col, b"250, 251", 250, 251)?;
+    show(
+        rt,
+        length,
+        transform,
+        row,
+        col,
+        b"501, -501",
+        501,
+        4294966795,
+    )?;
+    show(
+        rt,
+        length,
+        transform,
+        row,
+        col,
+        b"-1000, 999",
+        4294966296,
+        999,
+    )
 }
 
 // All eight.
-pub(crate) fn show_all(length: u16, row: u32, col: u32) {
+pub(crate) fn show_all(rt: &impl Print, length: u16, row: u32, col: u32) -> io::Result<()> {
     for transform in 0..8 {
-        show_shifts(length, transform, row, col);
+        show_shifts(rt, length, transform, row, col)?;
     }
+    Ok(())
 }

@@ -3,6 +3,7 @@ use answer::Square;
 use board::edge::Edge;
 use console::print::{print, print_form};
 use runs::cut::fill_patterns;
+use std::io;
 use tally::{Tally, TallyAnswer};
 
 // A number that looks random, below 2^31, after x.
@@ -259,7 +260,14 @@ fn run(length: usize, square: Square, seed: u64) -> Course {
 }
 
 // A run and how it went.
-fn show_run(length: usize, transform: u8, row: u32, col: u32, seed: u64) {
+fn show_run(
+    rt: &impl Print,
+    length: usize,
+    transform: u8,
+    row: u32,
+    col: u32,
+    seed: u64,
+) -> io::Result<()> {
     let course = run(
         length,
         Square {
@@ -272,22 +280,23 @@ fn show_run(length: usize, transform: u8, row: u32, col: u32, seed: u64) {
     let wholes = [course.kept, course.refused, course.wrong];
     let none = [0.0f32; 1];
     print_form(
+        rt,
         b"400 edits: % kept, % refused, % records that differ from the recount; the last: ",
         &wholes,
         &none,
-    );
+    )?;
     let last = course.tally;
-    crate::show::print_tally(TallyAnswer::Kept(last));
+    crate::show::print_tally(rt, TallyAnswer::Kept(last))
 }
 
 // All runs.
-pub(crate) fn show_all() {
-    print(b"the flat board\n");
-    show_run(167, 0, 17, 400, 1);
-    show_run(167, 3, 166, 167, 2);
-    show_run(167, 5, 123, 456, 3);
-    print(b"a pole of 4\n");
-    show_run(4, 1, 11, 500, 4);
-    print(b"a pole of 500\n");
-    show_run(500, 6, 1499, 500, 5);
+pub(crate) fn show_all(rt: &impl Print) -> io::Result<()> {
+    print(rt, b"the flat board\n")?;
+    show_run(rt, 167, 0, 17, 400, 1)?;
+    show_run(rt, 167, 3, 166, 167, 2)?;
+    show_run(rt, 167, 5, 123, 456, 3)?;
+    print(rt, b"a pole of 4\n")?;
+    show_run(rt, 4, 1, 11, 500, 4)?;
+    print(rt, b"a pole of 500\n")?;
+    show_run(rt, 500, 6, 1499, 500, 5)
 }

@@ -1,13 +1,16 @@
 // Runs of the tally, request C-17: edits in a row, each beside a recount from nothing, and every refusal in its order. Each section is headed by its name. What it writes is held to the file `stdout`.
+#![tactic(auto)]
+
 mod edits; // many edits in a row, each beside a recount
 mod refused; // every refusal, and the order of two
 mod show; // a record and an answer in words
 
 use console::print::print;
+use std::io;
 
-fn main() {
-    print(b"== edits in a row ==\n");
-    edits::show_all();
-    print(b"== refusals ==\n");
-    refused::show_all();
+fn main(rt: HostRuntime) -> io::Result<()> {
+    print(&rt, b"== edits in a row ==\n")?;
+    edits::show_all(&rt)?;
+    print(&rt, b"== refusals ==\n")?;
+    refused::show_all(&rt)
 }

@@ -3,6 +3,7 @@ use answer::Square;
 use board::edge::Edge;
 use console::print::print;
 use runs::cut::fill_patterns;
+use std::io;
 use tally::{Tally, TallyAnswer};
 
 // A record of the flat board at row 17, column 400 under a transform.
@@ -32,7 +33,14 @@ fn edge(row: i32, orientation: u8, bit: u8) -> Edge {
 }
 
 // An edge added to the list.
-fn show_add(name: &[u8], tally: Tally, added: Edge, confidence: f32, length: usize) {
+fn show_add(
+    rt: &impl Print,
+    name: &[u8],
+    tally: Tally,
+    added: Edge,
+    confidence: f32,
+    length: usize,
+) -> io::Result<()> {
     let mut h = [0u8; 167];
     let mut v = [0u8; 167];
     fill_patterns(&mut h, 1);
@@ -42,23 +50,33 @@ fn show_add(name: &[u8], tally: Tally, added: Edge, confidence: f32, length: usi
     let mut orientations = [0u8, 0, 1, 0];
     let mut bits = [0u8, 1, 0, 0];
     let mut confidences = [1.0f32; 4];
-    print(name);
-    crate::show::print_tally(tally_add::tally_add(
-        &mut rows,
-        &mut cols,
-        &mut orientations,
-        &mut bits,
-        &mut confidences,
-        tally,
-        added,
-        confidence,
-        slices::part::front_u8(&h, length),
-        &v,
-    ));
+    print(rt, name)?;
+    crate::show::print_tally(
+        rt,
+        tally_add::tally_add(
+            &mut rows,
+            &mut cols,
+            &mut orientations,
+            &mut bits,
+            &mut confidences,
+            tally,
+            added,
+            confidence,
+            slices::part::front_u8(&h, length),
+            &v,
+        ),
+    )
 }
 
 // The same, where the slice of bits has three places.
-fn show_short(name: &[u8], tally: Tally, added: Edge, confidence: f32, length: usize) {
+fn show_short(
+    rt: &impl Print,
+    name: &[u8],
+    tally: Tally,
+    added: Edge,
+    confidence: f32,
+    length: usize,
+) -> io::Result<()> {
     let mut h = [0u8; 167];
     let mut v = [0u8; 167];
     fill_patterns(&mut h, 1);
@@ -68,30 +86,34 @@ fn show_short(name: &[u8], tally: Tally, added: Edge, confidence: f32, length: u
     let mut orientations = [0u8, 0, 1, 0];
     let mut bits = [0u8, 1, 0];
     let mut confidences = [1.0f32; 4];
-    print(name);
-    crate::show::print_tally(tally_add::tally_add(
-        &mut rows,
-        &mut cols,
-        &mut orientations,
-        &mut bits,
-        &mut confidences,
-        tally,
-        added,
-        confidence,
-        slices::part::front_u8(&h, length),
-        &v,
-    ));
+    print(rt, name)?;
+    crate::show::print_tally(
+        rt,
+        tally_add::tally_add(
+            &mut rows,
+            &mut cols,
+            &mut orientations,
+            &mut bits,
+            &mut confidences,
+            tally,
+            added,
+            confidence,
+            slices::part::front_u8(&h, length),
+            &v,
+        ),
+    )
 }
 
 // An edge of the list removed, then flipped; its first edge has an orientation and a confidence.
 fn show_named(
+    rt: &impl Print,
     name: &[u8],
     tally: Tally,
     position: u32,
     orientation: u8,
     confidence: f32,
     length: usize,
-) {
+) -> io::Result<()> {
     let mut h = [0u8; 167];
     let mut v = [0u8; 167];
     fill_patterns(&mut h, 1);
@@ -102,182 +124,228 @@ fn show_named(
     let mut bits = [0u8, 1, 0, 0];
     let mut confidences = [confidence; 4];
     let board = slices::part::front_u8(&h, length);
-    print(name);
-    crate::show::print_tally(tally_flip::tally_flip(
-        &rows,
-        &cols,
-        &orientations,
-        &mut bits,
-        &confidences,
-        tally,
-        position,
-        board,
-        &v,
-    ));
-    print(name);
-    crate::show::print_tally(tally_remove::tally_remove(
-        &mut rows,
-        &mut cols,
-        &mut orientations,
-        &mut bits,
-        &mut confidences,
-        tally,
-        position,
-        board,
-        &v,
-    ));
+    print(rt, name)?;
+    crate::show::print_tally(
+        rt,
+        tally_flip::tally_flip(
+            &rows,
+            &cols,
+            &orientations,
+            &mut bits,
+            &confidences,
+            tally,
+            position,
+            board,
+            &v,
+        ),
+    )?;
+    print(rt, name)?;
+    crate::show::print_tally(
+        rt,
+        tally_remove::tally_remove(
+            &mut rows,
+            &mut cols,
+            &mut orientations,
+            &mut bits,
+            &mut confidences,
+            tally,
+            position,
+            board,
+            &v,
+        ),
+    )
 }
 
 // The order of an addition's refusals, each with all that come after it bad too.
-fn adding() {
+fn adding(rt: &impl Print) -> io::Result<()> {
     let bad = edge(2000000, 2, 2);
     show_short(
+        rt,
         b"2: slices differ: ",
         record(8, 501, 5, 1, 1, 1),
         bad,
         1.5,
         3,
-    );
+    )?;
     show_add(
+        rt,
         b"24: longer than the slices: ",
         record(8, 501, 5, 2, 2, 1),
         bad,
         1.5,
         3,
-    );
+    )?;
     show_add(
+        rt,
         b"24: counts do not add up: ",
         record(8, 501, 4, 1, 1, 1),
         bad,
         1.5,
         3,
-    );
+    )?;
     show_add(
+        rt,
         b"24: counts that add up to 2^32 + 3: ",
         record(8, 501, 3, 4294967295, 4, 0),
         bad,
         1.5,
         3,
-    );
-    show_add(b"3: full slices: ", record(8, 501, 4, 1, 2, 1), bad, 1.5, 3);
-    show_add(b"4: coordinate: ", record(8, 501, 3, 1, 1, 1), bad, 1.5, 3);
+    )?;
     show_add(
+        rt,
+        b"3: full slices: ",
+        record(8, 501, 4, 1, 2, 1),
+        bad,
+        1.5,
+        3,
+    )?;
+    show_add(
+        rt,
+        b"4: coordinate: ",
+        record(8, 501, 3, 1, 1, 1),
+        bad,
+        1.5,
+        3,
+    )?;
+    show_add(
+        rt,
         b"16: orientation: ",
         record(8, 501, 3, 1, 1, 1),
         edge(0, 2, 2),
         1.5,
         3,
-    );
+    )?;
     show_add(
+        rt,
         b"17: bit: ",
         record(8, 501, 3, 1, 1, 1),
         edge(0, 1, 2),
         1.5,
         3,
-    );
+    )?;
     show_add(
+        rt,
         b"5: confidence: ",
         record(8, 501, 3, 1, 1, 1),
         edge(0, 1, 1),
         1.5,
         3,
-    );
+    )?;
     show_add(
+        rt,
         b"7: transform: ",
         record(8, 501, 3, 1, 1, 1),
         edge(0, 1, 1),
         1.0,
         3,
-    );
+    )?;
     show_add(
+        rt,
         b"8: table: ",
         record(7, 501, 3, 1, 1, 1),
         edge(0, 1, 1),
         1.0,
         3,
-    );
+    )?;
     show_add(
+        rt,
         b"9: origin: ",
         record(7, 501, 3, 1, 1, 1),
         edge(0, 1, 1),
         1.0,
         167,
-    );
+    )?;
     show_add(
+        rt,
         b"kept: ",
         record(7, 500, 3, 1, 1, 1),
         edge(0, 1, 1),
         1.0,
         167,
-    );
+    )
 }
 
 // The same of an edge that is flipped and removed.
-fn naming() {
+fn naming(rt: &impl Print) -> io::Result<()> {
     show_named(
+        rt,
         b"24: counts do not add up: ",
         record(8, 501, 4, 1, 1, 1),
         0,
         2,
         1.5,
         3,
-    );
+    )?;
     show_named(
+        rt,
         b"16: orientation: ",
         record(8, 501, 3, 1, 1, 1),
         0,
         2,
         1.5,
         3,
-    );
-    show_named(b"5: confidence: ", record(8, 501, 3, 1, 1, 1), 0, 0, 1.5, 3);
+    )?;
     show_named(
+        rt,
+        b"5: confidence: ",
+        record(8, 501, 3, 1, 1, 1),
+        0,
+        0,
+        1.5,
+        3,
+    )?;
+    show_named(
+        rt,
         b"7: transform, before 18: ",
         record(8, 501, 3, 1, 1, 1),
         3,
         2,
         1.5,
         3,
-    );
+    )?;
     show_named(
+        rt,
         b"8: table, before 18: ",
         record(7, 501, 3, 1, 1, 1),
         3,
         2,
         1.5,
         3,
-    );
+    )?;
     show_named(
+        rt,
         b"9: origin, before 18: ",
         record(7, 501, 3, 1, 1, 1),
         3,
         2,
         1.5,
         167,
-    );
+    )?;
     show_named(
+        rt,
         b"18: no such edge: ",
         record(7, 500, 3, 1, 1, 1),
         3,
         2,
         1.5,
         167,
-    );
+    )?;
     show_named(
+        rt,
         b"24: no such hit or miss to give up: ",
         record(7, 500, 3, 0, 0, 3),
         0,
         0,
         1.0,
         167,
-    );
-    show_named(b"kept: ", record(7, 500, 3, 1, 1, 1), 0, 0, 1.0, 167);
+    )?;
+    show_named(rt, b"kept: ", record(7, 500, 3, 1, 1, 1), 0, 0, 1.0, 167)
 }
 
 // All refusals.
-pub(crate) fn show_all() {
-    print(b"adding an edge\n");
-    adding();
-    print(b"flipping an edge, and removing it\n");
-    naming();
+pub(crate) fn show_all(rt: &impl Print) -> io::Result<()> {
+    print(rt, b"adding an edge\n")?;
+    adding(rt)?;
+    print(rt, b"flipping an edge, and removing it\n")?;
+    naming(rt)
 }

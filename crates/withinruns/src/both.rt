@@ -3,6 +3,7 @@ use console::print::{print, print_form};
 use refusals::Admission;
 use runs::cut::{fill_patterns, front_f32, front_i32, front_u8, put_window};
 use runs::print::{print_admission, print_stats};
+use std::io;
 use within_answer::{LimitTest, WithinAnswer};
 
 // A bit that is turned where it is missed.
@@ -47,29 +48,32 @@ fn spoil(
 }
 
 // What was judged.
-fn print_judged(t: LimitTest) {
+fn print_judged(rt: &impl Print, t: LimitTest) -> io::Result<()> {
     let wholes = [t.read];
     let none = [0.0f32; 1];
     if t.within {
-        print_form(b"yes after % edges", &wholes, &none);
+        print_form(rt, b"yes after % edges", &wholes, &none)?;
     } else {
-        print_form(b"no after % edges", &wholes, &none);
+        print_form(rt, b"no after % edges", &wholes, &none)?;
     }
+    Ok(())
 }
 
 // All that `within_limit` answers.
-fn print_within(a: WithinAnswer) {
+fn print_within(rt: &impl Print, a: WithinAnswer) -> io::Result<()> {
     match a {
-        WithinAnswer::Judged(t) => print_judged(t),
+        WithinAnswer::Judged(t) => print_judged(rt, t)?,
         WithinAnswer::Refused(r) => {
-            print(b"refused ");
-            print_admission(Admission::Refused(r));
+            print(rt, b"refused ")?;
+            print_admission(rt, Admission::Refused(r))?;
         }
     }
+    Ok(())
 }
 
 // Both answers, under the list's name.
 fn show_both<'a>(
+    rt: &impl Print,
     rows: &[i32],
     cols: &[i32],
     orientations: &[u8],
@@ -81,40 +85,47 @@ fn show_both<'a>(
     h: &'a [u8],
     v: &'a [u8],
     limit: f32,
-) {
-    print(b"\n  ");
-    print_within(within::within_limit(
-        rows,
-        cols,
-        orientations,
-        bits,
-        confidences,
-        transform,
-        row,
-        col,
-        h,
-        v,
-        limit,
-    ));
-    print(b"\n  match statistics: ");
-    print_stats(stats::stats::match_stats(
-        rows,
-        cols,
-        orientations,
-        bits,
-        confidences,
-        transform,
-        row,
-        col,
-        h,
-        v,
-    ));
-    print(b"\n");
+) -> io::Result<()> {
+    print(rt, b"\n  ")?;
+    print_within(
+        rt,
+        within::within_limit(
+            rows,
+            cols,
+            orientations,
+            bits,
+            confidences,
+            transform,
+            row,
+            col,
+            h,
+            v,
+            limit,
+        ),
+    )?;
+    print(rt, b"\n  match statistics: ")?;
+    print_stats(
+        rt,
+        stats::stats::match_stats(
+            rows,
+            cols,
+            orientations,
+            bits,
+            confidences,
+            transform,
+            row,
+            col,
+            h,
+            v,
+        ),
+    )?;
+    print(rt, b"\n")
 }
 
 // The first n edges of a window of some squares, cut under transform 0 at row 2, column 400 of a board, with so many edges missed from a position on and one spoiled. They are tested at the placing
 // that is given.
 fn show_seen<'a>(
+    rt: &impl Print,
     h: &'a [u8],
     v: &'a [u8],
     squares: u8,
@@ -127,7 +138,7 @@ fn show_seen<'a>(
     row: u32,
     col: u32,
     limit: f32,
-) {
+) -> io::Result<()> {
     let mut rows = [0i32; 8193];
     let mut cols = [0i32; 8193];
     let mut orientations = [0u8; 8193];
@@ -156,6 +167,7 @@ fn show_seen<'a>(
         number,
     );
     show_both(
+        rt,
         front_i32(&rows, some),
         front_i32(&cols, some),
         front_u8(&orientations, some),
@@ -167,11 +179,12 @@ fn show_seen<'a>(
         h,
         v,
         limit,
-    );
+    )
 }
 
 // The same of a board whose horizontal table has `length` patterns, under a name.
 pub(crate) fn show_cut(
+    rt: &impl Print,
     name: &[u8],
     length: usize,
     squares: u8,
@@ -184,13 +197,14 @@ pub(crate) fn show_cut(
     row: u32,
     col: u32,
     limit: f32,
-) {
-    print(name);
+) -> io::Result<()> {
+    print(rt, name)?;
     let mut h = [0u8; 500];
     let mut v = [0u8; 167];
     fill_patterns(&mut h, 1);
     fill_patterns(&mut v, 2);
     show_seen(
+        rt,
         slices::part::front_u8(&h, length),
         &v,
         squares,
@@ -203,7 +217,7 @@ pub(crate) fn show_cut(
         row,
         col,
         limit,
-    );
+    )
 }
 
 // No edge: past the end of every list.

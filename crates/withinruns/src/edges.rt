@@ -1,29 +1,51 @@
 // Bad edges just before the stop, where they are read, and just after it, where they are not.
 use crate::both::show_cut;
+use std::io;
 
 // A window of which the first 73 edges are missed, at the limit 0.25: the answer is no after 73 edges. The edge at a position is bad by a number.
-fn show_no(name: &[u8], at: usize, number: u32) {
-    show_cut(name, 167, 12, 8193, 0, 73, at, number, 0, 2, 400, 0.25);
+fn show_no(rt: &impl Print, name: &[u8], at: usize, number: u32) -> io::Result<()> {
+    show_cut(rt, name, 167, 12, 8193, 0, 73, at, number, 0, 2, 400, 0.25)
 }
 
 // A window without misses, at the limit 0.25: the answer is yes after 216 edges.
-fn show_yes(name: &[u8], at: usize, number: u32) {
-    show_cut(name, 167, 12, 8193, 0, 0, at, number, 0, 2, 400, 0.25);
+fn show_yes(rt: &impl Print, name: &[u8], at: usize, number: u32) -> io::Result<()> {
+    show_cut(rt, name, 167, 12, 8193, 0, 0, at, number, 0, 2, 400, 0.25)
 }
 
 // All runs.
-pub(crate) fn show_all() {
-    show_no(b"no after 73, the first edge bad in all fields", 0, 4);
-    show_no(b"no after 73, position 72 bad in all fields", 72, 4);
-    show_no(b"no after 73, position 72 bad in all but the row", 72, 16);
+pub(crate) fn show_all(rt: &impl Print) -> io::Result<()> {
+    show_no(rt, b"no after 73, the first edge bad in all fields", 0, 4)?;
+    show_no(rt, b"no after 73, position 72 bad in all fields", 72, 4)?;
     show_no(
+        rt,
+        b"no after 73, position 72 bad in all but the row",
+        72,
+        16,
+    )?;
+    show_no(
+        rt,
         b"no after 73, position 72 bad in bit and confidence",
         72,
         17,
-    );
-    show_no(b"no after 73, position 72 bad in its confidence", 72, 5);
-    show_no(b"no after 73, position 73 bad in all fields", 73, 4);
-    show_no(b"no after 73, the last edge bad in its confidence", 287, 5);
-    show_yes(b"yes after 216, position 215 bad in its confidence", 215, 5);
-    show_yes(b"yes after 216, position 216 bad in its confidence", 216, 5);
+    )?;
+    show_no(rt, b"no after 73, position 72 bad in its confidence", 72, 5)?;
+    show_no(rt, b"no after 73, position 73 bad in all fields", 73, 4)?;
+    show_no(
+        rt,
+        b"no after 73, the last edge bad in its confidence",
+        287,
+        5,
+    )?;
+    show_yes(
+        rt,
+        b"yes after 216, position 215 bad in its confidence",
+        215,
+        5,
+    )?;
+    show_yes(
+        rt,
+        b"yes after 216, position 216 bad in its confidence",
+        216,
+        5,
+    )
 }

@@ -1,6 +1,6 @@
 -- What the program gives to the class tables: its list is accepted, and so are the pattern tables that it makes.
-use Rattle.std.specs.Prelude.{◌≡◌, ℕ, zero, suc, ◌+◌, ◌%◌, ◌<◌, ◌⊎◌, List, [], ◌∷◌, length, get_or, set, pos, negsuc, refl, Float}
-use Rattle.std.proofs.Common.{subst, ◌∙◌, inl, inr, arith, lit<, lit≤, length-set, get_or-set_same, get_or-set_other, eq-or-lt_of_le}
+use Rattle.std.specs.Prelude.{◌≡◌, ℕ, zero, suc, ◌%◌, ◌<◌, List, [], ◌∷◌, length, pos, negsuc, refl, Float}
+use Rattle.std.proofs.Common.{subst, arith, lit<, lit≤}
 use Rattle.std.specs.Float.{binary32}
 use Rattle.std.specs.Float.Ieee.{of_bits, le}
 use Rattle.laws.specs.WeightLaws.{confidence}

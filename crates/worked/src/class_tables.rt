@@ -6,6 +6,7 @@ ghost use Rattle.tables.specs.Built.{TablesReady};
 
 use console::print::{bits_of, print, print_form, print_long};
 use runs::cut::fill_patterns;
+use std::io;
 
 // The next checksum: the one before times 31, plus x.
 fn stir(sum: u64, x: u32) -> u64
@@ -28,30 +29,31 @@ fn checksum(counts: &[u32], weights: &[f32], n: usize) -> u64
 }
 
 // A cell: its count and the bits of its weight.
-fn print_cell(counts: &[u32], weights: &[f32], k: usize)
+fn print_cell(rt: &impl Print, counts: &[u32], weights: &[f32], k: usize) -> io::Result<()>
     requires { (k < length counts.now) × (k < length weights.now) }
 {
-    print(b"cell ");
-    print_long(k as u64);
+    print(rt, b"cell ")?;
+    print_long(rt, k as u64)?;
     let wholes = [counts[k]];
     let floats = [weights[k]];
-    print_form(b": % ^\n", &wholes, &floats);
+    print_form(rt, b": % ^\n", &wholes, &floats)
 }
 
 // Some cells, and the checksum of all.
-fn print_cells(counts: &[u32], weights: &[f32])
+fn print_cells(rt: &impl Print, counts: &[u32], weights: &[f32]) -> io::Result<()>
     requires { (1002 ≤ length counts.now) × (1002 ≤ length weights.now) }
 {
     for j in 0..6 {
-        print_cell(counts, weights, j * 200);
+        print_cell(rt, counts, weights, j * 200)?;
     }
-    print(b"all ");
-    print_long(checksum(counts, weights, 1002));
-    print(b"\n");
+    print(rt, b"all ")?;
+    print_long(rt, checksum(counts, weights, 1002))?;
+    print(rt, b"\n")
 }
 
 // The tables of transform t, built and written.
 fn show<'a>(
+    rt: &impl Print,
     rows: &[i32],
     cols: &[i32],
     orientations: &[u8],
@@ -62,14 +64,14 @@ fn show<'a>(
     v: &'a [u8],
     counts: &mut [u32],
     weights: &mut [f32],
-)
+) -> io::Result<()>
     requires tables_ready { TablesReady (tables h.now v.now) (edges rows.now cols.now orientations.now bits.now confidences.now) t counts.old weights.old }
     requires counts_len { (length counts.old ≡ 3006) × (length weights.old ≡ 3006) }
     ensures { (length counts.new ≡ 3006) × (length weights.new ≡ 3006) }
 {
-    print(b"transform ");
-    print_long(t as u64);
-    print(b"\n");
+    print(rt, b"transform ")?;
+    print_long(rt, t as u64)?;
+    print(rt, b"\n")?;
     tables::build::build_tables(
         rows,
         cols,
@@ -82,11 +84,11 @@ fn show<'a>(
         counts,
         weights,
     );
-    print_cells(counts, weights);
+    print_cells(rt, counts, weights)
 }
 
 // Both transforms, one after the other in one room.
-pub(crate) fn show_all() {
+pub(crate) fn show_all(rt: &impl Print) -> io::Result<()> {
     let mut h = [0u8; 167];
     let mut v = [0u8; 167];
     fill_patterns(&mut h, 1);
@@ -99,6 +101,7 @@ pub(crate) fn show_all() {
     let mut counts = [7u32; 3006];
     let mut weights = [0.5f32; 3006];
     show(
+        rt,
         &rows,
         &cols,
         &orientations,
@@ -109,8 +112,9 @@ pub(crate) fn show_all() {
         &v,
         &mut counts,
         &mut weights,
-    );
+    )?;
     show(
+        rt,
         &rows,
         &cols,
         &orientations,
@@ -121,5 +125,5 @@ pub(crate) fn show_all() {
         &v,
         &mut counts,
         &mut weights,
-    );
+    )
 }

@@ -1,5 +1,7 @@
 // Runs of the library: document 01's numbers and the numbers at their edges, each refusal, and windows of a board. Each section is headed by its name. What
 // it writes is held to the file `stdout`.
+#![tactic(auto)]
+
 mod bent; // a degenerate board, and columns bent after a window was cut
 mod likelihoods; // a likelihood as a whole number, and a sum back to a float
 mod refused; // refusals 1 to 9, 16 and 17, alone and by pairs
@@ -9,18 +11,19 @@ mod windows; // hard decode of windows and of lists that it must refuse
 mod soft_windows; // soft decode of noisy windows
 
 use console::print::print;
+use std::io;
 
-fn main() {
-    print(b"== likelihoods ==\n");
-    likelihoods::show_all();
-    print(b"== refusals ==\n");
-    refused::show_all();
-    print(b"== which edge ==\n");
-    which_edge::show_all();
-    print(b"== class tables ==\n");
-    class_tables::show_all();
-    print(b"== windows ==\n");
-    windows::show_all();
-    print(b"== soft windows ==\n");
-    soft_windows::show_all();
+fn main(rt: HostRuntime) -> io::Result<()> {
+    print(&rt, b"== likelihoods ==\n")?;
+    likelihoods::show_all(&rt)?;
+    print(&rt, b"== refusals ==\n")?;
+    refused::show_all(&rt)?;
+    print(&rt, b"== which edge ==\n")?;
+    which_edge::show_all(&rt)?;
+    print(&rt, b"== class tables ==\n")?;
+    class_tables::show_all(&rt)?;
+    print(&rt, b"== windows ==\n")?;
+    windows::show_all(&rt)?;
+    print(&rt, b"== soft windows ==\n")?;
+    soft_windows::show_all(&rt)
 }

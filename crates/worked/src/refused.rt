@@ -5,6 +5,7 @@ use console::print::print;
 use refusals::Admission;
 use runs::cut::{front_f32, front_i32, front_u8};
 use runs::print::{print_admission, print_line, print_stats};
+use std::io;
 
 // Whether fault k is one of the two of a case.
 fn on(a: u32, b: u32, k: u32) -> bool {
@@ -274,127 +275,137 @@ fn stats_of(a: u32, b: u32) -> StatsAnswer {
 }
 
 // What the three calls say of the good input with the faults a and b. Faults of the logical list are 20 to 29 and 50 to 59, of the physical list 30 to 39.
-fn show_case(a: u32, b: u32) {
-    print(b": hard ");
-    print_admission(hard_of(a, b));
-    print(b", soft ");
-    print_admission(soft_of(a, b));
-    print(b", statistics ");
-    print_stats(stats_of(a, b));
-    print(b"\n");
+fn show_case(rt: &impl Print, a: u32, b: u32) -> io::Result<()> {
+    print(rt, b": hard ")?;
+    print_admission(rt, hard_of(a, b))?;
+    print(rt, b", soft ")?;
+    print_admission(rt, soft_of(a, b))?;
+    print(rt, b", statistics ")?;
+    print_stats(rt, stats_of(a, b))?;
+    print(rt, b"\n")
 }
 
 // The same under its name.
-fn show(name: &[u8], a: u32, b: u32) {
-    print(name);
-    show_case(a, b);
+fn show(rt: &impl Print, name: &[u8], a: u32, b: u32) -> io::Result<()> {
+    print(rt, name)?;
+    show_case(rt, a, b)
 }
 
 // n faults, each alone, from one on, under their names, a line each.
-fn show_each(names: &[u8], first: u32, n: u32) {
+fn show_each(rt: &impl Print, names: &[u8], first: u32, n: u32) -> io::Result<()> {
     for i in 0..n {
-        print_line(names, i);
-        show_case(std::num::wrapping_add_u32(first, i), 0);
+        print_line(rt, names, i)?;
+        show_case(rt, std::num::wrapping_add_u32(first, i), 0)?;
     }
+    Ok(())
 }
 
 // Each fault alone, and the numbers at the ends of the ranges that are taken: the call as it should be, lent room and columns that are too short, and lists that are empty
 // or of the lengths at the limits.
-fn sizes() {
-    show(b"good", 0, 0);
-    show_each(b"counts short\nweights short\nsums short", 10, 3);
-    show(b"logical columns short", 2, 0);
+fn sizes(rt: &impl Print) -> io::Result<()> {
+    show(rt, b"good", 0, 0)?;
+    show_each(rt, b"counts short\nweights short\nsums short", 10, 3)?;
+    show(rt, b"logical columns short", 2, 0)?;
     show_each(
+        rt,
         b"physical confidences short\nmatch likelihoods short",
         34,
         2,
-    );
-    show(b"logical empty", 3, 0);
-    show(b"physical empty", 33, 0);
-    show_each(b"1 edge\n8192 edges\n8193 edges", 60, 3);
+    )?;
+    show(rt, b"logical empty", 3, 0)?;
+    show(rt, b"physical empty", 33, 0)?;
+    show_each(rt, b"1 edge\n8192 edges\n8193 edges", 60, 3)
 }
 
 // Edges: row, column, orientation and bit; the same of the physical list. Transforms.
-fn edges() {
+fn edges(rt: &impl Print) -> io::Result<()> {
     show_each(
+        rt,
         b"row 1000001\nrow -1000001\ncolumn 1000001\nrow -1000000\ncolumn 1000000\norientation 2\nbit 2\none of two edges missed",
         20,
         8,
-    );
-    show(b"the only edge missed", 27, 60);
+    )?;
+    show(rt, b"the only edge missed", 27, 60)?;
     show_each(
+        rt,
         b"physical row 1000001\nphysical orientation 2\nphysical confidence 1.5",
         30,
         3,
-    );
-    show_each(b"transform 8\nno transforms\nnine transforms", 70, 3);
+    )?;
+    show_each(rt, b"transform 8\nno transforms\nnine transforms", 70, 3)
 }
 
 // Tables, and origins for match statistics.
-fn boards() {
+fn boards(rt: &impl Print) -> io::Result<()> {
     show_each(
+        rt,
         b"horizontal pattern 8\nvertical pattern 8\nhorizontal table 168\nvertical table 168",
         80,
         4,
-    );
-    show_each(b"origin row 501\norigin column 501", 90, 2);
+    )?;
+    show_each(rt, b"origin row 501\norigin column 501", 90, 2)
 }
 
 // Each float place with NaN, both infinities, values out of range, -0 and the value at the end of its range: confidences, the likelihoods of a match and of a mismatch,
 // the error limit and the soft margin.
-fn floats() {
+fn floats(rt: &impl Print) -> io::Result<()> {
     show_each(
+        rt,
         b"confidence NaN\nconfidence -0.5\nconfidence 1.5\nconfidence infinity\nconfidence -infinity\nconfidence -0\nconfidence 1",
         50,
         7,
-    );
+    )?;
     show_each(
+        rt,
         b"match NaN\nmatch infinity\nmatch -infinity\nmatch above 65536\nmatch below -65536\nmatch -0\nmatch -65536",
         100,
         7,
-    );
+    )?;
     show_each(
+        rt,
         b"mismatch NaN\nmismatch infinity\nmismatch -infinity\nmismatch above 65536\nmismatch below -65536\nmismatch -0\nmismatch -65536",
         110,
         7,
-    );
+    )?;
     show_each(
+        rt,
         b"limit NaN\nlimit infinity\nlimit -infinity\nlimit 1.5\nlimit -0.5\nlimit -0\nlimit 1",
         120,
         7,
-    );
+    )?;
     show_each(
+        rt,
         b"margin NaN\nmargin infinity\nmargin -infinity\nmargin 98304\nmargin -0.5\nmargin -0\nmargin 65536",
         130,
         7,
-    );
+    )
 }
 
 // Two faults of different numbers: the one that comes first in the order 1, 2, 3, 4, 16, 17, 5, 6, 7, 8, 9 is given, over all lists.
-fn pairs() {
-    show(b"1 and 2: room and lengths", 10, 34);
-    show(b"2 and 3: lengths and 8193 edges", 2, 62);
-    show(b"3 and 4: empty and physical row", 3, 30);
-    show(b"4 and 5: physical row and logical confidence", 30, 50);
-    show(b"17 and 5: logical bit and physical confidence", 26, 32);
-    show(b"5 and 6: logical confidence and match", 50, 100);
+fn pairs(rt: &impl Print) -> io::Result<()> {
+    show(rt, b"1 and 2: room and lengths", 10, 34)?;
+    show(rt, b"2 and 3: lengths and 8193 edges", 2, 62)?;
+    show(rt, b"3 and 4: empty and physical row", 3, 30)?;
+    show(rt, b"4 and 5: physical row and logical confidence", 30, 50)?;
+    show(rt, b"17 and 5: logical bit and physical confidence", 26, 32)?;
+    show(rt, b"5 and 6: logical confidence and match", 50, 100)
 }
 
 // The same from 6 on.
-fn later_pairs() {
-    show(b"6 and 7: match and transform", 100, 70);
-    show(b"7 and 8: transform and table", 70, 82);
-    show(b"8 and 9: pattern and limit", 81, 120);
-    show(b"8 and 9: table and origin", 83, 90);
-    show(b"1 and 9: room and limit", 11, 120);
+fn later_pairs(rt: &impl Print) -> io::Result<()> {
+    show(rt, b"6 and 7: match and transform", 100, 70)?;
+    show(rt, b"7 and 8: transform and table", 70, 82)?;
+    show(rt, b"8 and 9: pattern and limit", 81, 120)?;
+    show(rt, b"8 and 9: table and origin", 83, 90)?;
+    show(rt, b"1 and 9: room and limit", 11, 120)
 }
 
 // All cases.
-pub(crate) fn show_all() {
-    sizes();
-    edges();
-    boards();
-    floats();
-    pairs();
-    later_pairs();
+pub(crate) fn show_all(rt: &impl Print) -> io::Result<()> {
+    sizes(rt)?;
+    edges(rt)?;
+    boards(rt)?;
+    floats(rt)?;
+    pairs(rt)?;
+    later_pairs(rt)
 }

@@ -3,11 +3,13 @@
 use crate::bent::{repeat, turn_bits};
 use console::print::print;
 use runs::cut::{fill_patterns, front_f32, front_i32, front_u8, put_window};
+use runs::lent::{print_room, print_sums};
 use runs::print::print_soft_answer;
-use runs::room::{print_room, print_sums};
+use std::io;
 
 // Soft decode of the first n edges, with bits of their own for each list, over all transforms.
 fn show<'a>(
+    rt: &impl Print,
     rows: &[i32; 8193],
     cols: &[i32; 8193],
     orientations: &[u8; 8193],
@@ -20,7 +22,7 @@ fn show<'a>(
     h: &'a [u8; 167],
     v: &'a [u8; 167],
     margin: f32,
-) {
+) -> io::Result<()> {
     let transforms = [0u8, 1, 2, 3, 4, 5, 6, 7];
     let mut counts = [7u32; 3010];
     let mut weights = [7.0f32; 3010];
@@ -51,15 +53,16 @@ fn show<'a>(
         &mut weights,
         &mut sums,
     );
-    print(b": ");
-    print_soft_answer(answer);
-    print_room(&counts, &weights);
-    print_sums(&sums);
-    print(b"\n");
+    print(rt, b": ")?;
+    print_soft_answer(rt, answer)?;
+    print_room(rt, &counts, &weights)?;
+    print_sums(rt, &sums)?;
+    print(rt, b"\n")
 }
 
 // The window's lists: the logical one is cut at (row, col), the physical one at (prow, col); of each the first bits are turned.
 fn show_noisy(
+    rt: &impl Print,
     name: &[u8],
     transform: u8,
     row: u32,
@@ -68,8 +71,8 @@ fn show_noisy(
     missed: usize,
     confidences: &[f32; 8193],
     margin: f32,
-) {
-    print(name);
+) -> io::Result<()> {
+    print(rt, name)?;
     let mut h = [0u8; 167];
     let mut v = [0u8; 167];
     fill_patterns(&mut h, 1);
@@ -130,6 +133,7 @@ fn show_noisy(
     repeat(&mut matches, &match_of);
     repeat(&mut mismatches, &mismatch_of);
     show(
+        rt,
         &rows,
         &cols,
         &orientations,
@@ -142,24 +146,65 @@ fn show_noisy(
         &h,
         &v,
         margin,
-    );
+    )
 }
 
 // A noisy window is found at its own square. The margin of the first is 3e5aa3e8: as soft margin it is met, and the next float above it is not.
-fn noisy(c: &[f32; 8193]) {
-    show_noisy(b"noisy under 0 at 17, 400", 0, 17, 400, 17, 12, c, 0.0);
-    show_noisy(b"noisy under 1 at 500, 0", 1, 500, 0, 500, 12, c, 0.0);
-    show_noisy(b"noisy under 4 at 333, 334", 4, 333, 334, 333, 12, c, 0.0);
-    show_noisy(b"noisy under 7 at 1, 2", 7, 1, 2, 1, 12, c, 0.0);
-    show_noisy(b"soft margin 3e5aa3e7", 0, 17, 400, 17, 12, c, 0.213515863);
-    show_noisy(b"soft margin 3e5aa3e8", 0, 17, 400, 17, 12, c, 0.213515878);
-    show_noisy(b"soft margin 3e5aa3e9", 0, 17, 400, 17, 12, c, 0.213515893);
+fn noisy(rt: &impl Print, c: &[f32; 8193]) -> io::Result<()> {
+    show_noisy(rt, b"noisy under 0 at 17, 400", 0, 17, 400, 17, 12, c, 0.0)?;
+    show_noisy(rt, b"noisy under 1 at 500, 0", 1, 500, 0, 500, 12, c, 0.0)?;
+    show_noisy(
+        rt,
+        b"noisy under 4 at 333, 334",
+        4,
+        333,
+        334,
+        333,
+        12,
+        c,
+        0.0,
+    )?;
+    show_noisy(rt, b"noisy under 7 at 1, 2", 7, 1, 2, 1, 12, c, 0.0)?;
+    show_noisy(
+        rt,
+        b"soft margin 3e5aa3e7",
+        0,
+        17,
+        400,
+        17,
+        12,
+        c,
+        0.213515863,
+    )?;
+    show_noisy(
+        rt,
+        b"soft margin 3e5aa3e8",
+        0,
+        17,
+        400,
+        17,
+        12,
+        c,
+        0.213515878,
+    )?;
+    show_noisy(
+        rt,
+        b"soft margin 3e5aa3e9",
+        0,
+        17,
+        400,
+        17,
+        12,
+        c,
+        0.213515893,
+    )
 }
 
 // Lists that must be refused.
-fn refused(c: &[f32; 8193]) {
-    show_noisy(b"physical list from row 18", 0, 17, 400, 18, 12, c, 0.0);
+fn refused(rt: &impl Print, c: &[f32; 8193]) -> io::Result<()> {
+    show_noisy(rt, b"physical list from row 18", 0, 17, 400, 18, 12, c, 0.0)?;
     show_noisy(
+        rt,
         b"physical list from row 18, soft margin 1",
         0,
         17,
@@ -168,11 +213,12 @@ fn refused(c: &[f32; 8193]) {
         12,
         c,
         1.0,
-    );
-    show_noisy(b"20 edges missed", 0, 17, 400, 17, 20, c, 0.0);
-    show_noisy(b"soft margin NaN", 0, 17, 400, 17, 12, c, 0.0 / 0.0);
+    )?;
+    show_noisy(rt, b"20 edges missed", 0, 17, 400, 17, 20, c, 0.0)?;
+    show_noisy(rt, b"soft margin NaN", 0, 17, 400, 17, 12, c, 0.0 / 0.0)?;
     let none = [0.0f32; 8193];
     show_noisy(
+        rt,
         b"confidence 0, soft margin 1",
         0,
         17,
@@ -181,15 +227,16 @@ fn refused(c: &[f32; 8193]) {
         12,
         &none,
         1.0,
-    );
+    )
 }
 
 // Confidences of 0 and of -0 among others: the likelihoods decide, and a weight is the same as without these edges.
-fn zeros() {
+fn zeros(rt: &impl Print) -> io::Result<()> {
     let mixed = [0.0f32, -0.0, 0.375, -0.0, 0.0, 0.75, -0.0, 1.0];
     let mut confidences = [0.0f32; 8193];
     repeat(&mut confidences, &mixed);
     show_noisy(
+        rt,
         b"confidences of 0 and -0 among others",
         0,
         17,
@@ -198,15 +245,15 @@ fn zeros() {
         12,
         &confidences,
         0.0,
-    );
+    )
 }
 
 // All runs.
-pub(crate) fn show_all() {
+pub(crate) fn show_all(rt: &impl Print) -> io::Result<()> {
     let eighths = [0.125f32, 0.25, 0.375, 0.5, 0.625, 0.75, 0.875, 1.0];
     let mut confidences = [0.0f32; 8193];
     repeat(&mut confidences, &eighths);
-    noisy(&confidences);
-    refused(&confidences);
-    zeros();
+    noisy(rt, &confidences)?;
+    refused(rt, &confidences)?;
+    zeros(rt)
 }

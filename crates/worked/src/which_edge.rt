@@ -7,6 +7,7 @@ use console::print::print;
 use refusals::Admission;
 use runs::print::{print_admission, print_stats};
 use slices::page::{blank, put};
+use std::io;
 
 // A bad edge: the field that is bad (1 row, 2 column, 3 orientation, 4 bit, 5 confidence, 6 and 7 likelihood of a match and of a mismatch; 0 for no bad edge), the
 // list (1 logical, 2 physical) and the position.
@@ -211,70 +212,70 @@ fn put_also(page: &mut [u8; 32768], at: usize, b: Bad) -> usize {
 }
 
 // What the three calls say of the good input with the bad edges a and b.
-fn show(a: Bad, b: Bad) {
+fn show(rt: &impl Print, a: Bad, b: Bad) -> io::Result<()> {
     let mut page = blank();
     let n = put_bad(&mut page, 0, a);
     let n = put_also(&mut page, n, b);
-    say(&page, n);
-    print(b": hard ");
-    print_admission(hard_of(a, b));
-    print(b", soft ");
-    print_admission(soft_of(a, b));
-    print(b", statistics ");
-    print_stats(stats_of(a, b));
-    print(b"\n");
+    say(rt, &page, n)?;
+    print(rt, b": hard ")?;
+    print_admission(rt, hard_of(a, b))?;
+    print(rt, b", soft ")?;
+    print_admission(rt, soft_of(a, b))?;
+    print(rt, b", statistics ")?;
+    print_stats(rt, stats_of(a, b))?;
+    print(rt, b"\n")
 }
 
 // One bad edge, at the first, a middle and the last place of a list.
-fn places(field: u32, list: u32) {
-    show(spoilt(field, list, 0), none());
-    show(spoilt(field, list, 2), none());
-    show(spoilt(field, list, 4), none());
+fn places(rt: &impl Print, field: u32, list: u32) -> io::Result<()> {
+    show(rt, spoilt(field, list, 0), none())?;
+    show(rt, spoilt(field, list, 2), none())?;
+    show(rt, spoilt(field, list, 4), none())
 }
 
 // Each field that both lists have.
-fn fields(list: u32) {
-    places(1, list);
-    places(2, list);
-    places(3, list);
-    places(4, list);
-    places(5, list);
+fn fields(rt: &impl Print, list: u32) -> io::Result<()> {
+    places(rt, 1, list)?;
+    places(rt, 2, list)?;
+    places(rt, 3, list)?;
+    places(rt, 4, list)?;
+    places(rt, 5, list)
 }
 
 // Two bad edges of one kind: in one list, and in both. The first is given, of the logical list where both have one.
-fn one_kind(field: u32) {
-    show(spoilt(field, 1, 3), spoilt(field, 1, 1));
-    show(spoilt(field, 2, 3), spoilt(field, 2, 1));
-    show(spoilt(field, 2, 1), spoilt(field, 1, 3));
+fn one_kind(rt: &impl Print, field: u32) -> io::Result<()> {
+    show(rt, spoilt(field, 1, 3), spoilt(field, 1, 1))?;
+    show(rt, spoilt(field, 2, 3), spoilt(field, 2, 1))?;
+    show(rt, spoilt(field, 2, 1), spoilt(field, 1, 3))
 }
 
 // The same of each kind. A row and a column are of one kind, and so are the two likelihoods.
-fn kinds() {
-    one_kind(1);
-    one_kind(3);
-    one_kind(4);
-    one_kind(5);
-    show(spoilt(1, 1, 3), spoilt(2, 1, 1));
-    show(spoilt(6, 2, 3), spoilt(7, 2, 1));
-    show(spoilt(7, 2, 3), spoilt(6, 2, 1));
+fn kinds(rt: &impl Print) -> io::Result<()> {
+    one_kind(rt, 1)?;
+    one_kind(rt, 3)?;
+    one_kind(rt, 4)?;
+    one_kind(rt, 5)?;
+    show(rt, spoilt(1, 1, 3), spoilt(2, 1, 1))?;
+    show(rt, spoilt(6, 2, 3), spoilt(7, 2, 1))?;
+    show(rt, spoilt(7, 2, 3), spoilt(6, 2, 1))
 }
 
 // Bad edges of two kinds in two lists: the kind that comes first is given, also where it stands in the physical list and later.
-fn two_kinds(field: u32, later: u32) {
-    show(spoilt(field, 2, 4), spoilt(later, 1, 0));
-    show(spoilt(field, 1, 4), spoilt(later, 2, 0));
+fn two_kinds(rt: &impl Print, field: u32, later: u32) -> io::Result<()> {
+    show(rt, spoilt(field, 2, 4), spoilt(later, 1, 0))?;
+    show(rt, spoilt(field, 1, 4), spoilt(later, 2, 0))
 }
 
 // All cases.
-pub(crate) fn show_all() {
-    fields(1);
-    fields(2);
-    places(6, 2);
-    places(7, 2);
-    kinds();
-    two_kinds(1, 3);
-    two_kinds(3, 4);
-    two_kinds(4, 5);
-    two_kinds(2, 5);
-    show(spoilt(5, 1, 4), spoilt(6, 2, 0));
+pub(crate) fn show_all(rt: &impl Print) -> io::Result<()> {
+    fields(rt, 1)?;
+    fields(rt, 2)?;
+    places(rt, 6, 2)?;
+    places(rt, 7, 2)?;
+    kinds(rt)?;
+    two_kinds(rt, 1, 3)?;
+    two_kinds(rt, 3, 4)?;
+    two_kinds(rt, 4, 5)?;
+    two_kinds(rt, 2, 5)?;
+    show(rt, spoilt(5, 1, 4), spoilt(6, 2, 0))
 }

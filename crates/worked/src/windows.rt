@@ -3,11 +3,13 @@
 use crate::bent::{fill_ones, repeat, turn_bits};
 use console::print::{print, print_form};
 use runs::cut::{fill_patterns, front_f32, front_i32, front_u8, put_window};
+use runs::lent::print_room;
 use runs::print::print_answer;
-use runs::room::print_room;
+use std::io;
 
 // Hard decode of the first n edges, with bits and confidences of their own for the physical list, over the first `listed` transforms.
 fn show<'a>(
+    rt: &impl Print,
     rows: &[i32; 8193],
     cols: &[i32; 8193],
     orientations: &[u8; 8193],
@@ -21,7 +23,7 @@ fn show<'a>(
     h: &'a [u8; 167],
     v: &'a [u8; 167],
     limit: f32,
-) {
+) -> io::Result<()> {
     let mut counts = [7u32; 3010];
     let mut weights = [7.0f32; 3010];
     let r = front_i32(rows, n);
@@ -45,14 +47,15 @@ fn show<'a>(
         &mut counts,
         &mut weights,
     );
-    print(b": ");
-    print_answer(answer);
-    print_room(&counts, &weights);
-    print(b"\n");
+    print(rt, b": ")?;
+    print_answer(rt, answer)?;
+    print_room(rt, &counts, &weights)?;
+    print(rt, b"\n")
 }
 
 // A clean window of some squares, cut at a placing of a random board: its first n edges decoded over the listed transforms, with these confidences.
 fn show_cut(
+    rt: &impl Print,
     squares: u8,
     n: usize,
     transform: u8,
@@ -61,7 +64,7 @@ fn show_cut(
     transforms: &[u8; 8],
     listed: usize,
     confidences: &[f32; 8193],
-) {
+) -> io::Result<()> {
     let mut h = [0u8; 167];
     let mut v = [0u8; 167];
     fill_patterns(&mut h, 1);
@@ -84,6 +87,7 @@ fn show_cut(
     );
     let some = if n < count { n } else { count };
     show(
+        rt,
         &rows,
         &cols,
         &orientations,
@@ -97,11 +101,12 @@ fn show_cut(
         &h,
         &v,
         1.0,
-    );
+    )
 }
 
 // The same with every confidence 1.
 fn show_window(
+    rt: &impl Print,
     squares: u8,
     n: usize,
     transform: u8,
@@ -109,14 +114,21 @@ fn show_window(
     c: u32,
     transforms: &[u8; 8],
     listed: usize,
-) {
+) -> io::Result<()> {
     let ones = [1.0f32; 8193];
-    show_cut(squares, n, transform, r, c, transforms, listed, &ones);
+    show_cut(rt, squares, n, transform, r, c, transforms, listed, &ones)
 }
 
 // A 12 by 12 window with some logical edges missed, whose physical list is cut at a row of its own.
-fn show_faulty(name: &[u8], missed: usize, row: u32, confidence: f32, limit: f32) {
-    print(name);
+fn show_faulty(
+    rt: &impl Print,
+    name: &[u8],
+    missed: usize,
+    row: u32,
+    confidence: f32,
+    limit: f32,
+) -> io::Result<()> {
+    print(rt, name)?;
     let mut h = [0u8; 167];
     let mut v = [0u8; 167];
     fill_patterns(&mut h, 1);
@@ -154,6 +166,7 @@ fn show_faulty(name: &[u8], missed: usize, row: u32, confidence: f32, limit: f32
     let confidences = [confidence; 8193];
     let transforms = [0u8, 1, 2, 3, 4, 5, 6, 7];
     show(
+        rt,
         &rows,
         &cols,
         &orientations,
@@ -167,13 +180,20 @@ fn show_faulty(name: &[u8], missed: usize, row: u32, confidence: f32, limit: f32
         &h,
         &v,
         limit,
-    );
+    )
 }
 
 // n edges at row 0 and column 0, all horizontal but the second, each of the same bit, on a board whose tables have so many patterns with one bit set. For two edges of
 // bit 1 the product of both numbers is the number of optimal pairs.
-fn show_pair(name: &[u8], horizontal: usize, vertical: usize, n: usize, bit: u8) {
-    print(name);
+fn show_pair(
+    rt: &impl Print,
+    name: &[u8],
+    horizontal: usize,
+    vertical: usize,
+    n: usize,
+    bit: u8,
+) -> io::Result<()> {
+    print(rt, name)?;
     let mut h = [0u8; 167];
     let mut v = [0u8; 167];
     fill_ones(&mut h, horizontal);
@@ -186,6 +206,7 @@ fn show_pair(name: &[u8], horizontal: usize, vertical: usize, n: usize, bit: u8)
     let confidences = [1.0f32; 8193];
     let transforms = [0u8; 8];
     show(
+        rt,
         &rows,
         &cols,
         &orientations,
@@ -199,14 +220,19 @@ fn show_pair(name: &[u8], horizontal: usize, vertical: usize, n: usize, bit: u8)
         &h,
         &v,
         1.0,
-    );
+    )
 }
 
 // One horizontal edge seen twice, with bit 1 and with bit 0, and a vertical edge of bit 1, on such a board: each horizontal cell has one hit. Of the logical list the cells of
 // bit 0 weigh so little less than those of bit 1 that the rounded sums of all pairs tie; of the physical list they weigh half. Up to 1,024 optimal pairs both lists
 // take the first optimal pair. From 1,025 on the logical list takes the first origin of all that tie, which is another.
-fn show_near_tie(name: &[u8], horizontal: usize, vertical: usize) {
-    print(name);
+fn show_near_tie(
+    rt: &impl Print,
+    name: &[u8],
+    horizontal: usize,
+    vertical: usize,
+) -> io::Result<()> {
+    print(rt, name)?;
     let mut h = [0u8; 167];
     let mut v = [0u8; 167];
     fill_ones(&mut h, horizontal);
@@ -223,6 +249,7 @@ fn show_near_tie(name: &[u8], horizontal: usize, vertical: usize) {
     pconfidences[2] = 0.5;
     let transforms = [0u8; 8];
     show(
+        rt,
         &rows,
         &cols,
         &orientations,
@@ -236,100 +263,102 @@ fn show_near_tie(name: &[u8], horizontal: usize, vertical: usize) {
         &h,
         &v,
         1.0,
-    );
+    )
 }
 
 // A clean window of 12 by 12 squares over all transforms, under its placing.
-fn show_clean(transform: u8, r: u32, c: u32) {
+fn show_clean(rt: &impl Print, transform: u8, r: u32, c: u32) -> io::Result<()> {
     let wholes = [transform as u32, r, c];
     let none = [0.0f32; 1];
-    print_form(b"12 by 12 under % at %, %", &wholes, &none);
+    print_form(rt, b"12 by 12 under % at %, %", &wholes, &none)?;
     let all = [0u8, 1, 2, 3, 4, 5, 6, 7];
-    show_window(12, 8193, transform, r, c, &all, 8);
+    show_window(rt, 12, 8193, transform, r, c, &all, 8)
 }
 
 // A clean window is found at its own square under each transform.
-fn clean() {
-    show_clean(0, 17, 400);
-    show_clean(1, 500, 0);
-    show_clean(2, 0, 500);
-    show_clean(3, 166, 167);
-    show_clean(4, 333, 334);
-    show_clean(5, 123, 456);
-    show_clean(6, 250, 251);
-    show_clean(7, 1, 2);
+fn clean(rt: &impl Print) -> io::Result<()> {
+    show_clean(rt, 0, 17, 400)?;
+    show_clean(rt, 1, 500, 0)?;
+    show_clean(rt, 2, 0, 500)?;
+    show_clean(rt, 3, 166, 167)?;
+    show_clean(rt, 4, 333, 334)?;
+    show_clean(rt, 5, 123, 456)?;
+    show_clean(rt, 6, 250, 251)?;
+    show_clean(rt, 7, 1, 2)
 }
 
 // A transform that is listed twice, and the limits of a list's length.
-fn listed_and_long() {
+fn listed_and_long(rt: &impl Print) -> io::Result<()> {
     let twice = [0u8, 1, 1, 3, 0, 0, 0, 0];
-    print(b"under 1 at 500, 0, listed twice");
-    show_window(12, 8193, 1, 500, 0, &twice, 4);
-    print(b"under 3 at 166, 167, another listed twice");
-    show_window(12, 8193, 3, 166, 167, &twice, 4);
+    print(rt, b"under 1 at 500, 0, listed twice")?;
+    show_window(rt, 12, 8193, 1, 500, 0, &twice, 4)?;
+    print(rt, b"under 3 at 166, 167, another listed twice")?;
+    show_window(rt, 12, 8193, 3, 166, 167, &twice, 4)?;
     let some = [0u8, 1, 2, 3, 0, 0, 0, 0];
-    print(b"8192 edges under 0 at 17, 400");
-    show_window(65, 8192, 0, 17, 400, &some, 4);
-    print(b"8193 edges under 0 at 17, 400");
-    show_window(65, 8193, 0, 17, 400, &some, 4);
+    print(rt, b"8192 edges under 0 at 17, 400")?;
+    show_window(rt, 65, 8192, 0, 17, 400, &some, 4)?;
+    print(rt, b"8193 edges under 0 at 17, 400")?;
+    show_window(rt, 65, 8193, 0, 17, 400, &some, 4)
 }
 
 // Many optimal pairs: no square is alone the best.
-fn many_pairs() {
-    show_pair(b"one edge alone", 83, 83, 1, 1);
-    show_pair(b"all patterns and bits 0", 0, 0, 1000, 0);
-    show_pair(b"1024 optimal pairs", 32, 32, 2, 1);
-    show_pair(b"1025 optimal pairs", 25, 41, 2, 1);
-    show_near_tie(b"1024 optimal pairs, near tie", 32, 32);
-    show_near_tie(b"1025 optimal pairs, near tie", 25, 41);
+fn many_pairs(rt: &impl Print) -> io::Result<()> {
+    show_pair(rt, b"one edge alone", 83, 83, 1, 1)?;
+    show_pair(rt, b"all patterns and bits 0", 0, 0, 1000, 0)?;
+    show_pair(rt, b"1024 optimal pairs", 32, 32, 2, 1)?;
+    show_pair(rt, b"1025 optimal pairs", 25, 41, 2, 1)?;
+    show_near_tie(rt, b"1024 optimal pairs, near tie", 32, 32)?;
+    show_near_tie(rt, b"1025 optimal pairs, near tie", 25, 41)
 }
 
 // Faults that are judged after the early refusals.
-fn faulty() {
-    show_faulty(b"19 edges missed, margin 20", 19, 17, 1.0, 1.0);
-    show_faulty(b"20 edges missed, margin 20", 20, 17, 1.0, 1.0);
+fn faulty(rt: &impl Print) -> io::Result<()> {
+    show_faulty(rt, b"19 edges missed, margin 20", 19, 17, 1.0, 1.0)?;
+    show_faulty(rt, b"20 edges missed, margin 20", 20, 17, 1.0, 1.0)?;
     show_faulty(
+        rt,
         b"20 edges missed, limit 20 / 288",
         20,
         17,
         1.0,
         20.0 / 288.0,
-    );
+    )?;
     show_faulty(
+        rt,
         b"21 edges missed, limit 20 / 288",
         21,
         17,
         1.0,
         20.0 / 288.0,
-    );
-    show_faulty(b"physical list from row 18", 0, 18, 1.0, 1.0);
-    show_faulty(b"confidence 0", 0, 17, 0.0, 1.0);
+    )?;
+    show_faulty(rt, b"physical list from row 18", 0, 18, 1.0, 1.0)?;
+    show_faulty(rt, b"confidence 0", 0, 17, 0.0, 1.0)
 }
 
 // A clean 12 by 12 window whose confidences are eight values, one after the other and again.
-fn show_weighted(name: &[u8], eight: &[f32; 8]) {
-    print(name);
+fn show_weighted(rt: &impl Print, name: &[u8], eight: &[f32; 8]) -> io::Result<()> {
+    print(rt, name)?;
     let mut confidences = [0.0f32; 8193];
     repeat(&mut confidences, eight);
     let all = [0u8, 1, 2, 3, 4, 5, 6, 7];
-    show_cut(12, 8193, 0, 17, 400, &all, 8, &confidences);
+    show_cut(rt, 12, 8193, 0, 17, 400, &all, 8, &confidences)
 }
 
 // Confidences of 0 and of -0, which count as 0: hits are counted all the same, and a list with no other confidence is refused.
-fn zeros() {
+fn zeros(rt: &impl Print) -> io::Result<()> {
     let mixed = [0.0f32, -0.0, 0.375, -0.0, 0.0, 0.75, -0.0, 1.0];
-    show_weighted(b"confidences of 0 and -0 among others", &mixed);
+    show_weighted(rt, b"confidences of 0 and -0 among others", &mixed)?;
     let last = [-0.0f32, -0.0, -0.0, -0.0, -0.0, -0.0, -0.0, 0.5];
-    show_weighted(b"confidence -0 but for every eighth edge", &last);
+    show_weighted(rt, b"confidence -0 but for every eighth edge", &last)?;
     let minus = [-0.0f32, -0.0, -0.0, -0.0, -0.0, -0.0, -0.0, -0.0];
-    show_weighted(b"confidence -0", &minus);
+    show_weighted(rt, b"confidence -0", &minus)
 }
 
 // All runs.
-pub(crate) fn show_all() {
-    clean();
-    listed_and_long();
-    many_pairs();
-    faulty();
-    zeros();
+pub(crate) fn show_all(rt: &impl Print) -> io::Result<()> {
+    clean(rt)?;
+    listed_and_long(rt)?;
+    many_pairs(rt)?;
+    faulty(rt)?;
+    zeros(rt)
 }

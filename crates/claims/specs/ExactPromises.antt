@@ -25,7 +25,7 @@ use Rattle.exact_answer.specs.declared.ExactAnswer.TheVariants.{Found, Refused}
 use Rattle.exact_core.specs.ExactCore.{total_units}
 use Rattle.exact_demand.specs.ExactDemand.{ExactWins, ExactAnswered}
 use Rattle.exact_demand.specs.ExactDomain.{ExactRoom, exact_checked, exact_early}
-use Rattle.exact_demand.specs.ExactRange.{ExactInRange}
+use Rattle.exact_demand.proofs.ExactRange.{ExactInRange}
 use Rattle.decode_exact.specs.ExactAnswer.{exact_answer, ExactCallDone}
 use Rattle.claims.specs.Late.{exact_late}
 use Rattle.claims.specs.Promises.{Demands, Emptied, Early}

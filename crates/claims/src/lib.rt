@@ -1,1 +1,2 @@
-// No code: what is promised stands in specs/Claims.antt.
+// No code: what is promised stands in proofs/Claims.antt.
+#![tactic(auto)]

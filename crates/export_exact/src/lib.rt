@@ -1,4 +1,6 @@
 // Exact decode for C and Rust programs: each slice is a pointer and then its length.
+#![tactic(auto)]
+
 ghost use Rattle.board.specs.Hits.{edges, tables};
 ghost use Rattle.admission.specs.Calls.{hard_call};
 ghost use Rattle.export_exact.specs.Exports.{ExactFlat};
@@ -6,8 +8,7 @@ ghost use Rattle.export_exact.specs.Exports.{ExactFlat};
 use flat_exact::FlatExact;
 
 // Exact decode: which square the camera faces by its two edge lists, with weights that add without rounding, or a refusal.
-#[unsafe(no_mangle)]
-pub extern "C" fn samburext_decode_exact_3<'a>(
+pub fn samburext_decode_exact_3<'a>(
     lrows: &[i32],
     lcols: &[i32],
     lorientations: &[u8],

@@ -1,4 +1,6 @@
 // Hard decode for C and Rust programs: each slice is a pointer and then its length.
+#![tactic(auto)]
+
 ghost use Rattle.board.specs.Hits.{edges, tables};
 ghost use Rattle.admission.specs.Calls.{hard_call};
 ghost use Rattle.export_hard.specs.Exports.{HardFlat};
@@ -6,8 +8,7 @@ ghost use Rattle.export_hard.specs.Exports.{HardFlat};
 use flat::flat::FlatAnswer;
 
 // Hard decode: which square the camera faces by its two edge lists, or a refusal.
-#[unsafe(no_mangle)]
-pub extern "C" fn samburext_decode_hard_3<'a>(
+pub fn samburext_decode_hard_3<'a>(
     lrows: &[i32],
     lcols: &[i32],
     lorientations: &[u8],

@@ -1,12 +1,13 @@
 // The engine without tables for C and Rust programs: each slice is a pointer and then its length.
+#![tactic(auto)]
+
 ghost use Rattle.board.specs.Hits.{edges, tables};
 ghost use Rattle.export_locate.specs.Exports.{LocateFlat};
 
 use flat_located::FlatLocated;
 
 // Locates one list without lent room: which square the camera faces by hits alone, or a refusal.
-#[unsafe(no_mangle)]
-pub extern "C" fn samburext_locate_3(
+pub fn samburext_locate_3(
     rows: &[i32],
     cols: &[i32],
     orientations: &[u8],

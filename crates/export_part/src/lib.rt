@@ -1,4 +1,6 @@
 // Decode over a part for C and Rust programs: each slice is a pointer and then its length, and the part four numbers.
+#![tactic(auto)]
+
 ghost use Rattle.board.specs.Hits.{edges, tables};
 ghost use Rattle.admission.specs.Calls.{hard_call};
 ghost use Rattle.export_part.specs.Exports.{part_of, PartFlat};
@@ -7,8 +9,7 @@ use flat_part::FlatPart;
 use part::Part;
 
 // Decode over a part: which square of the part the camera faces by its two edge lists, or a refusal. The part starts at a row and a column, and has so many rows and columns of origins.
-#[unsafe(no_mangle)]
-pub extern "C" fn samburext_decode_part_3<'a>(
+pub fn samburext_decode_part_3<'a>(
     lrows: &[i32],
     lcols: &[i32],
     lorientations: &[u8],

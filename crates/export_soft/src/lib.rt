@@ -1,4 +1,6 @@
 // Soft decode for C and Rust programs: each slice is a pointer and then its length.
+#![tactic(auto)]
+
 ghost use Rattle.board.specs.Hits.{edges, tables};
 ghost use Rattle.likelihood.specs.Likelihood.{likelihoods};
 ghost use Rattle.admission.specs.Calls.{soft_call};
@@ -7,8 +9,7 @@ ghost use Rattle.export_soft.specs.Exports.{SoftFlat};
 use flat::flat_soft::FlatSoft;
 
 // Soft decode: which square the camera faces by the likelihoods of the physical list, confirmed by the hits of the logical list, or a refusal.
-#[unsafe(no_mangle)]
-pub extern "C" fn samburext_decode_soft_3<'a>(
+pub fn samburext_decode_soft_3<'a>(
     lrows: &[i32],
     lcols: &[i32],
     lorientations: &[u8],

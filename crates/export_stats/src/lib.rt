@@ -1,4 +1,6 @@
 // Match statistics for C and Rust programs: each slice is a pointer and then its length.
+#![tactic(auto)]
+
 ghost use Rattle.std.specs.Prelude.{◌≡◌};
 ghost use Rattle.board.specs.Hits.{edges, tables};
 ghost use Rattle.stats.specs.Stats.{stats_answer};
@@ -7,6 +9,7 @@ ghost use Rattle.flat.specs.Flat.{flat_stats, narrow};
 use flat::flat_stats::FlatStats;
 
 // A transform number as the byte that the library takes: every number above 7 becomes 255, which is refused as any of them is.
+#[tactic(auto, unfolding(flat::specs::Flat::narrow))]
 fn narrowed(transform: u32) -> u8
     ensures { result ≡ narrow transform }
 {
@@ -17,8 +20,7 @@ fn narrowed(transform: u32) -> u8
 }
 
 // Match statistics: how a list fits one known transform and origin, or a refusal.
-#[unsafe(no_mangle)]
-pub extern "C" fn samburext_match_stats_2<'a>(
+pub fn samburext_match_stats_2<'a>(
     rows: &[i32],
     cols: &[i32],
     orientations: &[u8],

@@ -1,5 +1,5 @@
 -- Narrowing a transform number to a byte changes no answer.
-use Rattle.std.specs.Prelude.{◌≡◌, refl, Bool, true, false, cond, ℕ, ltb, length, Float}
+use Rattle.std.specs.Prelude.{◌≡◌, refl, Bool, true, false, ℕ, ltb, length, Float}
 use Rattle.std.proofs.Common.{sym, ap, ◌∙◌, arith, ltb-true}
 use Rattle.board.specs.Hits.{EdgeList, Board, size}
 use Rattle.checks.specs.Checks.{lengths_differ, size_bad}

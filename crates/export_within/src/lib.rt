@@ -1,4 +1,6 @@
 // The test of one placing against the error limit for C and Rust programs: each slice is a pointer and then its length.
+#![tactic(auto)]
+
 ghost use Rattle.std.specs.Prelude.{◌≡◌};
 ghost use Rattle.board.specs.Hits.{edges, tables};
 ghost use Rattle.flat.specs.Flat.{narrow};
@@ -18,8 +20,7 @@ fn narrowed(transform: u32) -> u8
 }
 
 // Whether a list at one known transform and origin is within the error limit, and how many edges were read to know it, or a refusal.
-#[unsafe(no_mangle)]
-pub extern "C" fn samburext_within_limit_1<'a>(
+pub fn samburext_within_limit_1<'a>(
     rows: &[i32],
     cols: &[i32],
     orientations: &[u8],

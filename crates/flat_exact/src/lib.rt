@@ -1,4 +1,6 @@
 // The answer of exact decode as a struct of plain numbers, for callers whose language has no enum with fields. A refusal has its number and its place, and fills every other field with what no found answer has.
+#![tactic(auto)]
+
 ghost use Rattle.std.specs.Prelude.{◌≡◌, ◌-◌};
 ghost use Rattle.flat_exact.specs.FlatExact.{flat_exact, flat_exact_found, flat_exact_refused};
 

@@ -1,4 +1,6 @@
 // The answer of the engine without tables as a struct of plain numbers, for callers whose language has no enum with fields. A refusal has its number and its place, and fills every other field with what no found answer has.
+#![tactic(auto)]
+
 ghost use Rattle.std.specs.Prelude.{◌≡◌};
 ghost use Rattle.flat_located.specs.FlatLocated.{flat_located, flat_located_found, flat_located_refused};
 

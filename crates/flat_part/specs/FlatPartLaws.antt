@@ -1,11 +1,9 @@
 -- Which flat answers of decode over a part are refusals, and that these hold nothing but their number and their place; and which found ones show no runner-up.
 use Rattle.std.specs.Prelude.{◌≡◌, refl, ℕ, ◌<◌}
 use Rattle.std.proofs.Common.{arith}
-use Rattle.answer.specs.declared.Square.{Square}
 use Rattle.refusals.specs.declared.Refusal.{Refusal}
 use Rattle.part_answer.specs.declared.PartRunnerUp.{PartRunnerUp}
 use Rattle.part_answer.specs.declared.PartRunnerUp.TheVariants.{NoneShown, Shown}
-use Rattle.part_answer.specs.declared.PartDecoded.{PartDecoded}
 use Rattle.part_answer.specs.declared.PartAnswer.{PartAnswer}
 use Rattle.part_answer.specs.declared.PartAnswer.TheVariants.{Found, Refused}
 use Rattle.flat.specs.Flat.{nothing, not_refused}

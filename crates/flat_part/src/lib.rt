@@ -1,4 +1,6 @@
 // The answer of decode over a part as a struct of plain numbers, for callers whose language has no enum with fields. A runner-up that is not shown, and a refusal, fill their fields with what nothing shown has.
+#![tactic(auto)]
+
 ghost use Rattle.std.specs.Prelude.{◌≡◌};
 ghost use Rattle.flat_part.specs.FlatPart.{flat_next, flat_part, flat_part_found, flat_part_refused};
 

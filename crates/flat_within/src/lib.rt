@@ -1,4 +1,6 @@
 // The answer of the test of one placing as a struct of plain numbers, for callers whose language has no enum with fields. A refusal has its number and its place, and fills every other field with what no judged answer has.
+#![tactic(auto)]
+
 ghost use Rattle.std.specs.Prelude.{◌≡◌, cond};
 ghost use Rattle.flat_within.specs.FlatWithin.{flat_within, flat_judged, flat_unjudged};
 

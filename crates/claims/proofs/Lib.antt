@@ -1,0 +1,11 @@
+pub mod TenFieldsTheorems
+pub mod DemandsLaws
+pub mod LateLaws
+pub mod Claims
+pub mod ExactLateLaws
+pub mod ModesLaws
+pub mod ExactClaims
+pub mod FlatBoard
+pub mod FoundLaws
+pub mod Witness
+pub mod Slides

@@ -46,7 +46,7 @@ extern "C" {
        runner_up_score   (float)runner_up_hits, in both
        margin            (float)margin_hits in a hard answer; margin, as it was, in a soft one
    and every other field has its old name and value (in a refusal both were NaN). The second_.. fields are new. The old answer is defined from
-   the new ones as `tenFields` (crates/ten_fields/specs/TenFields.antt), and the Rattle library has a function that is proved to compute it. */
+   the new ones as `ten_fields` (crates/ten_fields/specs/TenFields.antt), and the Rattle library has a function that is proved to compute it. */
 
 /* The least lengths of the room slices where the horizontal pattern table has L bytes; what they hold before has no influence. Longer slices are
    taken too: room for SAMBUREXT_MAX_POLE_LENGTH serves every board. */

@@ -1,5 +1,5 @@
 // Links target/staticlib/libsamburext.a, which tools/archive writes beside this folder. The archive is for x86-64 Linux. SAMBUREXT_ARCHIVE names
-// another folder that has one (bench/arm.sh makes such a folder).
+// another folder that has one (bench/arm.sh does).
 use std::env::var;
 use std::path::{Path, PathBuf};
 

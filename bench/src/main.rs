@@ -78,7 +78,7 @@ fn square(s: samburext::Square) -> Square {
     Square { transform: s.transform, row: s.row as i32, col: s.col as i32 }
 }
 
-/// The ten fields that the Rust has, of a hard answer: crates/ten_fields/specs/TenFields.antt, `tenOfHard`.
+/// The ten fields that the Rust has, of a hard answer: crates/ten_fields/specs/TenFields.antt, `ten_of_hard`.
 fn ten_of_hard(d: Decoded) -> Found {
     Found {
         square: square(d.square),
@@ -94,7 +94,7 @@ fn ten_of_hard(d: Decoded) -> Found {
     }
 }
 
-/// The same of a soft answer: `tenOfSoft`. The Rust has no place for the second.
+/// The same of a soft answer: `ten_of_soft`. The Rust has no place for the second.
 fn ten_of_soft(d: SoftDecoded) -> Found {
     Found {
         square: square(d.square),

@@ -23,7 +23,6 @@ use Rattle.exact.specs.Select.{exact_selection}
 use Rattle.exact.specs.Winner.{weight_at, IsWinner}
 use Rattle.exact.proofs.ExactTheorems.{winner-once, exact-winner, exact-runner-up}
 use Rattle.exact_answer.specs.declared.ExactDecoded.{ExactDecoded}
-use Rattle.exact_answer.specs.declared.ExactAnswer.{ExactAnswer}
 use Rattle.exact_answer.specs.declared.ExactAnswer.TheVariants as exact
 use Rattle.exact_verdict.specs.ExactVerdict.{exact_refused_by, exact_decoded_of, exact_judged}
 use Rattle.exact_core.specs.ExactCore.{total_units, runner_weight_of, judged_winners, exact_after_physical, exact_after_logical, exact_core}
@@ -38,40 +37,12 @@ use Rattle.part_select.specs.declared.kept.PartSelection.TheVariants as sel
 use Rattle.part_select.specs.Select.{part_selection}
 use Rattle.part_select.specs.PartWinner.{IsPartWinner}
 use Rattle.part_select.proofs.PartTheorems.{PartSelected, part-winner}
-use Rattle.part_answer.specs.declared.PartRunnerUp.{PartRunnerUp}
-use Rattle.part_answer.specs.declared.PartRunnerUp.TheVariants.{NoneShown, Shown}
 use Rattle.part_answer.specs.declared.PartDecoded.{PartDecoded}
-use Rattle.part_answer.specs.declared.PartAnswer.{PartAnswer}
-use Rattle.part_answer.specs.declared.PartAnswer.TheVariants.{Found, Refused}
+use Rattle.part_answer.specs.declared.PartAnswer.TheVariants.{Found}
 use Rattle.part_verdict.specs.PartVerdict.{part_refused_by, part_decoded_of, part_judged}
 use Rattle.part_core.specs.PartCore.{shown_beside, judged_part, part_after_physical, part_after_logical, part_core}
+use Rattle.part_demand.specs.FullPart.{FullAgrees, both_find, both_refuse, Full}
 use Rattle.part_demand.proofs.PartSelections as over
-
--- ---- what the two answers share
--- a runner-up is shown, with so many hits
-abbrev pub ShownWith : PartRunnerUp → ℕ → Type 0
-ShownWith NoneShown n = ⊥
-ShownWith (Shown square hits weight) n = hits ≡ n
-
--- of two found answers: all but the runner-up's place and weight
-pub record SameAsExact (d : PartDecoded) (e : ExactDecoded) : Type 0 where
-  pub square : d.square ≡ e.square
-  pub hits : d.hits ≡ e.hits
-  pub edges : d.edges ≡ e.edges
-  pub weight : d.weight ≡ e.weight
-  pub total : d.total ≡ e.total
-  pub rate : d.error_rate ≡ e.error_rate
-  pub runner_up_hits : ShownWith d.runner_up e.runner_up_hits
-
--- of two answers: both find the same, or both refuse alike
-pub data FullAgrees : PartAnswer → ExactAnswer → Type 0 where
-  both_find : (d : PartDecoded) (e : ExactDecoded) → SameAsExact d e → FullAgrees (Found d) (exact.Found e)
-  both_refuse : (r : Refusal) → FullAgrees (Refused r) (exact.Refused r)
-
--- the full part: every row and every column
-pub record Full (part : Part) : Type 0 where
-  pub rows : part.rows ≡ 501
-  pub cols : part.cols ≡ 501
 
 -- ---- the placings of the full part are those of the flat board
 module _ (B : Board) (ts : List ℕ) (h : length B.h ≡ 167) (v : length B.v ≡ 167) (part : Part) (ok : PartOk part) (full : Full part) where

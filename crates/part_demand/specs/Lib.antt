@@ -1,1 +1,2 @@
 pub mod PartDemand
+pub mod FullPart

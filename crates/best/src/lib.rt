@@ -2,3 +2,5 @@
 #![tactic(auto)]
 
 pub mod lex; // one table: the largest count, then the largest weight, how many cells have them, and the second-best cell
+pub mod first; // the first of the best cells of a table, whatever a cell holds
+pub mod around; // what stands around a cell that no other beats

@@ -1,7 +1,9 @@
 // The checks of a list behind the early refusals. Each takes every input. A check of a column answers where: the first bad index, or the length.
 ghost use Rattle.std.specs.Prelude.{◌≡◌, ◌||◌, not};
-ghost use Rattle.board.specs.Hits.{edges};
+ghost use Rattle.board.specs.Given.{list_of};
 ghost use Rattle.checks.specs.Checks.{far, far_at, bad_coordinate, bad_likelihood, unlikely_at, first_bad_coordinate, first_bad_likelihood, lengths_differ, size_bad};
+
+use board::list::List;
 
 // The least and the largest row and column.
 const LEAST: i32 = -1000000;
@@ -12,7 +14,7 @@ const LARGEST: i32 = 1000000;
 const MAX_EDGES: usize = 8192;
 
 // Whether a coordinate is outside -1,000,000 to 1,000,000.
-fn is_far(x: i32) -> bool
+pub fn is_far(x: i32) -> bool
     ensures { result ≡ far x }
 {
     x < LEAST || LARGEST < x
@@ -22,7 +24,7 @@ fn is_far(x: i32) -> bool
 fn far_at(xs: &[i32], i: usize) -> bool
     ensures { result ≡ far_at xs.now i }
 {
-    if i < xs.len() { is_far(xs[i]) } else { false }
+    xs.get(i).is_some_and(|x| is_far(*x))
 }
 
 // Whether edge i has a row or column out of range.
@@ -36,25 +38,16 @@ fn bad_coordinate_at(rows: &[i32], cols: &[i32], i: usize) -> bool
 pub fn first_bad_coordinate(rows: &[i32], cols: &[i32]) -> usize
     ensures { result ≡ first_bad_coordinate rows.now cols.now }
 {
-    let mut i = 0;
-    while i < rows.len() {
-        if bad_coordinate_at(rows, cols, i) {
-            return i;
-        }
-        i += 1;
-    }
-    i
+    (0..rows.len())
+        .find(|i| bad_coordinate_at(rows, cols, *i))
+        .unwrap_or(rows.len())
 }
 
 // Whether there is no acceptable likelihood at index i.
 fn unlikely_at(xs: &[f32], i: usize) -> bool
     ensures { result ≡ unlikely_at xs.now i }
 {
-    if i < xs.len() {
-        !likelihood::is_likelihood(xs[i])
-    } else {
-        true
-    }
+    xs.get(i).is_none_or(|x| !likelihood::is_likelihood(*x))
 }
 
 // Whether edge i lacks an acceptable match or mismatch likelihood.
@@ -68,38 +61,25 @@ fn bad_likelihood_at(matches: &[f32], mismatches: &[f32], i: usize) -> bool
 pub fn first_bad_likelihood(matches: &[f32], mismatches: &[f32]) -> usize
     ensures { result ≡ first_bad_likelihood matches.now mismatches.now }
 {
-    let mut i = 0;
-    while i < matches.len() {
-        if bad_likelihood_at(matches, mismatches, i) {
-            return i;
-        }
-        i += 1;
-    }
-    i
+    (0..matches.len())
+        .find(|i| bad_likelihood_at(matches, mismatches, *i))
+        .unwrap_or(matches.len())
 }
 
 // Whether the slices of one list differ in length.
-pub fn lengths_differ(
-    rows: &[i32],
-    cols: &[i32],
-    orientations: &[u8],
-    bits: &[u8],
-    confidences: &[f32],
-) -> bool
-    ensures { result ≡ lengths_differ (edges rows.now cols.now orientations.now bits.now confidences.now) }
+#[tactic(auto, unfolding(crate::specs::Checks::lengths_differ))]
+pub fn lengths_differ(list: List) -> bool
+    ensures { result ≡ lengths_differ (list_of list.entry) }
 {
-    let n = rows.len();
-    if n == cols.len() {
-        if n == orientations.len() {
-            if n == bits.len() {
-                return n != confidences.len();
-            }
-        }
-    }
-    true
+    let n = list.edges.rows.len();
+    n != list.edges.cols.len()
+        || n != list.edges.orientations.len()
+        || n != list.edges.bits.len()
+        || n != list.confidences.len()
 }
 
 // Whether a list has fewer than `least` edges or more than 8,192.
+#[tactic(auto, unfolding(crate::specs::Checks::size_bad))]
 pub fn size_bad(least: usize, n: usize) -> bool
     ensures { result ≡ size_bad least n }
 {

@@ -1,45 +1,50 @@
-// Lent room set to zero, one function for each type.
+// Lent room set to zero, of whatever numbers it holds.
 #![tactic(auto)]
 
-ghost use Rattle.std.specs.Prelude.{◌≡◌, ◌≤◌, length, pos};
+ghost use Rattle.std.specs.Prelude.{◌≤◌, ◌≡◌, length, pos};
 ghost use Rattle.laws.specs.Words.{zero_f, cleared};
 
-// Sets the first n places of a lent u32 slice to 0; the surplus stays as it was.
-pub fn clear_u32(room: &mut [u32], n: usize)
-    requires { n ≤ length room.old }
-    ensures { room.new ≡ cleared 0 n room.old }
-{
-    for i in 0..n {
-        room[i] = 0;
-    }
+// A number that lent room can hold, with its zero: what a place holds before anything is added to it.
+pub trait Zero: Copy {
+    ghost ZERO: { Self };
+
+    const ZERO: Self;
 }
 
-// Sets the first n places of a lent f32 slice to +0; the surplus stays as it was.
-pub fn clear_f32(room: &mut [f32], n: usize)
-    requires { n ≤ length room.old }
-    ensures { room.new ≡ cleared zero_f n room.old }
-{
-    for j in 0..n {
-        room[j] = 0.0;
-    }
+// The zero of counts.
+impl Zero for u32 {
+    ghost ZERO = { 0 };
+
+    const ZERO: u32 = 0;
 }
 
-// Sets the first n places of a lent i64 slice to 0; the surplus stays as it was.
-pub fn clear_i64(room: &mut [i64], n: usize)
-    requires { n ≤ length room.old }
-    ensures { room.new ≡ cleared (pos 0) n room.old }
-{
-    for k in 0..n {
-        room[k] = 0;
-    }
+// The zero of weights is +0.
+impl Zero for f32 {
+    ghost ZERO = { zero_f };
+
+    const ZERO: f32 = 0.0;
 }
 
-// Sets the first n places of a lent u64 slice to 0; the surplus stays as it was.
-pub fn clear_u64(room: &mut [u64], n: usize)
+// The zero of likelihood sums.
+impl Zero for i64 {
+    ghost ZERO = { pos 0 };
+
+    const ZERO: i64 = 0;
+}
+
+// The zero of whole units of weight.
+impl Zero for u64 {
+    ghost ZERO = { 0 };
+
+    const ZERO: u64 = 0;
+}
+
+// Sets the first n places of a lent slice to zero; the surplus stays as it was.
+pub fn clear<T: Zero>(room: &mut [T], n: usize)
     requires { n ≤ length room.old }
-    ensures { room.new ≡ cleared 0 n room.old }
+    ensures { room.new ≡ cleared T.ZERO n room.old }
 {
-    for at in 0..n {
-        room[at] = 0;
+    for place in &mut room[..n] {
+        *place = T::ZERO;
     }
 }

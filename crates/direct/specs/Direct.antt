@@ -7,7 +7,7 @@ use Rattle.laws.specs.Words.{Grid, origins}
 use Rattle.best.specs.CellTables.{CellTables, c_at, w_at}
 use Rattle.scan.specs.Scan.{offered_within}
 use Rattle.scan.specs.declared.scan.Candidate.{Candidate}
-use Rattle.scan.specs.declared.scan.Kept.{Kept}
+use Rattle.scan.specs.Kinds.{Kept}
 
 -- "score (weight / total confidence)"
 abbrev pub hard_candidate : ℕ → Float → Float → ℕ → ℕ → ℕ → Candidate

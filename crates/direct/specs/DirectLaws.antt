@@ -9,7 +9,7 @@ use Rattle.std.specs.Float.Ieee.{add, binary32}
 use Rattle.best.specs.CellTables.{CellTables, Period, c_at, w_at}
 use Rattle.scan.specs.Scan.{offered_within}
 use Rattle.direct.specs.Direct.{hard_candidate, origin_candidate, tried}
-use Rattle.scan.specs.declared.scan.Kept.{Kept}
+use Rattle.scan.specs.Kinds.{Kept}
 
 three : 0 < 3
 three = lit< tt

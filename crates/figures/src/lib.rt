@@ -36,7 +36,7 @@ pub fn mean(hits: u32, weight: f32) -> f32
 pub fn margin(a: u32, b: u32) -> u32
     ensures { result ≡ a - b }
 {
-    if a > b { a - b } else { 0 }
+    a.saturating_sub(b)
 }
 
 // Whether a placing of `best` hits among `edges` edges is ahead of the runner-up's hits by more than its own misses.
@@ -51,8 +51,8 @@ pub fn total_confidence(confidences: &[f32]) -> f32
     ensures { result ≡ confidence_to confidences.now (length confidences.now) }
 {
     let mut total: f32 = 0.0;
-    for i in 0..confidences.len() {
-        total += confidences[i];
+    for confidence in confidences {
+        total += *confidence;
     }
     total
 }

@@ -1,6 +1,6 @@
 -- What is kept of the candidates that were offered: one of them, of most hits. A set of candidates is a predicate, so that rows, transforms and lists of
 -- them compose.
-use Rattle.std.specs.Prelude.{◌≡◌, Bool, true, false, cond, ◌&&◌, ◌⊎◌, ltb, eqb, Float}
+use Rattle.std.specs.Prelude.{◌≡◌, Bool, true, false, cond, ◌&&◌, ◌⊎◌, ltb, eqb, Float, None, Some}
 use Rattle.std.proofs.Math.Path.{refl, ap}
 use Rattle.std.proofs.Common.{◌∙◌, inr, zero-add, ltb-true, ltb-false, eqb-true}
 use Rattle.std.proofs.Math.Logic.{inl, ⊎_elim}
@@ -17,27 +17,26 @@ use Rattle.folding.specs.Transform.{best_origin, best_hits, best_candidate, offe
 use Rattle.folding.specs.TransformLaws.{by-none, by-direct, by-best, selected-none, selected-count, kept_at, selected-best}
 use Rattle.best.specs.declared.lex.LexMax.{LexMax}
 use Rattle.scan.specs.declared.scan.Candidate.{Candidate}
-use Rattle.scan.specs.declared.scan.Kept.{Kept}
-use Rattle.scan.specs.declared.scan.Kept.TheVariants.{Nobody, One}
+use Rattle.scan.specs.Kinds.{Kept}
 
 -- of the candidates S: nobody where there is none, else one of them, and none has more hits
 abbrev pub MostOf : (Candidate → Type 0) → Kept → Type 0
-MostOf S Nobody = (c : Candidate) → S c → ⊥
-MostOf S (One c) = S c × ((d : Candidate) → S d → d.hits ≤ c.hits)
+MostOf S None = (c : Candidate) → S c → ⊥
+MostOf S (Some c) = S c × ((d : Candidate) → S d → d.hits ≤ c.hits)
 
 -- the same set, said another way
 pub most-same : (S S' : Candidate → Type 0) (o : Kept) → MostOf S o → ((x : Candidate) → S x → S' x) → ((x : Candidate) → S' x → S x) → MostOf S' o
-most-same S S' Nobody h up down = λ c s. h c (down c s)
-most-same S S' (One k) h up down = (up k h.0, λ d s. h.1 d (down d s))
+most-same S S' None h up down = λ c s. h c (down c s)
+most-same S S' (Some k) h up down = (up k h.0, λ d s. h.1 d (down d s))
 
 -- one candidate more is offered
 pub most-more : (S S' : Candidate → Type 0) (o : Kept) (d : Candidate) → MostOf S o → S' d → ((x : Candidate) → S x → S' x) → ((x : Candidate) → S' x → S x ⊎ (x ≡ d))
     → MostOf S' (replaced o d)
 unfolding replaced takes
-most-more S S' Nobody d h new up down = (new, λ x s. ⊎_elim (λ a. absurd (h x a)) (λ a. rw a (omega arith)) (down x s))
-most-more S S' (One k) d h new up down = go (takes (One k) d.hits d.score) refl
+most-more S S' None d h new up down = (new, λ x s. ⊎_elim (λ a. absurd (h x a)) (λ a. rw a (omega arith)) (down x s))
+most-more S S' (Some k) d h new up down = go (takes (Some k) d.hits d.score) refl
   where
-    go : (t : Bool) → takes (One k) d.hits d.score ≡ t → MostOf S' (cond t (One d) (One k))
+    go : (t : Bool) → takes (Some k) d.hits d.score ≡ t → MostOf S' (cond t (Some d) (Some k))
     go true e =
         let l : k.hits ≤ d.hits = ⊎_elim
         (λ a. omega (arith, ltb-true k.hits d.hits a))
@@ -174,5 +173,5 @@ module _ (L M edges : ℕ) (confidence limit : Float) where
     selected-sound n l = rw (selected-count L M edges confidence limit ts tab n) (l, go (selected L M edges confidence limit ts tab n).best (kept-most n))
       where
         go : (o : Kept) → MostOf (Listed n) o → SoundKept o n
-        go Nobody h = tt
-        go (One c) h = omega (arith, h.0.1, offers-place h.0.0 c h.0.2)
+        go None h = tt
+        go (Some c) h = omega (arith, h.0.1, offers-place h.0.0 c h.0.2)

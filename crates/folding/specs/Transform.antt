@@ -14,7 +14,7 @@ use Rattle.scan.specs.declared.scan.Candidate.{Candidate}
 use Rattle.scan.specs.declared.scan.RunnerUp.{RunnerUp}
 use Rattle.scan.specs.declared.scan.TransformSummary.{TransformSummary}
 use Rattle.scan.specs.declared.scan.HardScan.{HardScan}
-use Rattle.scan.specs.declared.scan.Kept.{Kept}
+use Rattle.scan.specs.Kinds.{Kept}
 use Rattle.folding.specs.declared.transform.Ranked.{Ranked}
 
 -- what two tables of 3 L and 3 M cells say: cells inside, numbers of cells and counts of no more than there are

@@ -19,7 +19,7 @@ use Rattle.folding.specs.Transform.{BestOk, first_of, best_origin, best_hits, be
 use Rattle.best.specs.declared.lex.LexMax.{LexMax}
 use Rattle.scan.specs.declared.scan.TransformSummary.{TransformSummary}
 use Rattle.scan.specs.declared.scan.HardScan.{HardScan}
-use Rattle.scan.specs.declared.scan.Kept.{Kept}
+use Rattle.scan.specs.Kinds.{Kept}
 use Rattle.folding.specs.declared.transform.Ranked.{Ranked}
 
 -- what is known of a transform's two tables a and b and of its best origin: in range, at most `edges` hits, and a small key

@@ -5,7 +5,7 @@ ghost use Rattle.best.specs.CellTables.{Period, TablesOk, cells};
 ghost use Rattle.folding.specs.Transform.{BestOk, first_of, runner_up_within, competitor_of, summary_of, offered_by, fold_transform, FoldReady};
 ghost use Rattle.folding.specs.TransformLaws.{PairOk};
 
-use best::lex::{LexMax, lex_max};
+use best::lex::{LexMax, is_optimal, lex_max};
 use board::edge::Placing;
 use direct::direct::scan_direct;
 use grid::origin::{key_of, row_major_first};
@@ -37,13 +37,13 @@ fn best_origin(
     requires { Period periods.h × Period periods.v × PairOk periods.h periods.v (cells hc.now hw.now vc.now vw.now) a b }
     ensures { result ≡ first_of (origins periods.h periods.v) (cells hc.now hw.now vc.now vw.now) a b }
 {
-    if a.optimal == 1 {
-        if b.optimal == 1 {
-            return key_of(a.cell, b.cell, periods);
-        }
+    if a.optimal == 1 && b.optimal == 1 {
+        return key_of(a.cell, b.cell, periods);
     }
     row_major_first(
-        hc, hw, a.count, a.weight, vc, vw, b.count, b.weight, periods,
+        |h| is_optimal(hc[h], hw[h], a.count, a.weight),
+        |v| is_optimal(vc[v], vw[v], b.count, b.weight),
+        periods,
     )
 }
 

@@ -1,11 +1,9 @@
 // Pairs of cells: the origin that a pair names, and the first one, row by row, over the pairs of best cells.
-ghost use Rattle.std.specs.Prelude.{◌≡◌, ◌*◌, ◌/◌, ◌≤◌, ◌<◌, leb, length};
+ghost use Rattle.std.specs.Prelude.{◌≡◌, ℕ, Bool, ◌*◌, ◌/◌, ◌≤◌, ◌<◌, leb};
 ghost use Rattle.laws.specs.Words.{joint, origins};
-ghost use Rattle.best.specs.Lex.{optimal};
 ghost use Rattle.best.specs.CellTables.{Period};
-ghost use Rattle.grid.specs.RowMajor.{lower, lowest, row_major};
+ghost use Rattle.grid.specs.RowMajor.{lower, lowest, row_major, Tells};
 
-use best::lex::is_optimal;
 use laws::Periods;
 
 // The number below 3 · period with the residue s by 3 and l by the period, document 01's (334·s + 168·l) mod 501 at 167: it is l and as many steps of the
@@ -57,65 +55,44 @@ pub fn lower_key(best: usize, h: usize, v: usize, periods: Periods) -> usize
     requires { Period periods.h × Period periods.v × (h < 3 * periods.h) × (v < 3 * periods.v) }
     ensures { result ≡ lower ((origins periods.h periods.v).key h v) best }
 {
-    let key = key_of(h, v, periods);
-    if key < best {
-        return key;
-    }
-    best
+    best.min(key_of(h, v, periods))
 }
 
-// The least of start and the keys of the horizontal cell h with each vertical cell of that count and weight. Where start clears the row of h, no vertical
-// cell is looked at.
-fn lowest_key(
-    counts: &[u32],
-    weights: &[f32],
-    top: u32,
-    heavy: f32,
-    h: usize,
-    start: usize,
-    periods: Periods,
-) -> usize
+// The least of start and the keys of the horizontal cell h with each vertical cell that passes. Where start clears the row of h, no vertical cell is asked.
+fn lowest_key<V: Fn(usize) -> bool>(passes: &V, h: usize, start: usize, periods: Periods) -> usize
     requires period { Period periods.h × Period periods.v × (h < 3 * periods.h) }
-    requires counts_len { (length counts.now ≡ 3 * periods.v) × (length weights.now ≡ 3 * periods.v) }
-    ensures { result ≡ lowest (optimal counts.now weights.now top heavy) ((origins periods.h periods.v).key h) start (length counts.now) }
+    requires asked { (v : ℕ) → v < 3 * periods.v → V.pre passes.now v }
+    ensures { (q : ℕ → Bool) → Tells (3 * periods.v) (V.post passes.now) q → result ≡ lowest q ((origins periods.h periods.v).key h) start (3 * periods.v) }
 {
     if clears_row(start, h, periods) {
         return start;
     }
-    let mut best: usize = start;
-    let mut v: usize = 0;
-    while v < counts.len() {
-        if is_optimal(counts[v], weights[v], top, heavy) {
+    let mut best = start;
+    for v in 0..3 * periods.v {
+        if passes(v) {
             best = lower_key(best, h, v, periods);
         }
-        v += 1;
     }
     best
 }
 
-// The row-major first origin over the pairs of a horizontal cell (count ht, weight hh) and a vertical cell (vt, vh), as its key.
-pub fn row_major_first(
-    hc: &[u32],
-    hw: &[f32],
-    ht: u32,
-    hh: f32,
-    vc: &[u32],
-    vw: &[f32],
-    vt: u32,
-    vh: f32,
+// The row-major first origin over the pairs of a horizontal cell that passes `across` and a vertical cell that passes `down`, as its key; where there is no such pair, the number of origins.
+pub fn row_major_first<H: Fn(usize) -> bool, V: Fn(usize) -> bool>(
+    across: H,
+    down: V,
     periods: Periods,
 ) -> usize
     requires period { Period periods.h × Period periods.v }
-    requires hc_len { (length hc.now ≡ 3 * periods.h) × (length hw.now ≡ 3 * periods.h) × (length vc.now ≡ 3 * periods.v) × (length vw.now ≡ 3 * periods.v) }
-    ensures { result ≡ row_major (origins periods.h periods.v) (length vc.now) (optimal hc.now hw.now ht hh) (optimal vc.now vw.now vt vh) (length hc.now) }
+    requires across { (h : ℕ) → h < 3 * periods.h → H.pre across h }
+    requires down { (v : ℕ) → v < 3 * periods.v → V.pre down v }
+    ensures { (p q : ℕ → Bool) → Tells (3 * periods.h) (H.post across) p → Tells (3 * periods.v) (V.post down) q
+        → result ≡ row_major (origins periods.h periods.v) (3 * periods.v) p q (3 * periods.h) }
 {
-    let mut best: usize = 3 * periods.h * (3 * periods.v);
-    let mut h: usize = 0;
-    while h < hc.len() {
-        if is_optimal(hc[h], hw[h], ht, hh) {
-            best = lowest_key(vc, vw, vt, vh, h, best, periods);
+    let mut best = 3 * periods.h * (3 * periods.v);
+    for h in 0..3 * periods.h {
+        if across(h) {
+            best = lowest_key(&down, h, best, periods);
         }
-        h += 1;
     }
     best
 }

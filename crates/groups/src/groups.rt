@@ -2,12 +2,13 @@
 ghost use Rattle.std.specs.Prelude.{◌≡◌, ◌+◌, ◌*◌, ◌<◌, ◌≤◌, length, nat_abs};
 ghost use Rattle.laws.specs.Modulus.{ModulusOk};
 ghost use Rattle.board.specs.Transform.{matrix_of, lookup_of};
-ghost use Rattle.board.specs.Hits.{edges};
 ghost use Rattle.board.specs.Domain.{EdgeOk};
 ghost use Rattle.groups.specs.Groups.{group, place_of};
 ghost use Rattle.groups.specs.Fill.{FillReady, Filled};
+ghost use Rattle.board.specs.Given.{list_of};
 
 use board::edge::Edge;
+use board::list::List;
 use laws::{Modulus, Periods};
 
 // The group of an edge by its long and short coordinate and its bit.
@@ -40,28 +41,24 @@ pub fn group_place(edge: Edge, t: u8, matrix: [[i32; 2]; 2], h: Modulus, v: Modu
 
 // Adds each edge to its group, in list order: one to the count, its confidence to the weight. The groups stand from `base` on.
 pub fn fill_groups(
-    rows: &[i32],
-    cols: &[i32],
-    orientations: &[u8],
-    bits: &[u8],
-    confidences: &[f32],
+    list: List,
     t: u8,
     periods: Periods,
     base: usize,
     counts: &mut [u32],
     weights: &mut [f32],
 )
-    requires { FillReady periods.h periods.v (edges rows.now cols.now orientations.now bits.now confidences.now) t base counts.old weights.old }
-    ensures { Filled periods.h periods.v (edges rows.now cols.now orientations.now bits.now confidences.now) t base (length rows.now) counts.old counts.new weights.old weights.new }
+    requires { FillReady periods.h periods.v (list_of list) t base counts.old weights.old }
+    ensures { Filled periods.h periods.v (list_of list.entry) t base (length list.entry.edges.rows.now) counts.old counts.new weights.old weights.new }
 {
     let matrix = lookup::matrix_of(t);
     let h = laws::modulus_of(periods.h as u32);
     let v = laws::modulus_of(periods.v as u32);
-    for i in 0..rows.len() {
-        let edge = board::edge::edge_at(rows, cols, orientations, bits, i);
+    for i in 0..list.edges.rows.len() {
+        let edge = list.edges.edge_at(i);
         let p = group_place(edge, t, matrix, h, v);
         let at = base + p as usize;
         counts[at] += 1;
-        weights[at] += confidences[i];
+        weights[at] += list.confidences[i];
     }
 }

@@ -6,6 +6,9 @@ ghost use Rattle.laws.specs.Words.{eq_z};
 ghost use Rattle.level.specs.Level.{level_best, level_around, level_of};
 ghost use Rattle.level.specs.LevelLaws.{Top};
 
+use best::around::around;
+use best::first::first_best;
+
 // The first cell of largest sum, that sum, how many cells have it, and the first of the second-best cells with its sum.
 #[derive(Clone, Copy)]
 pub struct LevelMax {
@@ -21,18 +24,7 @@ fn level_best(sums: &[i64]) -> usize
     requires { 1 < length sums.now }
     ensures { (result ≡ level_best sums.now) × (result < length sums.now) }
 {
-    let mut best: usize = 0;
-    let mut top = sums[0];
-    let mut i: usize = 0;
-    while i < sums.len() {
-        let s = sums[i];
-        if s > top {
-            best = i;
-            top = s;
-        }
-        i += 1;
-    }
-    best
+    first_best(sums, |sum, top| sum > top)
 }
 
 // Whether a cell's sum is the given one.
@@ -48,35 +40,13 @@ fn level_around(sums: &[i64], cell: usize) -> LevelMax
     requires { (1 < length sums.now) × (cell < length sums.now) × Top sums.now cell }
     ensures { result ≡ level_around sums.now cell }
 {
-    let top = sums[cell];
-    let mut tied: usize = 0;
-    let mut second: usize = 0;
-    if cell == 0 {
-        second = 1;
-    }
-    let mut under = sums[second];
-    let mut i: usize = 0;
-    while i < sums.len() {
-        let s = sums[i];
-        if s >= under {
-            if is_tied(s, top) {
-                tied += 1;
-            }
-            if s > under {
-                if i != cell {
-                    second = i;
-                    under = s;
-                }
-            }
-        }
-        i += 1;
-    }
+    let told = around(sums, cell, |sum, other| sum > other, |_| true);
     LevelMax {
         cell,
-        top,
-        tied,
-        second,
-        under,
+        top: sums[cell],
+        tied: told.tied,
+        second: told.second,
+        under: sums[told.second],
     }
 }
 

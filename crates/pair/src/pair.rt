@@ -7,7 +7,7 @@ ghost use Rattle.level.specs.Level.{tied_sum};
 ghost use Rattle.level.specs.Sums.{SumsOk};
 ghost use Rattle.pair.specs.Pair.{LevelsOk, filled, other_in, other_pair, second_pair, two_of};
 
-use grid::origin::{clears_row, key_of, lower_key};
+use grid::origin::{key_of, row_major_first};
 use laws::Periods;
 use level::{LevelMax, is_tied, level_max};
 
@@ -16,41 +16,6 @@ use level::{LevelMax, is_tied, level_max};
 pub struct TwoBest {
     pub winner: usize,
     pub second: usize,
-}
-
-// The least of start and the keys of the horizontal cell h with each vertical cell of that sum. Where start clears the row of h, no vertical cell is looked at.
-fn lowest_tied_key(sums: &[i64], top: i64, h: usize, start: usize, periods: Periods) -> usize
-    requires { Period periods.h × Period periods.v × (length sums.now ≡ 3 * periods.v) × (h < 3 * periods.h) }
-    ensures { result ≡ lowest (tied_sum sums.now top) ((origins periods.h periods.v).key h) start (length sums.now) }
-{
-    if clears_row(start, h, periods) {
-        return start;
-    }
-    let mut best: usize = start;
-    let mut v: usize = 0;
-    while v < sums.len() {
-        if is_tied(sums[v], top) {
-            best = lower_key(best, h, v, periods);
-        }
-        v += 1;
-    }
-    best
-}
-
-// The row-major first origin over the pairs of a horizontal cell of sum ht and a vertical cell of sum vt.
-fn row_major_first_tied(hs: &[i64], ht: i64, vs: &[i64], vt: i64, periods: Periods) -> usize
-    requires { Period periods.h × Period periods.v × (length hs.now ≡ 3 * periods.h) × (length vs.now ≡ 3 * periods.v) }
-    ensures { result ≡ row_major (origins periods.h periods.v) (length vs.now) (tied_sum hs.now ht) (tied_sum vs.now vt) (length hs.now) }
-{
-    let mut best: usize = 3 * periods.h * (3 * periods.v);
-    let mut h: usize = 0;
-    while h < hs.len() {
-        if is_tied(hs[h], ht) {
-            best = lowest_tied_key(vs, vt, h, best, periods);
-        }
-        h += 1;
-    }
-    best
 }
 
 // One pair more in the search for another pair than the winner: it is taken where none was found before it, its cells are tied and it is not the winner.
@@ -67,12 +32,10 @@ fn fill(
     requires { Period periods.h × Period periods.v × (h < 3 * periods.h) × (v < 3 * periods.v) }
     ensures { result ≡ filled none found (tied && not (eqb ((origins periods.h periods.v).key h v) winner)) ((origins periods.h periods.v).key h v) }
 {
-    if found == none {
-        if tied {
-            let key = key_of(h, v, periods);
-            if key != winner {
-                return key;
-            }
+    if found == none && tied {
+        let key = key_of(h, v, periods);
+        if key != winner {
+            return key;
         }
     }
     found
@@ -94,12 +57,10 @@ fn other_in(
     if start != none {
         return start;
     }
-    let mut found: usize = start;
-    let mut v: usize = 0;
-    while v < sums.len() {
-        let tied = is_tied(sums[v], top);
+    let mut found = start;
+    for (v, &sum) in sums.iter().enumerate() {
+        let tied = is_tied(sum, top);
         found = fill(found, none, tied, h, v, winner, periods);
-        v += 1;
     }
     found
 }
@@ -109,13 +70,11 @@ fn other_pair(hs: &[i64], ht: i64, vs: &[i64], vt: i64, winner: usize, periods: 
     requires { Period periods.h × Period periods.v × (length hs.now ≡ 3 * periods.h) × (length vs.now ≡ 3 * periods.v) }
     ensures { result ≡ other_pair (origins periods.h periods.v) (length vs.now) (tied_sum hs.now ht) (tied_sum vs.now vt) winner (length hs.now) }
 {
-    let mut found: usize = 3 * periods.h * (3 * periods.v);
-    let mut h: usize = 0;
-    while h < hs.len() {
-        if is_tied(hs[h], ht) {
+    let mut found = 3 * periods.h * (3 * periods.v);
+    for (h, &sum) in hs.iter().enumerate() {
+        if is_tied(sum, ht) {
             found = other_in(vs, vt, h, winner, found, periods);
         }
-        h += 1;
     }
     found
 }
@@ -142,7 +101,11 @@ pub fn two_best(hs: &[i64], vs: &[i64], periods: Periods) -> TwoBest
     let b = level_max(vs);
     let pairs = a.tied * b.tied;
     if pairs > 1 {
-        let winner = row_major_first_tied(hs, a.top, vs, b.top, periods);
+        let winner = row_major_first(
+            |h| is_tied(hs[h], a.top),
+            |v| is_tied(vs[v], b.top),
+            periods,
+        );
         let second = other_pair(hs, a.top, vs, b.top, winner, periods);
         return TwoBest { winner, second };
     }

@@ -21,14 +21,7 @@ const GREATEST_LENGTH: usize = 500;
 pub fn first_bad_byte(xs: &[u8], top: u8) -> usize
     ensures { result ≡ first_bad_byte top xs.now }
 {
-    let mut i = 0;
-    while i < xs.len() {
-        if top < xs[i] {
-            return i;
-        }
-        i += 1;
-    }
-    i
+    xs.iter().position(|x| top < *x).unwrap_or(xs.len())
 }
 
 // Whether x is a number from 0 to top; -0 counts as 0, a NaN is none.
@@ -42,54 +35,38 @@ pub fn in_range(x: f32, top: f32) -> bool
 pub fn first_bad_confidence(xs: &[f32]) -> usize
     ensures { result ≡ first_bad_confidence xs.now }
 {
-    let mut i = 0;
-    while i < xs.len() {
-        if !in_range(xs[i], 1.0f32) {
-            return i;
-        }
-        i += 1;
-    }
-    i
+    xs.iter()
+        .position(|x| !in_range(*x, 1.0f32))
+        .unwrap_or(xs.len())
 }
 
 // Whether there are no transforms, more than eight, or one above 7.
+#[tactic(auto, unfolding(crate::specs::Ranges::transforms_bad))]
 pub fn transforms_bad(transforms: &[u8]) -> bool
     ensures { result ≡ transforms_bad transforms.now }
 {
     let n = transforms.len();
-    if n == 0 {
-        return true;
-    }
-    if MAX_TRANSFORMS < n {
-        return true;
-    }
-    first_bad_byte(transforms, LAST) < n
+    n == 0 || MAX_TRANSFORMS < n || first_bad_byte(transforms, LAST) < n
 }
 
 // Whether a horizontal pattern table may have n entries: 4 to 500 of them and no multiple of 3. The flat board's has 167.
+#[tactic(auto, unfolding(crate::specs::Ranges::pole_length))]
 pub fn pole_length(n: usize) -> bool
     ensures { result ≡ pole_length n }
 {
-    if n < LEAST_LENGTH {
-        return false;
-    }
-    if GREATEST_LENGTH < n {
-        return false;
-    }
-    n % 3 != 0
+    (LEAST_LENGTH..=GREATEST_LENGTH).contains(&n) && n % 3 != 0
 }
 
 // Whether a pattern table has a length that it may not have, or an entry above 7.
+#[tactic(auto, unfolding(crate::specs::Ranges::patterns_bad))]
 fn patterns_bad(may_be: bool, patterns: &[u8]) -> bool
     ensures { result ≡ patterns_bad may_be patterns.now }
 {
-    if may_be {
-        return first_bad_byte(patterns, LAST) < patterns.len();
-    }
-    true
+    !may_be || first_bad_byte(patterns, LAST) < patterns.len()
 }
 
 // Whether a horizontal pattern table has no pole's length, or an entry above 7.
+#[tactic(auto, unfolding(crate::specs::Ranges::horizontal_bad))]
 pub fn horizontal_bad(patterns: &[u8]) -> bool
     ensures { result ≡ horizontal_bad patterns.now }
 {
@@ -97,6 +74,7 @@ pub fn horizontal_bad(patterns: &[u8]) -> bool
 }
 
 // Whether a vertical pattern table has not 167 entries, or one above 7.
+#[tactic(auto, unfolding(crate::specs::Ranges::vertical_bad))]
 pub fn vertical_bad(patterns: &[u8]) -> bool
     ensures { result ≡ vertical_bad patterns.now }
 {

@@ -1,15 +1,13 @@
 -- Document 01, 'Hard selection': candidates, the runner-up and the choice; and the scan record, "HardScan by value with an array of eight summaries and a count".
-use Rattle.std.specs.Prelude.{Bool, true, false, cond, ◌&&◌, ◌||◌, List, ℕ, zero, suc, ◌+◌, ◌≤◌, ◌<◌, ltb, eqb, get_or, set, replicate, Float}
+use Rattle.std.specs.Prelude.{Bool, true, false, cond, ◌&&◌, ◌||◌, List, ℕ, zero, suc, ◌+◌, ◌≤◌, ◌<◌, ltb, eqb, get_or, set, replicate, Float, None, Some}
 use Rattle.std.specs.Float.Ieee.{lt}
 use Rattle.figures.specs.Figures.{rate_of}
 use Rattle.scan.specs.declared.scan.TransformSummary.{TransformSummary}
 use Rattle.scan.specs.declared.scan.HardScan.{HardScan}
 use Rattle.scan.specs.declared.scan.RunnerUp.{RunnerUp}
 use Rattle.scan.specs.declared.scan.Candidate.{Candidate}
-use Rattle.scan.specs.declared.scan.Kept.{Kept}
-use Rattle.scan.specs.declared.scan.Kept.TheVariants.{Nobody, One}
-use Rattle.scan.specs.declared.scan.Choice.{Choice}
-use Rattle.scan.specs.declared.scan.Choice.TheVariants.{Nothing, Chosen}
+use Rattle.scan.specs.Kinds.{Kept}
+use Rattle.scan.specs.Kinds.{Choice}
 
 -- "rate over the limit": so many hits are not within it
 unfoldable pub over_limit : ℕ → Float → ℕ → Bool
@@ -19,13 +17,13 @@ over_limit edges limit hits = lt limit (rate_of edges hits)
 -- ---- candidates
 -- "A candidate replaces the kept one on more hits, or on equal hits and strictly greater score"
 unfoldable pub takes : Kept → ℕ → Float → Bool
-takes Nobody hits score = true
-takes (One k) hits score = ltb k.hits hits || (eqb hits k.hits && lt k.score score)
+takes None hits score = true
+takes (Some k) hits score = ltb k.hits hits || (eqb hits k.hits && lt k.score score)
 
 -- what is kept after the candidate c was offered
 unfoldable pub replaced : Kept → Candidate → Kept
 unfolding takes
-replaced kept c = cond (takes kept c.hits c.score) (One c) kept
+replaced kept c = cond (takes kept c.hits c.score) (Some c) kept
 
 -- the same of a candidate that is rate-tested first
 unfoldable pub offered_within : ℕ → Float → Kept → Candidate → Kept
@@ -34,8 +32,8 @@ offered_within edges limit kept c = cond (over_limit edges limit c.hits) kept (r
 
 -- so many hits are fewer than the kept candidate's
 unfoldable pub behind : Kept → ℕ → Bool
-behind Nobody hits = false
-behind (One k) hits = ltb hits k.hits
+behind None hits = false
+behind (Some k) hits = ltb hits k.hits
 
 -- ---- the scan record
 -- what stands in a place of the array that holds no summary yet
@@ -47,7 +45,7 @@ no_summary = record { best = no_runner_up; within = no_runner_up }
 
 -- of no transforms
 unfoldable pub empty_scan : HardScan
-empty_scan = record { summaries = replicate 8 no_summary; count = 0; best = Nobody }
+empty_scan = record { summaries = replicate 8 no_summary; count = 0; best = None }
 
 -- one transform more, with its summary, and what is kept after it
 unfoldable pub pushed : HardScan → TransformSummary → Kept → HardScan
@@ -66,8 +64,8 @@ runner_up_of ss w (suc i) = stepped (runner_up_of ss w i) (get_or ss i no_summar
 -- ---- the choice
 -- a scan whose kept candidate stands at one of its positions
 abbrev pub SoundKept : Kept → ℕ → Type 0
-SoundKept Nobody n = Unit {0}
-SoundKept (One c) n = c.placing.listed < n
+SoundKept None n = Unit {0}
+SoundKept (Some c) n = c.placing.listed < n
 
 -- and that has at most eight
 abbrev pub SoundScan : HardScan → Type 0
@@ -75,8 +73,8 @@ SoundScan h = (h.count ≤ 8) × SoundKept h.best h.count
 
 -- nothing where no candidate was kept, or the kept one with its runner-up
 abbrev pub chosen_by : HardScan → Kept → Choice
-chosen_by h Nobody = Nothing
-chosen_by h (One c) = Chosen c (runner_up_of h.summaries c.placing.listed h.count)
+chosen_by h None = None
+chosen_by h (Some c) = Some (c, (runner_up_of h.summaries c.placing.listed h.count))
 
 -- what the scan comes to
 unfoldable pub chosen : HardScan → Choice

@@ -1,5 +1,5 @@
 -- What offering a candidate comes to, case by case, and what the runner-up is.
-use Rattle.std.specs.Prelude.{◌≡◌, Bool, List, ◌⊎◌, ltb, Float, set}
+use Rattle.std.specs.Prelude.{◌≡◌, Bool, List, ◌⊎◌, ltb, Float, set, None, Some}
 use Rattle.std.proofs.Math.Path.{refl, ap}
 use Rattle.std.proofs.Common.{sym, ◌∙◌, inr, ⊎_elim, add-one, get_or-set_same, get_or-set_other}
 use Rattle.std.proofs.Math.Bool.{true, false, cond}
@@ -15,14 +15,13 @@ use Rattle.scan.specs.declared.scan.Candidate.{Candidate}
 use Rattle.scan.specs.declared.scan.TransformSummary.{TransformSummary}
 use Rattle.scan.specs.declared.scan.RunnerUp.{RunnerUp}
 use Rattle.scan.specs.declared.scan.HardScan.{HardScan}
-use Rattle.scan.specs.declared.scan.Kept.{Kept}
-use Rattle.scan.specs.declared.scan.Kept.TheVariants.{Nobody, One}
+use Rattle.scan.specs.Kinds.{Kept}
 
 -- with fewer hits than the kept one it does not replace it
 pub behind-left : (kept : Kept) (hits : ℕ) (score : Float) → behind kept hits ≡ true → takes kept hits score ≡ false
 unfolding behind takes
-behind-left Nobody hits score e = clash refl (sym e)
-behind-left (One k) hits score e =
+behind-left None hits score e = clash refl (sym e)
+behind-left (Some k) hits score e =
     let l : hits < k.hits = ltb-true hits k.hits e in
     rw (le-ltb k.hits hits (omega arith), ne_eqb hits k.hits (λ p. omega arith))
 
@@ -39,7 +38,7 @@ module _ (edges : ℕ) (limit : Float) (kept : Kept) (c : Candidate) where
       go true = refl
       go false = refl
 
-  pub offered-taken : takes kept c.hits c.score ≡ true → over_limit edges limit c.hits ≡ false → offered_within edges limit kept c ≡ One c
+  pub offered-taken : takes kept c.hits c.score ≡ true → over_limit edges limit c.hits ≡ false → offered_within edges limit kept c ≡ Some c
   unfolding offered_within replaced
   offered-taken e d = rw (d, e)
 

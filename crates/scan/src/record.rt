@@ -27,12 +27,12 @@ pub fn lead_of(kept: Kept) -> Lead
     ensures { result ≡ lead_of kept }
 {
     match kept {
-        Kept::Nobody => Lead {
+        None => Lead {
             some: false,
             hits: 0,
             score: 0.0,
         },
-        Kept::One(k) => Lead {
+        Some(k) => Lead {
             some: true,
             hits: k.hits,
             score: k.score,
@@ -62,7 +62,7 @@ pub fn offer(kept: Kept, c: Candidate) -> Kept
     ensures { result ≡ replaced kept c }
 {
     if takes_over(kept, c.hits, c.score) {
-        return Kept::One(c);
+        return Some(c);
     }
     kept
 }
@@ -76,7 +76,7 @@ pub fn offer_within(kept: Kept, c: Candidate, asked: Asked) -> Kept
         if over_limit(asked.edges, c.hits, asked.error_limit) {
             return kept;
         }
-        return Kept::One(c);
+        return Some(c);
     }
     kept
 }
@@ -93,7 +93,7 @@ pub fn empty() -> HardScan
     };
     let s = TransformSummary { best: r, within: r };
     let summaries = [s; 8];
-    let best = Kept::Nobody;
+    let best = None;
     HardScan {
         summaries,
         count: 0,
@@ -121,12 +121,8 @@ pub fn push(scan: HardScan, s: TransformSummary, best: Kept) -> HardScan
 fn step(r: RunnerUp, s: TransformSummary, own: bool) -> RunnerUp
     ensures { result ≡ stepped r s own }
 {
-    if own {
-        return r;
-    }
-    let best = s.best;
-    if best.hits > r.hits {
-        return best;
+    if !own && s.best.hits > r.hits {
+        return s.best;
     }
     r
 }
@@ -136,14 +132,9 @@ pub fn runner_up(scan: HardScan, winner: usize) -> RunnerUp
     requires { (scan.count ≤ 8) × (winner < scan.count) }
     ensures { result ≡ runner_up_of scan.summaries winner scan.count }
 {
-    let n = scan.count;
-    let w = scan.summaries[winner];
-    let mut r = w.within;
-    let mut i: usize = 0;
-    while i < n {
-        let s = scan.summaries[i];
-        r = step(r, s, i == winner);
-        i += 1;
+    let mut r = scan.summaries[winner].within;
+    for i in 0..scan.count {
+        r = step(r, scan.summaries[i], i == winner);
     }
     r
 }
@@ -155,11 +146,11 @@ pub fn finish(scan: HardScan) -> Choice
 {
     let kept = scan.best;
     match kept {
-        Kept::Nobody => Choice::Nothing,
-        Kept::One(winner) => {
+        None => None,
+        Some(winner) => {
             let placing = winner.placing;
             let runner_up = runner_up(scan, placing.listed);
-            Choice::Chosen { winner, runner_up }
+            Some((winner, runner_up))
         }
     }
 }

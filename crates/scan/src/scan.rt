@@ -35,11 +35,7 @@ pub struct Candidate {
 }
 
 // What is kept of the candidates so far.
-#[derive(Clone, Copy)]
-pub enum Kept {
-    Nobody,
-    One(Candidate),
-}
+pub type Kept = Option<Candidate>;
 
 // Up to eight transforms: their summaries, how many there are, and the kept candidate.
 #[derive(Clone, Copy)]
@@ -50,11 +46,4 @@ pub struct HardScan {
 }
 
 // What a list of transforms comes to before the gate: no candidate, or a winner with its runner-up.
-#[derive(Clone, Copy)]
-pub enum Choice {
-    Nothing,
-    Chosen {
-        winner: Candidate,
-        runner_up: RunnerUp,
-    },
-}
+pub type Choice = Option<(Candidate, RunnerUp)>;

@@ -1,44 +1,14 @@
 -- What stands on a page after text was put on it. A page has 32,768 places.
-use Rattle.std.specs.Prelude.{◌≡◌, refl, List, ℕ, zero, suc, ◌+◌, ◌-◌, ◌≤◌, ◌<◌, min, length, get_or, set}
-use Rattle.std.proofs.Common.{ap, ◌∙◌, add-one, arith}
-use Rattle.std.proofs.Math.Nat.{min-le_left, min-le_right}
+use Rattle.std.specs.Prelude.{◌≡◌, ◌⊎◌, List, ℕ, ◌-◌, ◌++◌, min, length, take, Option, IfSome}
 
 -- how many of n bytes a page takes from a place on
 abbrev pub taken : ℕ → ℕ → ℕ
 taken at n = min n (32768 - at)
 
--- the page p with the first n bytes of the text t stored from a place on
-unfoldable pub written : List ℕ → ℕ → List ℕ → ℕ → List ℕ
-written p at t zero = p
-written p at t (suc n) = set (written p at t n) (at + n) (get_or t n 0)
+-- the text p with the text t behind it, as much of t as finds room
+unfoldable pub put_behind : List ℕ → List ℕ → List ℕ
+put_behind p t = take 32768 (p ++ t)
 
--- the page q holds the first i bytes of the text t; k of them find room
-pub record Putting (p t : List ℕ) (at k i : ℕ) (q : List ℕ) : Type 0 where
-  pub few : k ≤ length t
-  pub fits : k ≤ 32768 - at
-  pub done : i ≤ k
-  pub same : q ≡ written p at t i
-
--- nothing is put yet
-pub none-put : (p t : List ℕ) (at k : ℕ) → k ≡ taken at (length t) → Putting p t at k 0 p
-unfolding written
-none-put p t at k e = record {
-  few = rw e (min-le_left (length t) (32768 - at));
-  fits = rw e (min-le_right (length t) (32768 - at));
-  done = omega arith;
-  same = refl;
-}
-
--- one byte more
-pub one-put : (p t : List ℕ) (at k i : ℕ) (q : List ℕ) → Putting p t at k i q → i < k → Putting p t at k (i + 1) (set q (at + i) (get_or t i 0))
-unfolding written
-one-put p t at k i q h l = record {
-  few = h.few;
-  fits = h.fits;
-  done = omega arith;
-  same = rw (add-one i) (ap (λ (r : List ℕ). set r (at + i) (get_or t i 0)) h.same);
-}
-
--- all that find room
-pub all-put : (p t : List ℕ) (at k i : ℕ) (q : List ℕ) → Putting p t at k i q → k ≤ i → k ≡ taken at (length t) → q ≡ written p at t (taken at (length t))
-all-put p t at k i q h l e = let s : i ≡ k = omega (arith, h.done) in h.same ∙ ap (λ (n : ℕ). written p at t n) (s ∙ e)
+-- the page q is the page p with a text written on it, where it is known which: as much of it as finds room, or q is full
+abbrev pub IsWritten : List ℕ → Option (List ℕ) → List ℕ → Type 0
+IsWritten p text q = IfSome text (λ t. (q ≡ put_behind p t) ⊎ (length q ≡ 32768))

@@ -3,6 +3,8 @@ ghost use Rattle.std.specs.Prelude.{◌≡◌, ◌≤◌, ◌<◌, length};
 ghost use Rattle.values.specs.Values.{hits_of, weight_of, value_best, value_around, value_of, by_hits};
 ghost use Rattle.values.specs.ValuesLaws.{Top};
 
+use best::around::around;
+use best::first::first_best;
 use best::lex::LexMax;
 use unit_terms::HIT;
 
@@ -36,18 +38,7 @@ fn value_best(values: &[u64]) -> usize
     requires { 1 < length values.now }
     ensures { (result ≡ value_best values.now) × (result < length values.now) }
 {
-    let mut best: usize = 0;
-    let mut top = values[0];
-    let mut i: usize = 0;
-    while i < values.len() {
-        let x = values[i];
-        if x > top {
-            best = i;
-            top = x;
-        }
-        i += 1;
-    }
-    best
+    first_best(values, |value, top| value > top)
 }
 
 // What one table says around its best cell. Most cells have fewer hits than the second best so far, and no more is asked of them.
@@ -56,41 +47,19 @@ fn value_around(values: &[u64], cell: usize) -> ValueMax
     ensures { result ≡ value_around values.now cell }
 {
     let top = values[cell];
-    let most = hits_of(top);
-    let mut tied: usize = 0;
-    let mut held: usize = 0;
-    let mut second: usize = 0;
-    if cell == 0 {
-        second = 1;
-    }
-    let mut under = hits_of(values[second]);
-    let mut i: usize = 0;
-    while i < values.len() {
-        let x = values[i];
-        let n = hits_of(x);
-        if n >= under {
-            if n == most {
-                held += 1;
-                if x == top {
-                    tied += 1;
-                }
-            }
-            if n > under {
-                if i != cell {
-                    second = i;
-                    under = n;
-                }
-            }
-        }
-        i += 1;
-    }
+    let told = around(
+        values,
+        cell,
+        |value, other| hits_of(value) > hits_of(other),
+        |i| values[i] == top,
+    );
     ValueMax {
         cell,
         top,
-        tied,
-        held,
-        second,
-        under,
+        tied: told.alike,
+        held: told.tied,
+        second: told.second,
+        under: hits_of(values[told.second]),
     }
 }
 

@@ -1,19 +1,13 @@
-use native.Mathlib.Omega.{arith}
-use Rattle.laws.specs.First.{search-starts, search-goes-on, search-finds, search-ends}
-use borrow.Author.Tests.{lt-ltb, le-ltb}
+-- `first_bad_byte`: what `position` found is the first byte above top.
+use Rattle.std.proofs.Common.{◌∙◌, ltb, rules, tests}
+use Rattle.std.proofs.lemmas.Iterator.{YieldsList-from_slice}
+use Rattle.std.proofs.lemmas.Iterator.Search.{position_from_yields_List}
 use Rattle.ranges.specs.Ranges.{first_bad_byte}
+use Rattle.ranges.proofs.Positions.{first-of_position}
 use Rattle.ranges.proofs.first_bad_byte.Goals as goal
-
-pub loop-i-init : goal.loop-i-init
-loop-i-init c = search-starts _ _
-
-pub returns-then-top-xs : goal.returns-then-top-xs
-unfolding first_bad_byte
-returns-then-top-xs c = search-finds _ _ _ c.loop-i.invariant (lt-ltb _ _ c.if-top-xs.true)
-
-pub loop-i-preserved : goal.loop-i-preserved
-loop-i-preserved c = search-goes-on _ _ _ (omega arith) c.loop-i.invariant (le-ltb _ _ c.if-top-xs.false)
 
 pub returns : goal.returns
 unfolding first_bad_byte
-returns c = search-ends _ _ _ (omega arith) c.loop-i.invariant
+returns c =
+    c.unwrap_or.ensures ∙ first-of_position (ltb c.args.top) c.args.xs.now 0 c.position.result
+    (position_from_yields_List _ _ _ c.position.result c.position.ensures.ran (YieldsList-from_slice c.args.xs.now cc) (λ x b q k. search (rules, tests)))

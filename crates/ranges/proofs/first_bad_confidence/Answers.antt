@@ -1,22 +1,16 @@
-use mathlib.Core.Path.{sym, ap, ◌∙◌}
-use native.Mathlib.Omega.{arith}
-use mathlib.Core.Bool.{not}
+-- `first_bad_confidence`: what `position` found is the first that is no number from 0 to 1.
+use Rattle.std.proofs.Common.{◌∙◌, not, Float, rules, tests}
+use Rattle.std.specs.Float.{nan}
+use Rattle.std.proofs.lemmas.Iterator.{YieldsList-from_slice}
+use Rattle.std.proofs.lemmas.Iterator.Search.{position_from_yields_List}
 use lib.Ieee.{of_bits}
-use Rattle.laws.specs.First.{search-starts, search-goes-on, search-finds, search-ends}
-use Rattle.ranges.specs.Ranges.{first_bad_confidence}
+use Rattle.laws.specs.Words.{one_f}
+use Rattle.ranges.specs.Ranges.{in_range, first_bad_confidence}
+use Rattle.ranges.proofs.Positions.{first-of_position}
 use Rattle.ranges.proofs.first_bad_confidence.Goals as goal
-
-pub loop-i-init : goal.loop-i-init
-loop-i-init c = search-starts _ _
-
-pub returns-then-not-in_range : goal.returns-then-not-in_range
-unfolding first_bad_confidence of_bits
-returns-then-not-in_range c = search-finds _ _ _ c.loop-i.invariant (ap not (sym c.in_range.ensures ∙ c.if-not-in_range.true))
-
-pub loop-i-preserved : goal.loop-i-preserved
-unfolding of_bits
-loop-i-preserved c = search-goes-on _ _ _ (omega arith) c.loop-i.invariant (ap not (sym c.in_range.ensures ∙ c.if-not-in_range.false))
 
 pub returns : goal.returns
 unfolding first_bad_confidence of_bits
-returns c = search-ends _ _ _ (omega arith) c.loop-i.invariant
+returns c =
+    c.unwrap_or.ensures ∙ first-of_position (λ (x : Float). not (in_range one_f x)) c.args.xs.now nan c.position.result
+    (position_from_yields_List _ _ _ c.position.result c.position.ensures.ran (YieldsList-from_slice c.args.xs.now cc) (λ x b q k. search (rules, tests)))

@@ -1,19 +1,13 @@
-use mathlib.Core.Path.{sym, ◌∙◌}
-use native.Mathlib.Omega.{arith}
-use Rattle.laws.specs.First.{search-starts, search-goes-on, search-finds, search-ends}
-use Rattle.checks.specs.Checks.{first_bad_coordinate}
+-- `first_bad_coordinate`: what `find` found is the first edge that is bad, or there is none.
+use Rattle.std.proofs.Common.{◌≡◌, ◌∙◌, true, false, length, rules, tests}
+use Rattle.std.proofs.lemmas.Iterator.{first_from_Range}
+use Rattle.checks.specs.Checks.{bad_coordinate, first_bad_coordinate}
+use Rattle.checks.proofs.Answered.{first-of_find}
 use Rattle.checks.proofs.check.first_bad_coordinate.Goals as goal
-
-pub loop-i-init : goal.loop-i-init
-loop-i-init c = search-starts _ _
-
-pub returns-then-bad_coordinate_at : goal.returns-then-bad_coordinate_at
-unfolding first_bad_coordinate
-returns-then-bad_coordinate_at c = search-finds _ _ _ c.loop-i.invariant (sym c.bad_coordinate_at.ensures ∙ c.if-bad_coordinate_at.true)
-
-pub loop-i-preserved : goal.loop-i-preserved
-loop-i-preserved c = search-goes-on _ _ _ (omega arith) c.loop-i.invariant (sym c.bad_coordinate_at.ensures ∙ c.if-bad_coordinate_at.false)
 
 pub returns : goal.returns
 unfolding first_bad_coordinate
-returns c = search-ends _ _ _ (omega arith) c.loop-i.invariant
+returns c =
+    let bad = bad_coordinate c.args.rows.now c.args.cols.now in
+    c.unwrap_or.ensures ∙ first-of_find bad (length c.args.rows.now) c.find.result
+    (first_from_Range _ _ _ _ (λ i. bad i ≡ true) (λ i. bad i ≡ false) c.find.ensures.ran (λ x q k. search (rules, tests)) (λ x q k. search (rules, tests)))

@@ -1,13 +1,9 @@
-use Prim.Native.Nat.{◌≤◌, ◌-◌}
+use Prim.Native.Nat.{ℕ, ◌*◌}
 use mathlib.Core.Path.{◌≡◌}
-use lib.ListN.{length}
+use mathlib.Core.Bool.{Bool}
 use Rattle.laws.specs.Words.{origins}
-use Rattle.best.specs.Lex.{optimal}
-use Rattle.grid.specs.RowMajor.{lowest}
+use Rattle.grid.specs.RowMajor.{lowest, Tells}
 use Rattle.grid.proofs.origin.lowest_key.Given as goal
 
 abbrev pub invariant-loop-v : goal.invariant-loop-v
-invariant-loop-v l = (l.v ≤ length l.counts) × (l.best ≡ lowest (optimal l.counts l.weights l.top l.heavy) ((origins l.periods.h l.periods.v).key l.h) l.start l.v)
-
-abbrev pub decreases-loop-v : goal.decreases-loop-v
-decreases-loop-v l = length l.counts - l.v
+invariant-loop-v g l = (q : ℕ → Bool) → Tells (3 * l.periods.v) (goal.V-post g l.passes) q → l.best ≡ lowest q ((origins l.periods.h l.periods.v).key l.h) l.start l.v

@@ -6,15 +6,16 @@ use lib.ListN.{length, get_or}
 use lib.Ieee.{Float}
 use Rattle.laws.specs.declared.Modulus.{Modulus}
 use Rattle.laws.specs.Modulus.{modulus-n, modulus-ok}
-use Rattle.board.specs.Hits.{EdgeList, edges}
+use Rattle.board.specs.Hits.{EdgeList}
 use Rattle.room.specs.Room.{row_length}
 use Rattle.groups.specs.Fill.{FillReady, place_at}
 use Rattle.groups.specs.FillLaws.{place-held, ready_held, filled-held, filled_none, filled_more, filled-few}
 use Rattle.groups.proofs.groups.fill_groups.Goals as goal
+use Rattle.board.specs.Given.{list_of}
 
 pub loop-i-init : goal.loop-i-init
 loop-i-init c =
-    let E : EdgeList = edges c.args.rows.now c.args.cols.now c.args.orientations.now c.args.bits.now c.args.confidences.now in
+    let E : EdgeList = list_of c.args.list in
     let h : Modulus = c.modulus_of-h.result in
     let v : Modulus = c.modulus_of-v.result in
     let h-is : h.n ≡ c.args.periods.h = modulus-n _ _ c.modulus_of-h.ensures in
@@ -34,7 +35,7 @@ in_both_lem b p n r x y h i j k l e = omega arith
 
 pub bounds-counts-at : goal.bounds-counts-at
 bounds-counts-at c =
-    let E : EdgeList = edges c.args.rows.now c.args.cols.now c.args.orientations.now c.args.bits.now c.args.confidences.now in
+    let E : EdgeList = list_of c.args.list in
     let h : Modulus = c.modulus_of-h.result in
     let v : Modulus = c.modulus_of-v.result in
     let h-is : h.n ≡ c.args.periods.h = modulus-n _ _ c.modulus_of-h.ensures in
@@ -51,7 +52,7 @@ bounds-counts-at c =
 
 pub overflow_add-counts : goal.overflow_add-counts
 overflow_add-counts c =
-    let E : EdgeList = edges c.args.rows.now c.args.cols.now c.args.orientations.now c.args.bits.now c.args.confidences.now in
+    let E : EdgeList = list_of c.args.list in
     let h : Modulus = c.modulus_of-h.result in
     let v : Modulus = c.modulus_of-v.result in
     let h-is : h.n ≡ c.args.periods.h = modulus-n _ _ c.modulus_of-h.ensures in
@@ -68,7 +69,7 @@ overflow_add-counts c =
 
 pub bounds-counts-at-in-loop-i : goal.bounds-counts-at-in-loop-i
 bounds-counts-at-in-loop-i c =
-    let E : EdgeList = edges c.args.rows.now c.args.cols.now c.args.orientations.now c.args.bits.now c.args.confidences.now in
+    let E : EdgeList = list_of c.args.list in
     let h : Modulus = c.modulus_of-h.result in
     let v : Modulus = c.modulus_of-v.result in
     let h-is : h.n ≡ c.args.periods.h = modulus-n _ _ c.modulus_of-h.ensures in
@@ -85,7 +86,7 @@ bounds-counts-at-in-loop-i c =
 
 pub bounds-weights-at : goal.bounds-weights-at
 bounds-weights-at c =
-    let E : EdgeList = edges c.args.rows.now c.args.cols.now c.args.orientations.now c.args.bits.now c.args.confidences.now in
+    let E : EdgeList = list_of c.args.list in
     let h : Modulus = c.modulus_of-h.result in
     let v : Modulus = c.modulus_of-v.result in
     let h-is : h.n ≡ c.args.periods.h = modulus-n _ _ c.modulus_of-h.ensures in
@@ -102,7 +103,7 @@ bounds-weights-at c =
 
 pub bounds-weights-at-in-loop-i : goal.bounds-weights-at-in-loop-i
 bounds-weights-at-in-loop-i c =
-    let E : EdgeList = edges c.args.rows.now c.args.cols.now c.args.orientations.now c.args.bits.now c.args.confidences.now in
+    let E : EdgeList = list_of c.args.list in
     let h : Modulus = c.modulus_of-h.result in
     let v : Modulus = c.modulus_of-v.result in
     let h-is : h.n ≡ c.args.periods.h = modulus-n _ _ c.modulus_of-h.ensures in
@@ -119,7 +120,7 @@ bounds-weights-at-in-loop-i c =
 
 pub loop-i-preserved : goal.loop-i-preserved
 loop-i-preserved c =
-    let E : EdgeList = edges c.args.rows.now c.args.cols.now c.args.orientations.now c.args.bits.now c.args.confidences.now in
+    let E : EdgeList = list_of c.args.list in
     let h : Modulus = c.modulus_of-h.result in
     let v : Modulus = c.modulus_of-v.result in
     let h-is : h.n ≡ c.args.periods.h = modulus-n _ _ c.modulus_of-h.ensures in
@@ -134,11 +135,11 @@ loop-i-preserved c =
 
 pub returns : goal.returns
 returns c =
-    let E : EdgeList = edges c.args.rows.now c.args.cols.now c.args.orientations.now c.args.bits.now c.args.confidences.now in
+    let E : EdgeList = list_of c.args.list in
     let h : Modulus = c.modulus_of-h.result in
     let v : Modulus = c.modulus_of-v.result in
     let h-is : h.n ≡ c.args.periods.h = modulus-n _ _ c.modulus_of-h.ensures in
     let v-is : v.n ≡ c.args.periods.v = modulus-n _ _ c.modulus_of-v.ensures in
     let l = c.loop-i in
-    let e : l.i ≡ length c.args.rows.now = omega (arith, l.invariant.0, c.loop-i-test.false) in
+    let e : l.i ≡ length c.args.list.edges.rows.now = omega (arith, l.invariant.0, c.loop-i-test.false) in
     filled-held _ _ _ _ E c.args.t c.args.base h-is v-is _ _ e _ _ _ _ l.invariant.1

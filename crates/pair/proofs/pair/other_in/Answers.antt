@@ -1,12 +1,9 @@
 use mir.Syntax.{w64}
 use mir.Val.{to_z, of_z}
-use mir.Facts.{to_z-of_z}
 use Rattle.level.specs.SumsLaws.{read-eq}
 use Rattle.level.specs.Level.{s_at}
 use native.Mathlib.Omega.{arith}
-use borrow.Author.Rules.{rules}
-use mathlib.Core.Path.{◌≡◌, refl, ◌∙◌}
-use lib.ListN.{length}
+use mathlib.Core.Path.{refl, ◌∙◌}
 use Rattle.grid.specs.BoardGrid.{none-small}
 use Rattle.pair.specs.Pair.{other_in}
 use Rattle.pair.specs.PairLaws.{other_step, other-kept}
@@ -20,15 +17,10 @@ returns-then-start-none c = other-kept _ _ _ _ _ _ c.if-start-none.true
 
 pub loop-v-init : goal.loop-v-init
 unfolding other_in
-loop-v-init c = (search rules, refl)
+loop-v-init c = refl
 
 pub loop-v-preserved : goal.loop-v-preserved
 loop-v-preserved c =
     let at = c in
     let said = read-eq (s_at at.args.sums.now at.loop-v.v) (to_z w64 (of_z w64 at.args.top)) c.is_tied-tied.result (omega arith) c.is_tied-tied.ensures in
-    (omega arith, c.fill-found.ensures ∙ rw said (other_step _ _ _ _ _ _ _ at.loop-v.invariant.1))
-
-pub returns : goal.returns
-returns c =
-    let e : c.loop-v.v ≡ length c.args.sums.now = omega arith in
-    rw (← e) (rw (to_z-of_z c.ranges.top) at c.loop-v.invariant.1)
+    c.fill-found.ensures ∙ rw said (other_step _ _ _ _ _ _ _ at.loop-v.invariant)

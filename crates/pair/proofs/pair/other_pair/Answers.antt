@@ -1,12 +1,9 @@
 use mir.Syntax.{w64}
 use mir.Val.{to_z, of_z}
-use mir.Facts.{to_z-of_z}
 use Rattle.level.specs.SumsLaws.{read-eq}
 use Rattle.level.specs.Level.{s_at}
 use native.Mathlib.Omega.{arith}
-use borrow.Author.Rules.{rules}
-use mathlib.Core.Path.{◌≡◌, refl, sym, ◌∙◌}
-use lib.ListN.{length}
+use mathlib.Core.Path.{refl, sym, ◌∙◌}
 use Rattle.grid.specs.BoardGrid.{none-small}
 use Rattle.pair.specs.Pair.{other_pair}
 use Rattle.pair.specs.PairLaws.{pair-no, pair-yes}
@@ -18,18 +15,13 @@ overflow_mul-found-3 c = record { fits = omega (arith, none-small _ _ c.requires
 
 pub loop-h-init : goal.loop-h-init
 unfolding other_pair
-loop-h-init c = (search rules, refl)
+loop-h-init c = refl
 
 pub loop-h-preserved : goal.loop-h-preserved
 loop-h-preserved c =
     let at = c in
     let said = read-eq (s_at at.args.hs.now at.loop-h.h) (to_z w64 (of_z w64 at.args.ht)) c.is_tied.result (omega arith) c.is_tied.ensures in
     elim c.if-is_tied.branch [
-      | then-is_tied w ↦ (omega arith, w.found-is ∙ w.other_in-found.ensures ∙ pair-yes _ _ _ _ _ _ _ at.loop-h.invariant.1 (sym said ∙ w.if-is_tied.true))
-      | else-is_tied w ↦ (omega arith, w.found-is ∙ pair-no _ _ _ _ _ _ _ at.loop-h.invariant.1 (sym said ∙ w.if-is_tied.false))
+      | then-is_tied w ↦ w.found-is ∙ w.other_in-found.ensures ∙ pair-yes _ _ _ _ _ _ _ at.loop-h.invariant (sym said ∙ w.if-is_tied.true)
+      | else-is_tied w ↦ w.found-is ∙ pair-no _ _ _ _ _ _ _ at.loop-h.invariant (sym said ∙ w.if-is_tied.false)
     ]
-
-pub returns : goal.returns
-returns c =
-    let e : c.loop-h.h ≡ length c.args.hs.now = omega arith in
-    rw (← e, ← to_z-of_z c.ranges.ht, ← to_z-of_z c.ranges.vt) c.loop-h.invariant.1

@@ -1,5 +1,7 @@
+use borrow.Author.Rules.{rules}
 use native.Mathlib.Omega.{arith}
 use Rattle.pair.specs.PairLaws.{pairs-few, levels-ok, h-read, v-read, two-tied, two-single}
+use Rattle.level.specs.Level.{tied_sum}
 use Rattle.pair.proofs.pair.two_best.Goals as goal
 
 pub overflow_mul-pairs : goal.overflow_mul-pairs
@@ -8,9 +10,11 @@ overflow_mul-pairs c =
 
 pub returns-then-pairs-gt1 : goal.returns-then-pairs-gt1
 returns-then-pairs-gt1 c =
+    let a = c.args in
     let h = h-read _ _ c.requires.0 c.requires.1 _ _ c.requires.2 _ _ c.level_max-a.ensures c.level_max-b.ensures in
     let v = v-read _ _ c.requires.0 c.requires.1 _ _ c.requires.2 _ _ c.level_max-a.ensures c.level_max-b.ensures in
-    two-tied _ _ c.requires.0 c.requires.1 _ _ c.requires.2 _ _ c.level_max-a.ensures c.level_max-b.ensures _ _ _ h v _ _ c.row_major_first_tied-winner.ensures c.if-pairs-gt1.true c.other_pair-second.ensures
+    let first = c.row_major_first-winner.ensures (tied_sum a.hs.now c.level_max-a.result.top) (tied_sum a.vs.now c.level_max-b.result.top) (λ i r l e. search rules) (λ i r l e. search rules) in
+    two-tied _ _ c.requires.0 c.requires.1 _ _ c.requires.2 _ _ c.level_max-a.ensures c.level_max-b.ensures _ _ _ h v _ _ (rw (c.requires.2.hlen, c.requires.2.vlen, h, v) first) c.if-pairs-gt1.true c.other_pair-second.ensures
 
 pub key_of-winner-requires : goal.key_of-winner-requires
 key_of-winner-requires c =

@@ -1,9 +1,9 @@
 use lib.Ieee.{of_bits}
 use Rattle.scan.proofs.record.lead_of.Goals as goal
 
-pub returns-in-Nobody : goal.returns-in-Nobody
+pub returns-in-None : goal.returns-in-None
 unfolding of_bits
-returns-in-Nobody c = rw c.in-Nobody.is
+returns-in-None c = rw c.in-None.is
 
-pub returns-in-One : goal.returns-in-One
-returns-in-One c = rw c.in-One.is
+pub returns-in-Some : goal.returns-in-Some
+returns-in-Some c = rw c.in-Some.is

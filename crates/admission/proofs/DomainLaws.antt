@@ -1,5 +1,5 @@
 -- WHAT IS ASKED IS WHAT IS CHECKED: no early refusal exactly when the call meets all conditions of Domain.antt, and else the number of the first that it does not meet.
-use Rattle.std.specs.Prelude.{◌≡◌, refl, Bool, true, false, not, ◌&&◌, ◌||◌, cond, List, [], ◌∷◌, ℕ, zero, suc, ◌+◌, ◌*◌, ◌%◌, ◌^◌, ◌≤◌, ◌<◌, ltb, eqb, get_or, ℤ, pos, negsuc, nat_abs, Float}
+use Rattle.std.specs.Prelude.{◌≡◌, refl, Bool, true, false, not, ◌&&◌, ◌||◌, cond, List, [], ◌∷◌, ℕ, zero, suc, ◌+◌, ◌*◌, ◌%◌, ◌^◌, ◌≤◌, ◌<◌, ltb, eqb, get_or, ℤ, pos, negsuc, nat_abs, Float, Err}
 use Rattle.std.proofs.Common.{sym, ap, ◌∙◌, true≢false, ⊎_elim, le_refl, le_trans, zero-lt-suc, zero-mul, one-mul, mul-one, mul-pos, pow_pos, eqb-true, ltb-true, ltb-false, lt-ltb, le-ltb, eq-eqb, ne_eqb}
 use native.Mathlib.Omega.{arith}
 use Rattle.std.proofs.Math.ListN.{length}
@@ -14,8 +14,7 @@ use Rattle.board.specs.Hits.{EdgeList, Board, size}
 use Rattle.likelihood.specs.Likelihood.{acceptable}
 use Rattle.likelihood.specs.LikelihoodLaws.{Within, acceptable-within, within-acceptable}
 use Rattle.refusals.specs.declared.Refusal.{Refusal}
-use Rattle.refusals.specs.declared.Admission.{Admission}
-use Rattle.refusals.specs.declared.Admission.TheVariants.{Accepted, Refused}
+use Rattle.refusals.specs.Admission.{Admission, accepted}
 use Rattle.refusals.specs.declared.ListName.{ListName}
 use Rattle.refusals.specs.declared.ListName.TheVariants as list
 use Rattle.room.specs.Room.{tables_for, sums_for}
@@ -259,7 +258,7 @@ both-judged call j = judged-both _ _ (j list.Logical call.logical) (j list.Physi
 -- and in what comes last
 settings-judged : (ts : List ℕ) (B : Board) (bad : Bool) {fact : Type 0} → Tests bad fact
     → Judges ((7, (1 ≤ length ts) × (length ts ≤ 8) × AtMost 7 ts) ∷ (8, PoleLength (length B.h) × AtMost 7 B.h × (length B.v ≡ 167) × AtMost 7 B.v) ∷ (9, fact) ∷ [])
-    (or_else (refused_if (transforms_bad ts) 7) (or_else (refused_if (tables_bad B) 8) (or_else (refused_if bad 9) Accepted)))
+    (or_else (refused_if (transforms_bad ts) 7) (or_else (refused_if (tables_bad B) 8) (or_else (refused_if bad 9) accepted)))
 settings-judged ts B bad t =
     judges-row _ _ (judged-if (transforms_bad ts) 7 (transforms-tested ts)) (λ h.
     judges-row _ _ (judged-if (tables_bad B) 8 (tables-tested B)) (λ h.
@@ -271,20 +270,20 @@ module _ (call : HardCall) (room : HardRoom) where
   unfolding early hard_early hard_admission first_found first_of or_else room_findings list_findings settings_findings room_short
   hard-judged =
       judges-row _ _ (judged-alone _ (judged-if _ 1 (or-tested (tables-lent (length call.board.h) (length room.counts)) (tables-lent (length call.board.h) (length room.weights))))) (λ h.
-      judges-row _ _ (judged-both _ Accepted (both-judged call lengths-judged) (judged-none 2)) (λ h.
+      judges-row _ _ (judged-both _ accepted (both-judged call lengths-judged) (judged-none 2)) (λ h.
       judges-row _ _ (judged-alone _ (both-judged call (sizes-judged 1))) (λ h.
       judges-row _ _ (judged-alone _ (both-judged call coordinates-judged)) (λ h.
       judges-row _ _ (judged-alone _ (both-judged call orientations-judged)) (λ h.
       judges-row _ _ (judged-alone _ (both-judged call bits-judged)) (λ h.
       judges-row _ _ (judged-alone _ (both-judged call confidences-judged)) (λ h.
-      judges-row Accepted _ (judged-none 6) (λ h. settings-judged call.transforms call.board _ (between-tested 0 call.error_limit)))))))))
+      judges-row accepted _ (judged-none 6) (λ h. settings-judged call.transforms call.board _ (between-tested 0 call.error_limit)))))))))
 
   -- HARD: accepted exactly when all conditions are met
-  pub hard-domain : (hard_checked call room ≡ Accepted → AllMet (hard_early call room)) × (AllMet (hard_early call room) → hard_checked call room ≡ Accepted)
+  pub hard-domain : (hard_checked call room ≡ accepted → AllMet (hard_early call room)) × (AllMet (hard_early call room) → hard_checked call room ≡ accepted)
   hard-domain = (hard-judged.met, hard-judged.accepted)
 
   -- and else refused by the number of the first that is not
-  pub hard-first : (r : Refusal) → hard_checked call room ≡ Refused r → FirstFails (hard_early call room) r.number
+  pub hard-first : (r : Refusal) → hard_checked call room ≡ Err r → FirstFails (hard_early call room) r.number
   hard-first = hard-judged.refused
 
 -- ---- soft decode
@@ -335,10 +334,10 @@ module _ (call : SoftCall) (room : SoftRoom) where
       settings-judged call.hard.transforms call.hard.board _ (or-tested (between-tested 0 call.hard.error_limit) (between-tested 16 call.soft-margin))))))))))
 
   -- SOFT: the same
-  pub soft-domain : (soft_checked call room ≡ Accepted → AllMet (soft_early call room)) × (AllMet (soft_early call room) → soft_checked call room ≡ Accepted)
+  pub soft-domain : (soft_checked call room ≡ accepted → AllMet (soft_early call room)) × (AllMet (soft_early call room) → soft_checked call room ≡ accepted)
   soft-domain = (soft-judged.met, soft-judged.accepted)
 
-  pub soft-first : (r : Refusal) → soft_checked call room ≡ Refused r → FirstFails (soft_early call room) r.number
+  pub soft-first : (r : Refusal) → soft_checked call room ≡ Err r → FirstFails (soft_early call room) r.number
   soft-first = soft-judged.refused
 
 -- ---- match statistics
@@ -354,21 +353,21 @@ module _ (E : EdgeList) (t row col : ℕ) (B : Board) where
   stats-judged : Judges (stats_early E t row col B) (stats_admission E t row col B)
   unfolding early stats_early stats_admission first_found first_of or_else list_findings settings_findings origin_bad
   stats-judged =
-      judges-row Accepted _ (judged-none 1) (λ h.
-      judges-row _ _ (judged-both _ Accepted (lengths-judged list.Only E) (judged-none 2)) (λ h.
+      judges-row accepted _ (judged-none 1) (λ h.
+      judges-row _ _ (judged-both _ accepted (lengths-judged list.Only E) (judged-none 2)) (λ h.
       judges-row _ _ (judged-alone _ (sizes-judged 0 list.Only E)) (λ h.
       judges-row _ _ (judged-alone _ (coordinates-judged list.Only E)) (λ h.
       judges-row _ _ (judged-alone _ (orientations-judged list.Only E)) (λ h.
       judges-row _ _ (judged-alone _ (bits-judged list.Only E)) (λ h.
       judges-row _ _ (judged-alone _ (confidences-judged list.Only E)) (λ h.
-      judges-row Accepted _ (judged-none 6) (λ h.
+      judges-row accepted _ (judged-none 6) (λ h.
       judges-row _ _ one-judged (λ h.
       judges-row _ _ (judged-if (tables_bad B) 8 (tables-tested B)) (λ h.
       judges-row _ _ (judged-if (origin_bad (length B.h) row col) 9 (or-tested (below-tested (3 * length B.h) row) (at-most-tested 500 col))) (λ h. judges-none)))))))))))
 
   -- MATCH STATISTICS: the same
-  pub stats-domain : (stats_admission E t row col B ≡ Accepted → AllMet (stats_early E t row col B)) × (AllMet (stats_early E t row col B) → stats_admission E t row col B ≡ Accepted)
+  pub stats-domain : (stats_admission E t row col B ≡ accepted → AllMet (stats_early E t row col B)) × (AllMet (stats_early E t row col B) → stats_admission E t row col B ≡ accepted)
   stats-domain = (stats-judged.met, stats-judged.accepted)
 
-  pub stats-first : (r : Refusal) → stats_admission E t row col B ≡ Refused r → FirstFails (stats_early E t row col B) r.number
+  pub stats-first : (r : Refusal) → stats_admission E t row col B ≡ Err r → FirstFails (stats_early E t row col B) r.number
   stats-first = stats-judged.refused

@@ -11,7 +11,6 @@ use Rattle.laws.specs.WeightLaws.{confidence}
 use Rattle.board.specs.Hits.{EdgeList, Board, size}
 use Rattle.board.specs.Domain.{ListOk, Patterns, BoardOk}
 use Rattle.likelihood.specs.Likelihood.{acceptable}
-use Rattle.refusals.specs.declared.Admission.TheVariants.{Accepted}
 use Rattle.refusals.specs.declared.ListName.{ListName}
 use Rattle.refusals.specs.declared.ListName.TheVariants as list
 use Rattle.refusals.specs.Numbers as why
@@ -22,6 +21,7 @@ use Rattle.findings.specs.Findings.{joined, room_findings, list_findings, likeli
 use Rattle.findings.specs.FindingsLaws.{Clean, clean_of, clean-parts, clean-joined, if-accepted, at-accepted}
 use Rattle.admission.specs.Calls.{HardCall, SoftCall}
 use Rattle.admission.specs.Refusals.{asked_length, tables_bad, room_short, soft_room_short, both_lists, soft_likelihoods, soft_settings_bad, hard_admission, soft_admission, stats_admission}
+use Rattle.refusals.specs.Admission.{accepted}
 
 -- ---- lists without a bad place
 none-bad : (p : ℕ → Bool) (n k : ℕ) → ltb k n ≡ false → k ≡ Rattle.laws.specs.Words.first p n → (i : ℕ) → i < n → p i ≡ false
@@ -183,7 +183,7 @@ pub record StatsTests (E : EdgeList) (t row col : ℕ) (B : Board) : Type 0 wher
   pub tables : tables_bad B ≡ false
   pub origin : origin_bad (length B.h) row col ≡ false
 
-pub stats-tests-of : (E : EdgeList) (t row col : ℕ) (B : Board) → stats_admission E t row col B ≡ Accepted → StatsTests E t row col B
+pub stats-tests-of : (E : EdgeList) (t row col : ℕ) (B : Board) → stats_admission E t row col B ≡ accepted → StatsTests E t row col B
 unfolding stats_admission settings_findings
 stats-tests-of E t row col B h =
     let k = clean-parts (list_findings 0 list.Only E) (settings_findings (ltb 7 t) (tables_bad B) (origin_bad (length B.h) row col)) (clean_of _ h) in
@@ -194,7 +194,7 @@ stats-tests-of E t row col B h =
       origin = if-accepted (origin_bad (length B.h) row col) why.bad_setting k.1.setting;
     }
 
-pub stats-accepted : (E : EdgeList) (t row col : ℕ) (B : Board) → stats_admission E t row col B ≡ Accepted → StatsAccepted E t row col B
+pub stats-accepted : (E : EdgeList) (t row col : ℕ) (B : Board) → stats_admission E t row col B ≡ accepted → StatsAccepted E t row col B
 unfolding origin_bad
 stats-accepted E t row col B h =
     let k = stats-tests-of E t row col B h in
@@ -237,7 +237,7 @@ pub both-clean : (call : HardCall) → ListTests 1 call.logical → ListTests 1 
 both-clean call l p =
     clean-joined (list_findings 1 list.Logical call.logical) (list_findings 1 list.Physical call.physical) (list-clean 1 list.Logical call.logical l) (list-clean 1 list.Physical call.physical p)
 
-pub hard-tests-of : (call : HardCall) (m n : ℕ) → hard_admission call m n ≡ Accepted → HardTests call m n
+pub hard-tests-of : (call : HardCall) (m n : ℕ) → hard_admission call m n ≡ accepted → HardTests call m n
 unfolding hard_admission room_findings settings_findings
 hard-tests-of call m n h =
     let s = settings_findings (transforms_bad call.transforms) (tables_bad call.board) (not (in_range one_f call.error_limit)) in
@@ -272,7 +272,7 @@ hard-passed call m n k =
       within_limit = not-false _ k.limit;
     }
 
-pub hard-accepted : (call : HardCall) (m n : ℕ) → hard_admission call m n ≡ Accepted → HardAccepted call m n
+pub hard-accepted : (call : HardCall) (m n : ℕ) → hard_admission call m n ≡ accepted → HardAccepted call m n
 hard-accepted call m n h = hard-passed call m n (hard-tests-of call m n h)
 
 -- a soft call: its hard part, and besides each edge of the physical list has two acceptable likelihoods, and there is room for the sums
@@ -292,7 +292,7 @@ pub record SoftTests (call : SoftCall) (m n k : ℕ) : Type 0 where
   pub likelihoods : ltb (first_bad_likelihood call.likelihoods.matches call.likelihoods.mismatches) (length call.likelihoods.matches) ≡ false
   pub margin : not (in_range margin_top call.soft-margin) ≡ false
 
-pub soft-tests-of : (call : SoftCall) (m n k : ℕ) → soft_admission call m n k ≡ Accepted → SoftTests call m n k
+pub soft-tests-of : (call : SoftCall) (m n k : ℕ) → soft_admission call m n k ≡ accepted → SoftTests call m n k
 unfolding soft_admission soft_room_short room_findings likelihood_findings settings_findings
 soft-tests-of call m n k h =
     let s = settings_findings (transforms_bad call.hard.transforms) (tables_bad call.hard.board) (soft_settings_bad call) in
@@ -318,7 +318,7 @@ soft-tests-of call m n k h =
       margin = g.1;
     }
 
-pub soft-accepted : (call : SoftCall) (m n k : ℕ) → soft_admission call m n k ≡ Accepted → SoftAccepted call m n k
+pub soft-accepted : (call : SoftCall) (m n k : ℕ) → soft_admission call m n k ≡ accepted → SoftAccepted call m n k
 unfolding likelihoods_differ first_bad_likelihood
 soft-accepted call m n k h =
     let ms = call.likelihoods.matches in

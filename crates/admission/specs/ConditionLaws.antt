@@ -1,10 +1,9 @@
 -- Laws of conditions: they are met or fail, not both, and by one number; some after others; and how a check judges them, one by one.
-use Rattle.std.specs.Prelude.{◌≡◌, refl, Bool, true, false, cond, ◌⊎◌, List, [], ◌∷◌, ◌++◌, ℕ, ltb}
+use Rattle.std.specs.Prelude.{◌≡◌, refl, Bool, true, false, cond, ◌⊎◌, List, [], ◌∷◌, ◌++◌, ℕ, ltb, Err, Ok}
 use Rattle.std.proofs.Common.{sym, ap, ◌∙◌, inl, inr, ⊎_elim}
 use Rattle.laws.specs.Tests.{clash}
 use Rattle.refusals.specs.declared.Refusal.{Refusal}
-use Rattle.refusals.specs.declared.Admission.{Admission}
-use Rattle.refusals.specs.declared.Admission.TheVariants.{Accepted, Refused}
+use Rattle.refusals.specs.Admission.{Admission, accepted}
 use Rattle.refusals.specs.declared.ListName.{ListName}
 use Rattle.refusals.specs.Numbers.{numbered, edge_refusal}
 use Rattle.findings.specs.Findings.{refused_if, refused_at, or_else}
@@ -89,9 +88,9 @@ reworded-early rows others late w = record {
 
 -- ---- how a check judges one condition: it accepts exactly where the fact holds, and refuses by the number
 pub record Judged (a : Admission) (n : ℕ) (fact : Type 0) : Type 0 where
-  pub holds : a ≡ Accepted → fact
-  pub accepted : fact → a ≡ Accepted
-  pub number : (r : Refusal) → a ≡ Refused r → r.number ≡ n
+  pub holds : a ≡ accepted → fact
+  pub accepted : fact → a ≡ accepted
+  pub number : (r : Refusal) → a ≡ Err r → r.number ≡ n
 
 -- a test that is false exactly where a fact holds
 abbrev pub Tests : Bool → Type 0 → Type 0
@@ -104,25 +103,25 @@ judged-if false n t = record { holds = λ e. t.0 refl; accepted = λ h. refl; nu
 pub judged-at : (n : ℕ) (l : ListName) (i k : ℕ) {fact : Type 0} → Tests (ltb i k) fact → Judged (refused_at n l i k) n fact
 judged-at n l i k {fact} t = go (ltb i k) t
   where
-    go : (bad : Bool) → Tests bad fact → Judged (cond bad (Refused (edge_refusal n l i)) Accepted) n fact
+    go : (bad : Bool) → Tests bad fact → Judged (cond bad (Err (edge_refusal n l i)) accepted) n fact
     go true t = record { holds = λ e. no-refusal _ (sym e); accepted = λ h. clash refl (t.1 h); number = λ r e. let q : edge_refusal n l i ≡ r = cc in sym (ap (λ (x : Refusal). x.number) q) }
     go false t = record { holds = λ e. t.0 refl; accepted = λ h. refl; number = λ r e. no-refusal r e }
 
 -- nothing is asked
-pub judged-none : (n : ℕ) → Judged Accepted n (Unit {0})
+pub judged-none : (n : ℕ) → Judged accepted n (Unit {0})
 judged-none n = record { holds = λ e. tt; accepted = λ h. refl; number = λ r e. no-refusal r e }
 
 -- two facts by one number
 pub judged-both : (a b : Admission) {n : ℕ} {A B : Type 0} → Judged a n A → Judged b n B → Judged (or_else a b) n (A × B)
 unfolding or_else
-judged-both Accepted b j k = record { holds = λ e. (j.holds refl, k.holds e); accepted = λ h. k.accepted h.1; number = k.number }
-judged-both (Refused x) b j k = record { holds = λ e. no-refusal x (sym e); accepted = λ h. no-refusal x (sym (j.accepted h.0)); number = j.number }
+judged-both (Ok _) b j k = record { holds = λ e. (j.holds refl, k.holds e); accepted = λ h. k.accepted h.1; number = k.number }
+judged-both (Err x) b j k = record { holds = λ e. no-refusal x (sym e); accepted = λ h. no-refusal x (sym (j.accepted h.0)); number = j.number }
 
 -- a part in which nothing of the kind is looked for
-pub judged-alone : (a : Admission) {n : ℕ} {fact : Type 0} → Judged a n fact → Judged (or_else a Accepted) n fact
+pub judged-alone : (a : Admission) {n : ℕ} {fact : Type 0} → Judged a n fact → Judged (or_else a accepted) n fact
 unfolding or_else
-judged-alone Accepted j = j
-judged-alone (Refused x) j = j
+judged-alone (Ok _) j = j
+judged-alone (Err x) j = j
 
 -- the same fact in other words
 pub judged-same : {a : Admission} {n : ℕ} {fact other : Type 0} → (fact → other) → (other → fact) → Judged a n fact → Judged a n other
@@ -130,21 +129,21 @@ judged-same to from j = record { holds = λ e. to (j.holds e); accepted = λ h. 
 
 -- ---- and how several: accepted exactly where all are met, and else refused by the number of the first that is not
 pub record Judges (rows : List Condition) (a : Admission) : Type 0 where
-  pub met : a ≡ Accepted → AllMet rows
-  pub accepted : AllMet rows → a ≡ Accepted
-  pub refused : (r : Refusal) → a ≡ Refused r → FirstFails rows r.number
+  pub met : a ≡ accepted → AllMet rows
+  pub accepted : AllMet rows → a ≡ accepted
+  pub refused : (r : Refusal) → a ≡ Err r → FirstFails rows r.number
 
-pub judges-none : Judges [] Accepted
+pub judges-none : Judges [] accepted
 unfolding AllMet
 judges-none = record { met = λ e. tt; accepted = λ m. refl; refused = λ r e. no-refusal r e }
 
 -- THE BRIDGE: one condition and then the rest, where what is said of the rest may rest on it
 pub judges-row : (a b : Admission) {n : ℕ} {fact : Type 0} {rows : List Condition} → Judged a n fact → (fact → Judges rows b) → Judges ((n, fact) ∷ rows) (or_else a b)
 unfolding AllMet FirstFails or_else
-judges-row Accepted b j k =
+judges-row (Ok _) b j k =
     let h = j.holds refl in
     record { met = λ e. (h, (k h).met e); accepted = λ m. (k h).accepted m.1; refused = λ r e. inr (h, (k h).refused r e) }
-judges-row (Refused x) b j k = record {
+judges-row (Err x) b j k = record {
   met = λ e. no-refusal x (sym e);
   accepted = λ m. no-refusal x (sym (j.accepted m.0));
   refused = λ r e. inl ((λ h. no-refusal x (sym (j.accepted h))), sym (j.number r e));

@@ -1,12 +1,11 @@
 -- Document 01's numbers come out of the finer ones, for each entry point.
-use Rattle.std.specs.Prelude.{◌≡◌, refl, Bool, true, false, not, cond, ◌||◌, List, ℕ, ltb, eqb, length, Float}
+use Rattle.std.specs.Prelude.{◌≡◌, refl, Bool, true, false, not, cond, ◌||◌, List, ℕ, ltb, eqb, length, Float, Err, Ok}
 use Rattle.std.proofs.Common.{sym, ap, ap₂, ◌∙◌, arith, le-ltb, eqb-true}
 use Rattle.std.proofs.lemmas.Bool.{not-false}
 use Rattle.laws.specs.Tests.{clash, and-true}
 use Rattle.laws.specs.Words.{one_f}
 use Rattle.board.specs.Hits.{EdgeList, Board, size}
-use Rattle.refusals.specs.declared.Admission.{Admission}
-use Rattle.refusals.specs.declared.Admission.TheVariants.{Accepted, Refused}
+use Rattle.refusals.specs.Admission.{Admission, accepted}
 use Rattle.refusals.specs.declared.ListName.{ListName}
 use Rattle.refusals.specs.declared.ListName.TheVariants as list
 use Rattle.refusals.specs.Numbers.{numbered, edge_refusal}
@@ -21,8 +20,8 @@ use Rattle.admission.specs.Document01.{number01, admission01, confidences_bad, h
 -- ---- one kind
 else-01 : (a b : Admission) → admission01 (or_else a b) ≡ or_else (admission01 a) (admission01 b)
 unfolding or_else
-else-01 Accepted b = refl
-else-01 (Refused r) b = refl
+else-01 (Ok _) b = refl
+else-01 (Err r) b = refl
 
 if-01 : (b : Bool) (n : ℕ) → admission01 (refused_if b n) ≡ refused_if b (number01 n)
 if-01 true n = refl
@@ -31,7 +30,7 @@ if-01 false n = refl
 at-01 : (n : ℕ) (l : ListName) (i k : ℕ) → admission01 (refused_at n l i k) ≡ refused_if (ltb i k) (number01 n)
 at-01 n l i k = go (ltb i k)
   where
-    go : (b : Bool) → admission01 (cond b (Refused (edge_refusal n l i)) Accepted) ≡ refused_if b (number01 n)
+    go : (b : Bool) → admission01 (cond b (Err (edge_refusal n l i)) accepted) ≡ refused_if b (number01 n)
     go true = refl
     go false = refl
 
@@ -44,11 +43,11 @@ either-if false b n = refl
 two-01 : (a b : Admission) (p q : Bool) (n : ℕ) → admission01 a ≡ refused_if p n → admission01 b ≡ refused_if q n → admission01 (or_else a b) ≡ refused_if (p || q) n
 two-01 a b p q n e f = else-01 a b ∙ ap₂ or_else e f ∙ either-if p q n
 
-last-01 : (a : Admission) (p : Bool) (n : ℕ) → admission01 a ≡ refused_if p n → admission01 (or_else a Accepted) ≡ refused_if p n
+last-01 : (a : Admission) (p : Bool) (n : ℕ) → admission01 a ≡ refused_if p n → admission01 (or_else a accepted) ≡ refused_if p n
 unfolding or_else
-last-01 a p n e = else-01 a Accepted ∙ ap (λ (x : Admission). or_else x Accepted) e ∙ none p
+last-01 a p n e = else-01 a accepted ∙ ap (λ (x : Admission). or_else x accepted) e ∙ none p
   where
-    none : (p : Bool) → or_else (refused_if p n) Accepted ≡ refused_if p n
+    none : (p : Bool) → or_else (refused_if p n) accepted ≡ refused_if p n
     none true = refl
     none false = refl
 
@@ -81,21 +80,21 @@ pub record Tests01 (f : Findings) : Type 0 where
 -- the chain of a table, number by number
 abbrev chain01 : Bool → Bool → Bool → Bool → Bool → Bool → Bool → Bool → Bool → Admission
 chain01 room lengths sizes fields confidence likelihood transform table setting =
-    cond room (Refused (numbered 1))
-    (cond lengths (Refused (numbered 2))
-    (cond sizes (Refused (numbered 3))
-    (cond fields (Refused (numbered 4))
-    (cond confidence (Refused (numbered 5))
-    (cond likelihood (Refused (numbered 6))
-    (cond transform (Refused (numbered 7))
-    (cond table (Refused (numbered 8))
-    (cond setting (Refused (numbered 9)) Accepted))))))))
+    cond room (Err (numbered 1))
+    (cond lengths (Err (numbered 2))
+    (cond sizes (Err (numbered 3))
+    (cond fields (Err (numbered 4))
+    (cond confidence (Err (numbered 5))
+    (cond likelihood (Err (numbered 6))
+    (cond transform (Err (numbered 7))
+    (cond table (Err (numbered 8))
+    (cond setting (Err (numbered 9)) accepted))))))))
 
-then-01 : (a x y : Admission) (p : Bool) (n : ℕ) → admission01 a ≡ refused_if p n → admission01 x ≡ y → admission01 (or_else a x) ≡ cond p (Refused (numbered n)) y
+then-01 : (a x y : Admission) (p : Bool) (n : ℕ) → admission01 a ≡ refused_if p n → admission01 x ≡ y → admission01 (or_else a x) ≡ cond p (Err (numbered n)) y
 unfolding or_else
 then-01 a x y p n e f = else-01 a x ∙ ap₂ or_else e f ∙ go p
   where
-    go : (p : Bool) → or_else (refused_if p n) y ≡ cond p (Refused (numbered n)) y
+    go : (p : Bool) → or_else (refused_if p n) y ≡ cond p (Err (numbered n)) y
     go true = refl
     go false = refl
 
@@ -109,7 +108,7 @@ three false false false r x = refl
 found-01 : (f : Findings) (t : Tests01 f) → admission01 (first_found f) ≡ chain01 t.room t.lengths t.size (t.coordinate || (t.orientation || t.bit)) t.confidence t.likelihood t.transform t.table t.setting
 unfolding first_found first_of
 found-01 f t =
-    let x5 = cond t.confidence (Refused (numbered 5)) (cond t.likelihood (Refused (numbered 6)) (cond t.transform (Refused (numbered 7)) (cond t.table (Refused (numbered 8)) (cond t.setting (Refused (numbered 9)) Accepted)))) in
+    let x5 = cond t.confidence (Err (numbered 5)) (cond t.likelihood (Err (numbered 6)) (cond t.transform (Err (numbered 7)) (cond t.table (Err (numbered 8)) (cond t.setting (Err (numbered 9)) accepted)))) in
     then-01 f.room _ _ t.room 1 t.is_room
     (then-01 f.lengths _ _ t.lengths 2 t.is_lengths
     (then-01 f.size _ _ t.size 3 t.is_size
@@ -121,7 +120,7 @@ found-01 f t =
     (then-01 f.transform _ _ t.transform 7 t.is_transform
     (then-01 f.table _ _ t.table 8 t.is_table
     (then-01 f.setting _ _ t.setting 9 t.is_setting refl))))))))))
-    ∙ ap (λ (x : Admission). cond t.room (Refused (numbered 1)) (cond t.lengths (Refused (numbered 2)) (cond t.size (Refused (numbered 3)) x))) (three t.coordinate t.orientation t.bit (Refused (numbered 4)) x5)
+    ∙ ap (λ (x : Admission). cond t.room (Err (numbered 1)) (cond t.lengths (Err (numbered 2)) (cond t.size (Err (numbered 3)) x))) (three t.coordinate t.orientation t.bit (Err (numbered 4)) x5)
 
 -- ---- the parts
 tests-joined : (f g : Findings) → Tests01 f → Tests01 g → Tests01 (joined f g)
@@ -357,4 +356,4 @@ soft-document-01 call m n k =
     chain01 (or_right room i) (or_right (d || e) i) (or_right (z || size_bad 0 (length ms)) i) (twice lists.coordinate i || (twice lists.orientation i || twice lists.bit i)) (twice c i) (or_right u i) ts tb (soft_settings_bad call))
     ∙ ap (λ (fields : Bool). chain01 room (d || e) (z || size_bad 0 (length ms)) fields c u ts tb (soft_settings_bad call))
     (by-lists (list-01 1 list.Logical L).coordinate (list-01 1 list.Logical L).orientation (list-01 1 list.Logical L).bit (list-01 1 list.Physical E).coordinate (list-01 1 list.Physical E).orientation (list-01 1 list.Physical E).bit)
-    ∙ ap (cond room (Refused (numbered 1))) (same_then d e (Refused (numbered 2)) (Refused (numbered 3)) _ (z || size_bad 0 (length ms)) z (likelihoods-over (size E) ms us (size_bad 1 (size L))))
+    ∙ ap (cond room (Err (numbered 1))) (same_then d e (Err (numbered 2)) (Err (numbered 3)) _ (z || size_bad 0 (length ms)) z (likelihoods-over (size E) ms us (size_bad 1 (size L))))

@@ -8,3 +8,4 @@ pub mod Refusals
 pub mod PlaceTheorems
 pub mod Document01
 pub mod Document01Laws
+pub mod CallsGiven

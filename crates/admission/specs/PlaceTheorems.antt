@@ -1,10 +1,9 @@
 -- WHERE AN EARLY REFUSAL POINTS TO (C-11): a refusal about an edge names the first bad edge of its kind, the logical list first; every other names none. The words are those of
 -- findings/specs/Places.antt.
-use Rattle.std.specs.Prelude.{◌≡◌, Bool, not, ℕ, ltb, length}
+use Rattle.std.specs.Prelude.{◌≡◌, Bool, not, ℕ, ltb, length, Err}
 use Rattle.laws.specs.Words.{one_f}
 use Rattle.board.specs.Hits.{EdgeList, Board}
 use Rattle.refusals.specs.declared.Refusal.{Refusal}
-use Rattle.refusals.specs.declared.Admission.TheVariants.{Refused}
 use Rattle.refusals.specs.declared.ListName.{ListName}
 use Rattle.refusals.specs.declared.ListName.TheVariants as list
 use Rattle.checks.specs.Checks.{origin_bad}
@@ -32,7 +31,7 @@ abbrev pub stats_bad : EdgeList → ℕ → ListName → ℕ → Bool
 stats_bad E = bad_in (one_list E) no_likelihoods
 
 -- HARD
-pub hard-place : (call : HardCall) (m n : ℕ) (r : Refusal) → hard_admission call m n ≡ Refused r → PlaceRight (hard_count call) (hard_bad call) r
+pub hard-place : (call : HardCall) (m n : ℕ) (r : Refusal) → hard_admission call m n ≡ Err r → PlaceRight (hard_count call) (hard_bad call) r
 unfolding hard_admission
 hard-place call m n r h =
     let P = PlaceRight (hard_count call) (hard_bad call) in
@@ -41,7 +40,7 @@ hard-place call m n r h =
     (each-joined P (both_lists call) s (each-lists call.logical call.physical no_likelihoods) (each-settings (hard_count call) (hard_bad call) (transforms_bad call.transforms) (tables_bad call.board) (not (in_range one_f call.error_limit)))))) h
 
 -- SOFT
-pub soft-place : (call : SoftCall) (m n k : ℕ) (r : Refusal) → soft_admission call m n k ≡ Refused r → PlaceRight (hard_count call.hard) (soft_bad call) r
+pub soft-place : (call : SoftCall) (m n k : ℕ) (r : Refusal) → soft_admission call m n k ≡ Err r → PlaceRight (hard_count call.hard) (soft_bad call) r
 unfolding soft_admission
 soft-place call m n k r h =
     let P = PlaceRight (hard_count call.hard) (soft_bad call) in
@@ -53,7 +52,7 @@ soft-place call m n k r h =
     (each-settings (hard_count call.hard) (soft_bad call) (transforms_bad call.hard.transforms) (tables_bad call.hard.board) (soft_settings_bad call))))) h
 
 -- MATCH STATISTICS
-pub stats-place : (E : EdgeList) (t row col : ℕ) (B : Board) (r : Refusal) → stats_admission E t row col B ≡ Refused r → PlaceRight (stats_count E) (stats_bad E) r
+pub stats-place : (E : EdgeList) (t row col : ℕ) (B : Board) (r : Refusal) → stats_admission E t row col B ≡ Err r → PlaceRight (stats_count E) (stats_bad E) r
 unfolding stats_admission
 stats-place E t row col B r h =
     let P = PlaceRight (stats_count E) (stats_bad E) in

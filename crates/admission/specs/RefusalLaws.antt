@@ -1,11 +1,10 @@
 -- The first of the parts, by rank, is the earliest of all that is found.
-use Rattle.std.specs.Prelude.{◌≡◌, Bool, not, ℕ, ltb, length}
+use Rattle.std.specs.Prelude.{◌≡◌, Bool, not, ℕ, ltb, length, Err}
 use Rattle.std.proofs.Common.{ap, ap₂, ◌∙◌}
 use Rattle.laws.specs.Words.{one_f}
 use Rattle.board.specs.Hits.{EdgeList, Board, size}
 use Rattle.refusals.specs.declared.Refusal.{Refusal}
-use Rattle.refusals.specs.declared.Admission.{Admission}
-use Rattle.refusals.specs.declared.Admission.TheVariants.{Refused}
+use Rattle.refusals.specs.Admission.{Admission}
 use Rattle.refusals.specs.declared.ListName.TheVariants as list
 use Rattle.refusals.specs.Numbers.{edge_refusal}
 use Rattle.refusals.specs.Numbers as why
@@ -57,14 +56,14 @@ unfolding stats_admission
 stats-parts E t row col B = first-joined (list_findings 0 list.Only E) (settings_findings (ltb 7 t) (tables_bad B) (origin_bad (length B.h) row col)) (sorted-list 0 list.Only E) (sorted-settings (ltb 7 t) (tables_bad B) (origin_bad (length B.h) row col))
 
 -- ---- refused early means by one of 1 to 9, 16 and 17
-pub hard-early : (call : HardCall) (m n : ℕ) (r : Refusal) → hard_admission call m n ≡ Refused r → why.Early r.number
+pub hard-early : (call : HardCall) (m n : ℕ) (r : Refusal) → hard_admission call m n ≡ Err r → why.Early r.number
 unfolding hard_admission
 hard-early call m n r =
     let s = settings_findings (transforms_bad call.transforms) (tables_bad call.board) (not (in_range one_f call.error_limit)) in
     let k = sorted-settings (transforms_bad call.transforms) (tables_bad call.board) (not (in_range one_f call.error_limit)) in
     found_early (joined (room_findings (room_short (length call.board.h) m n)) (joined (both_lists call) s)) r (sorted-joined (room_findings (room_short (length call.board.h) m n)) (joined (both_lists call) s) (sorted-room (room_short (length call.board.h) m n)) (sorted-joined (both_lists call) s (sorted-both call) k))
 
-pub soft-early : (call : SoftCall) (m n k : ℕ) (r : Refusal) → soft_admission call m n k ≡ Refused r → why.Early r.number
+pub soft-early : (call : SoftCall) (m n k : ℕ) (r : Refusal) → soft_admission call m n k ≡ Err r → why.Early r.number
 unfolding soft_admission
 soft-early call m n k r =
     let s = settings_findings (transforms_bad call.hard.transforms) (tables_bad call.hard.board) (soft_settings_bad call) in
@@ -73,7 +72,7 @@ soft-early call m n k r =
     let b = sorted-joined (both_lists call.hard) (soft_likelihoods call) (sorted-both call.hard) (sorted-likelihoods (size call.hard.physical) call.likelihoods.matches call.likelihoods.mismatches) in
     found_early (joined (room_findings (soft_room_short (length call.hard.board.h) m n k)) (joined l s)) r (sorted-joined (room_findings (soft_room_short (length call.hard.board.h) m n k)) (joined l s) (sorted-room (soft_room_short (length call.hard.board.h) m n k)) (sorted-joined l s b t))
 
-pub stats-early : (E : EdgeList) (t row col : ℕ) (B : Board) (r : Refusal) → stats_admission E t row col B ≡ Refused r → why.Early r.number
+pub stats-early : (E : EdgeList) (t row col : ℕ) (B : Board) (r : Refusal) → stats_admission E t row col B ≡ Err r → why.Early r.number
 unfolding stats_admission
 stats-early E t row col B r =
     let s = settings_findings (ltb 7 t) (tables_bad B) (origin_bad (length B.h) row col) in

@@ -2,7 +2,7 @@
 use Rattle.std.specs.Prelude.{Bool, not, ◌||◌, cond, ℕ, ltb, length}
 use Rattle.laws.specs.Words.{one_f}
 use Rattle.board.specs.Hits.{EdgeList, Board, size}
-use Rattle.refusals.specs.declared.Admission.{Admission}
+use Rattle.refusals.specs.Admission.{Admission}
 use Rattle.refusals.specs.declared.ListName.TheVariants as list
 use Rattle.room.specs.Room.{tables_for, sums_for}
 use Rattle.checks.specs.Checks.{origin_bad}

@@ -27,11 +27,7 @@ pub struct Decoded {
 }
 
 // The answer of hard decode.
-#[derive(Clone, Copy)]
-pub enum Answer {
-    Found(Decoded),
-    Refused(Refusal),
-}
+pub type Answer = Result<Decoded, Refusal>;
 
 // What a found soft answer holds: the square, how well the physical list fits there, the two best scores, which are log likelihoods, with the placing that has the second, and the best competitor by
 // hits on the logical list. The second by likelihood and the runner-up by hits may be two squares.
@@ -52,11 +48,7 @@ pub struct SoftDecoded {
 }
 
 // The answer of soft decode.
-#[derive(Clone, Copy)]
-pub enum SoftAnswer {
-    Found(SoftDecoded),
-    Refused(Refusal),
-}
+pub type SoftAnswer = Result<SoftDecoded, Refusal>;
 
 // The answer of either decoder, for those who tell of both.
 #[derive(Clone, Copy)]
@@ -76,8 +68,4 @@ pub struct MatchStats {
 }
 
 // The answer of match statistics.
-#[derive(Clone, Copy)]
-pub enum StatsAnswer {
-    Counted(MatchStats),
-    Refused(Refusal),
-}
+pub type StatsAnswer = Result<MatchStats, Refusal>;

@@ -5,3 +5,4 @@ pub mod Sides
 pub mod Domain
 pub mod DomainLaws
 pub mod Numbers
+pub mod Given

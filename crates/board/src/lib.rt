@@ -2,4 +2,5 @@
 #![tactic(auto)]
 
 pub mod edge; // an edge, its lookup and a placing, by value
+pub mod list; // the columns of a list
 pub mod pattern; // bits of patterns, and a part of a lent table

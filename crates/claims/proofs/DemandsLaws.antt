@@ -1,24 +1,18 @@
 -- How an entry point comes to meet its demands: its checks judge the early conditions, and what it answers to an accepted call is right by the late ones. Said once, for all answers.
-use Rattle.std.specs.Prelude.{◌≡◌, refl, ◌⊎◌, List, ◌++◌, ℕ}
+use Rattle.std.specs.Prelude.{◌≡◌, refl, ◌⊎◌, List, ◌++◌, ℕ, Err, Ok}
 use Rattle.std.proofs.Common.{sym, subst, ◌∙◌, inl, inr, arith}
 use Rattle.refusals.specs.declared.Refusal.{Refusal}
-use Rattle.refusals.specs.declared.Admission.{Admission}
-use Rattle.refusals.specs.declared.Admission.TheVariants as admission
+use Rattle.refusals.specs.Admission.{Admission, accepted}
 use Rattle.admission.specs.Conditions.{Condition, AllMet, FirstFails}
 use Rattle.admission.specs.ConditionLaws.{met-or-fails, fails-once, met-both, met-parts, fails-early, fails-late}
 use Rattle.answer.specs.declared.MatchStats.{MatchStats}
-use Rattle.answer.specs.declared.StatsAnswer.{StatsAnswer}
-use Rattle.answer.specs.declared.StatsAnswer.TheVariants as stats
-use Rattle.verdict.specs.Answers.{Answers, never_both}
+use Rattle.answer.specs.Answers.{StatsAnswer}
+use Rattle.verdict.specs.Answers.{Answers, never_both, answers}
 use Rattle.claims.specs.Promises.{Demands}
 
 -- what match statistics answer is made in two ways, as hard and soft answers are
-pub stats-answers : Answers stats.Refused stats.Counted
-stats-answers = record { either = either; apart = λ d r e. let z : ◌≡◌ {A = ℕ} 0 1 = cc in omega arith; once = λ r s e. cc }
-  where
-    either : (a : StatsAnswer) → ((d : MatchStats) × (a ≡ stats.Counted d)) ⊎ ((r : Refusal) × (a ≡ stats.Refused r))
-    either (stats.Counted d) = inl (d, refl)
-    either (stats.Refused r) = inr (r, refl)
+pub stats-answers : Answers {Answer = StatsAnswer} Err Ok
+stats-answers = answers
 
 module _ {Answer Told : Type 0} (refusing : Refusal → Answer) (finding : Told → Answer) where
   -- an answer is right by conditions: found where all are met, refused by the number of the first that is not
@@ -35,15 +29,15 @@ module _ {Answer Told : Type 0} (refusing : Refusal → Answer) (finding : Told 
 
   -- THE DEMANDS ARE MET by an answer that hands on what the checks refuse, with the room as it was, and is otherwise what is right of an accepted call
   module _ (ways : Answers refusing finding) (early late : List Condition) (as_it_was emptied : Type 0) (says : Told → Type 0) (answer core : Answer) (checked : Admission)
-      (accepts : (checked ≡ admission.Accepted → AllMet early) × (AllMet early → checked ≡ admission.Accepted))
-      (first : (r : Refusal) → checked ≡ admission.Refused r → FirstFails early r.number)
-      (handed : (r : Refusal) → checked ≡ admission.Refused r → (answer ≡ refusing r) × as_it_was) (given : AllMet early → answer ≡ core) (right : AllMet early → Right late core) where
-    by-check : {A : Type 0} → (checked ≡ admission.Accepted → A) → ((r : Refusal) → checked ≡ admission.Refused r → A) → A
+      (accepts : (checked ≡ accepted → AllMet early) × (AllMet early → checked ≡ accepted))
+      (first : (r : Refusal) → checked ≡ Err r → FirstFails early r.number)
+      (handed : (r : Refusal) → checked ≡ Err r → (answer ≡ refusing r) × as_it_was) (given : AllMet early → answer ≡ core) (right : AllMet early → Right late core) where
+    by-check : {A : Type 0} → (checked ≡ accepted → A) → ((r : Refusal) → checked ≡ Err r → A) → A
     by-check {A} f g = go checked refl
       where
         go : (a : Admission) → checked ≡ a → A
-        go admission.Accepted h = f h
-        go (admission.Refused r) h = g r h
+        go (Ok _) h = f h
+        go (Err r) h = g r h
 
     refused : (r : Refusal) → answer ≡ refusing r → FirstFails (early ++ late) r.number
     refused r e =

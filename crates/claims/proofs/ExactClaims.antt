@@ -1,15 +1,13 @@
 -- THE PROMISES OF THE EXACT MODE ARE KEPT: each record of ExactPromises.antt follows from the contract of `decode_exact` (`ExactGave ..`), which has no `requires`, for all inputs; and the two hard
 -- modes agree.
-use Rattle.std.specs.Prelude.{◌≡◌, refl, List, ◌++◌, ℕ, ◌≤◌, ◌<◌, length}
+use Rattle.std.specs.Prelude.{◌≡◌, refl, List, ◌++◌, ℕ, ◌≤◌, ◌<◌, length, Err, None, Ok}
 use Rattle.std.proofs.Common.{sym, ap₂, subst, ◌∙◌}
 use Rattle.std.proofs.Math.Path.{ap}
 use Rattle.board.specs.declared.edge.Placing.{Placing}
 use Rattle.board.specs.Hits.{EdgeList, Board}
 use Rattle.board.specs.Domain.{BoardOk, ListOk}
 use Rattle.refusals.specs.declared.Refusal.{Refusal}
-use Rattle.refusals.specs.declared.Place.TheVariants.{Nowhere}
-use Rattle.refusals.specs.declared.Admission.{Admission}
-use Rattle.refusals.specs.declared.Admission.TheVariants as admission
+use Rattle.refusals.specs.Admission.{Admission, accepted}
 use Rattle.room.specs.Room.{tables_room, tables_for, pole-rooms}
 use Rattle.admission.specs.Calls.{HardCall, HardRoom}
 use Rattle.admission.specs.Refusals.{hard_admission, hard_checked}
@@ -18,8 +16,7 @@ use Rattle.admission.specs.Document01Laws.{hard-document-01}
 use Rattle.admission.specs.Conditions.{FirstFails}
 use Rattle.admission.specs.Accepted.{HardAccepted, hard-accepted}
 use Rattle.answer.specs.declared.Decoded.{Decoded}
-use Rattle.answer.specs.declared.Answer.{Answer}
-use Rattle.answer.specs.declared.Answer.TheVariants as hard
+use Rattle.answer.specs.Answers.{Answer}
 use Rattle.verdict.specs.Verdict.{when_accepted}
 use Rattle.verdict.specs.Answers.{found-only}
 use Rattle.demand.specs.Demand.{Same, Leads, Names}
@@ -28,8 +25,7 @@ use Rattle.hard_core.proofs.HardTheorems.{hard-sound}
 use Rattle.exact.specs.Winner.{IsWinner}
 use Rattle.exact.proofs.ExactTheorems as one_list_lem
 use Rattle.exact_answer.specs.declared.ExactDecoded.{ExactDecoded}
-use Rattle.exact_answer.specs.declared.ExactAnswer.{ExactAnswer}
-use Rattle.exact_answer.specs.declared.ExactAnswer.TheVariants.{Found, Refused}
+use Rattle.exact_answer.specs.Answers.{ExactAnswer}
 use Rattle.exact_core.specs.ExactCore.{total_units, exact_core}
 use Rattle.exact_demand.specs.ExactDemand.{ExactWins, ExactAnswered}
 use Rattle.exact_demand.specs.ExactDomain.{ExactRoom, exact_checked, exact_early, exact-domain, exact-first}
@@ -61,17 +57,17 @@ one-winner B E ts board list some = let w = winner-exists B E ts board list some
 -- ---- EXACT DECODE
 module _ (call : HardCall) (before after : ExactRoom) (answer : ExactAnswer) (done : ExactGave call before after answer) where
   -- which calls are accepted, from both sides: those in the domain
-  pub exact-accepts : (exact_checked call before ≡ admission.Accepted → InExactDomain call before) × (InExactDomain call before → exact_checked call before ≡ admission.Accepted)
+  pub exact-accepts : (exact_checked call before ≡ accepted → InExactDomain call before) × (InExactDomain call before → exact_checked call before ≡ accepted)
   exact-accepts = exact-domain call before
 
   pub taken : InExactDomain call before → HardAccepted call (length before.counts) (length before.units)
   taken domain = hard-accepted call (length before.counts) (length before.units) (exact-accepts.1 domain)
 
   -- an early refusal: handed on whole, with its place, and both slices as they were
-  pub exact-refused-early : (refusal : Refusal) → exact_checked call before ≡ admission.Refused refusal → (answer ≡ Refused refusal) × (after.counts ≡ before.counts) × (after.units ≡ before.units)
+  pub exact-refused-early : (refusal : Refusal) → exact_checked call before ≡ Err refusal → (answer ≡ Err refusal) × (after.counts ≡ before.counts) × (after.units ≡ before.units)
   unfolding exact_answer
   exact-refused-early x h = (
-    done.answer ∙ ap (λ (y : Admission). when_accepted Refused y (exact_core call)) h,
+    done.answer ∙ ap (λ (y : Admission). when_accepted Err y (exact_core call)) h,
     done.counts ∙ claims.left-untouched 0 0 (tables_room call.board) (exact_checked call before) before.counts x h,
     done.units ∙ claims.left-untouched 0 0 (tables_room call.board) (exact_checked call before) before.units x h,
   )
@@ -79,7 +75,7 @@ module _ (call : HardCall) (before after : ExactRoom) (answer : ExactAnswer) (do
   -- in the domain the answer is the decoder's
   pub exact-core : InExactDomain call before → answer ≡ exact_core call
   unfolding exact_answer
-  exact-core domain = done.answer ∙ ap (λ (y : Admission). when_accepted Refused y (exact_core call)) (exact-accepts.1 domain)
+  exact-core domain = done.answer ∙ ap (λ (y : Admission). when_accepted Err y (exact_core call)) (exact-accepts.1 domain)
 
   -- every call in the domain: the first 9L + 1,503 places are zero, the surplus as it was
   pub exact-room-zero : InExactDomain call before
@@ -93,15 +89,15 @@ module _ (call : HardCall) (before after : ExactRoom) (answer : ExactAnswer) (do
       )
 
   -- refused late means 10 to 13
-  pub exact-refused-late : InExactDomain call before → (refusal : Refusal) → answer ≡ Refused refusal → (10 ≤ refusal.number) × (refusal.number ≤ 13) × (refusal.place ≡ Nowhere)
+  pub exact-refused-late : InExactDomain call before → (refusal : Refusal) → answer ≡ Err refusal → (10 ≤ refusal.number) × (refusal.number ≤ 13) × (refusal.place ≡ None)
   exact-refused-late domain x e = both-lists.exact-late call (length before.counts) (length before.units) (taken domain) x (sym (exact-core domain) ∙ e)
 
   -- a found answer: the call is in the domain, and it is the decoder's
-  pub told : (found : ExactDecoded) → answer ≡ Found found → InExactDomain call before × (exact_core call ≡ Found found)
+  pub told : (found : ExactDecoded) → answer ≡ Ok found → InExactDomain call before × (exact_core call ≡ Ok found)
   unfolding exact_answer
   told d e = let f = found-only exact-answers (exact_checked call before) (exact_core call) d (sym e ∙ done.answer) in (exact-accepts.0 f.0, f.1)
 
-  pub exact-answer-in-range : (found : ExactDecoded) → answer ≡ Found found → ExactInRange (length call.board.h) found
+  pub exact-answer-in-range : (found : ExactDecoded) → answer ≡ Ok found → ExactInRange (length call.board.h) found
   exact-answer-in-range d e = let f = told d e in exact-in-range call (length before.counts) (length before.units) (taken f.0) d f.1
 
   pub exact-no-influence : (before' after' : ExactRoom) (answer' : ExactAnswer) → ExactGave call before' after' answer' → length before'.counts ≡ length before.counts → length before'.units ≡ length before.units → answer' ≡ answer
@@ -112,20 +108,20 @@ module _ (call : HardCall) (before after : ExactRoom) (answer : ExactAnswer) (do
   exact-by-the-rules = done.answer
 
   -- DEMAND 3, found means true
-  pub exact-found : (found : ExactDecoded) → answer ≡ Found found → InExactDomain call before × ExactAnswered call found
+  pub exact-found : (found : ExactDecoded) → answer ≡ Ok found → InExactDomain call before × ExactAnswered call found
   exact-found d e = let f = told d e in (f.0, (both-lists.exact-sound call (length before.counts) (length before.units) (taken f.0) d f.1).1)
 
   -- DEMAND 3, a true square is found
   pub exact-finds : InExactDomain call before → 0 < total_units call.logical → 0 < total_units call.physical → (square : Placing)
       → Leads call.board call.logical call.transforms call.error_limit square → ExactWins call.board call.physical call.transforms square
-      → (found : ExactDecoded) × (answer ≡ Found found) × Names call.transforms square found.square
+      → (found : ExactDecoded) × (answer ≡ Ok found) × Names call.transforms square found.square
   exact-finds domain u v square l x =
       let f = both-lists.exact-complete call (length before.counts) (length before.units) (taken domain) u v square l x in
       let s = (both-lists.exact-sound call (length before.counts) (length before.units) (taken domain) f.0 f.1).1 in
       (f.0, exact-core domain ∙ f.1, leader-named call.board call.logical call.transforms call.error_limit square s.square f.0.square l s.leads s.tells.square)
 
   -- THE SQUARE THAT IS FOUND IS THE WINNER'S: of the logical list, and of the physical one
-  pub exact-winner : (found : ExactDecoded) → answer ≡ Found found
+  pub exact-winner : (found : ExactDecoded) → answer ≡ Ok found
       → (P : Placing) × IsWinner call.board call.logical call.transforms P × ExactWins call.board call.physical call.transforms P × Names call.transforms P found.square
   exact-winner d e =
       let f = exact-found d e in
@@ -139,7 +135,7 @@ module _ (call : HardCall) (before after : ExactRoom) (answer : ExactAnswer) (do
   -- WHAT EXACT DECODE PROMISES
   pub exact-promise : ExactPromise (exact_early call before) (tables_for (length call.board.h)) call before after answer
   exact-promise = record {
-    demands = demands-met Refused Found exact-answers (exact_early call before) (exact_late call) (after ≡ before) _ (ExactAnswered call) answer (exact_core call) (exact_checked call before) exact-accepts (exact-first call before)
+    demands = demands-met Err Ok exact-answers (exact_early call before) (exact_late call) (after ≡ before) _ (ExactAnswered call) answer (exact_core call) (exact_checked call before) exact-accepts (exact-first call before)
         (λ x h. let e = exact-refused-early x h in (e.0, λ i. record { counts = e.1 i; units = e.2 i })) exact-core
         (λ domain. exact-right call (length before.counts) (length before.units) (taken domain)) exact-room-zero (λ d e. (exact-found d e).1);
     finds_square = exact-finds;
@@ -149,7 +145,7 @@ module _ (call : HardCall) (before after : ExactRoom) (answer : ExactAnswer) (do
   }
 
   -- each number exactly when
-  pub exact-refused-exactly : (n : ℕ) → FirstFails (exact_early call before ++ exact_late call) n → (refusal : Refusal) × (answer ≡ Refused refusal) × (refusal.number ≡ n)
+  pub exact-refused-exactly : (n : ℕ) → FirstFails (exact_early call before ++ exact_late call) n → (refusal : Refusal) × (answer ≡ Err refusal) × (refusal.number ≡ n)
   exact-refused-exactly = refuses-by exact-answers exact-promise.demands
 
   pub exact-particulars : ExactParticulars call before after answer
@@ -184,13 +180,13 @@ module _ (call : HardCall) (before after : ExactRoom) (answer : ExactAnswer) (do
         alike = ap₂ (hard_admission call) p q
 
         go : (a : Admission) → exact_checked call before ≡ a → ModesAgree answer-hard answer
-        go admission.Accepted h = modes-agree ((claims.hard-accepts call lent left answer-hard gave).0 (alike ∙ h)) (exact-accepts.0 h)
-        go (admission.Refused r) h =
+        go (Ok _) h = modes-agree ((claims.hard-accepts call lent left answer-hard gave).0 (alike ∙ h)) (exact-accepts.0 h)
+        go (Err r) h =
             subst (λ (x : ExactAnswer). ModesAgree answer-hard x) (sym (exact-refused-early r h).0)
-            (subst (λ (y : Answer). ModesAgree y (Refused r)) (sym (claims.hard-refused-early call lent left answer-hard gave r (alike ∙ h)).0) (both_refuse r))
+            (subst (λ (y : Answer). ModesAgree y (Err r)) (sym (claims.hard-refused-early call lent left answer-hard gave r (alike ∙ h)).0) (both_refuse r))
 
     -- where both find a square, it is the same placing, with the same hits, edges, error rate and runner-up hits
-    pub modes-find-alike : (d : Decoded) (e : ExactDecoded) → answer-hard ≡ hard.Found d → answer ≡ Found e → SameFound d e
+    pub modes-find-alike : (d : Decoded) (e : ExactDecoded) → answer-hard ≡ Ok d → answer ≡ Ok e → SameFound d e
     modes-find-alike d e h x =
         let f = claims.told call lent left answer-hard gave d h in
         let A = claims.taken call lent left answer-hard gave f.0 in

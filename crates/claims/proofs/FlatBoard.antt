@@ -1,6 +1,6 @@
 -- THE FLAT BOARD, on which the horizontal table has 167 patterns too: document 01's claims, with its own numbers. C-13 says of every pole what document 01 says of the flat board; where L is
 -- 167 the same conditions come out in document 01's words, and so do the promises.
-use Rattle.std.specs.Prelude.{◌≡◌, List, [], ◌∷◌, ℕ, ◌*◌, ◌≤◌, ◌<◌, length, get_or}
+use Rattle.std.specs.Prelude.{◌≡◌, List, [], ◌∷◌, ℕ, ◌*◌, ◌≤◌, ◌<◌, length, get_or, Ok}
 use Rattle.std.proofs.Common.{sym}
 use Rattle.std.proofs.Math.Path.{subst}
 use native.Mathlib.Omega.{arith}
@@ -13,12 +13,10 @@ use Rattle.admission.specs.Conditions.{Condition}
 use Rattle.admission.specs.ConditionLaws.{InOtherWords, word-for-word, reworded, reworded-early}
 use Rattle.admission.specs.Domain.{Between, PoleLength, Lent, early, hard_early, soft_early, stats_early}
 use Rattle.answer.specs.declared.Decoded.{Decoded}
-use Rattle.answer.specs.declared.Answer.{Answer}
-use Rattle.answer.specs.declared.Answer.TheVariants.{Found}
+use Rattle.answer.specs.Answers.{Answer}
 use Rattle.answer.specs.declared.SoftDecoded.{SoftDecoded}
-use Rattle.answer.specs.declared.SoftAnswer.{SoftAnswer}
-use Rattle.answer.specs.declared.SoftAnswer.TheVariants as soft
-use Rattle.answer.specs.declared.StatsAnswer.{StatsAnswer}
+use Rattle.answer.specs.Answers.{SoftAnswer}
+use Rattle.answer.specs.Answers.{StatsAnswer}
 use Rattle.demand.specs.FoundRange.{AnswerInRange, SoftAnswerInRange}
 use Rattle.stats.specs.Stats.{stats_answer}
 use Rattle.claims.specs.Promises.{Demands, HardPromise, SoftPromise, StatsPromise, HardGave, SoftGave}
@@ -105,7 +103,7 @@ module _ (call : HardCall) (before after : HardRoom) (answer : Answer) (done : H
       }
 
   -- rows and columns of a found answer are below 501
-  pub hard-range-01 : (found : Decoded) → answer ≡ Found found → AnswerInRange 167 found
+  pub hard-range-01 : (found : Decoded) → answer ≡ Ok found → AnswerInRange 167 found
   hard-range-01 found e = subst (λ (L : ℕ). AnswerInRange L found) flat (hard-answer-in-range call before after answer done found e)
 
 -- ---- SOFT DECODE on the flat board
@@ -129,7 +127,7 @@ module _ (call : SoftCall) (before after : SoftRoom) (answer : SoftAnswer) (done
         logical-winner = λ m. p.logical-winner (w.back m);
       }
 
-  pub soft-range-01 : (found : SoftDecoded) → answer ≡ soft.Found found → SoftAnswerInRange 167 found
+  pub soft-range-01 : (found : SoftDecoded) → answer ≡ Ok found → SoftAnswerInRange 167 found
   soft-range-01 found e = subst (λ (L : ℕ). SoftAnswerInRange L found) flat (soft-answer-in-range call before after answer done found e)
 
 -- ---- MATCH STATISTICS on the flat board

@@ -1,5 +1,5 @@
 -- The number tells found from refused: where it is 0 the public library found or counted (and `flat` makes it 0 there). A refusal never has the number 0.
-use Rattle.std.specs.Prelude.{◌≡◌, refl, Bool, true, ◌&&◌, ◌⊎◌, List, [], ◌∷◌, ◌++◌, ℕ, ltb, ℤ, Float}
+use Rattle.std.specs.Prelude.{◌≡◌, refl, Bool, true, ◌&&◌, ◌⊎◌, List, [], ◌∷◌, ◌++◌, ℕ, ltb, ℤ, Float, Ok}
 use Rattle.std.proofs.Common.{sym, ap, ◌∙◌, inl, inr, arith, ltb-true}
 use Rattle.laws.specs.Tests.{and-true}
 use Rattle.board.specs.Hits.{EdgeList, Board}
@@ -8,14 +8,11 @@ use Rattle.admission.specs.Calls.{HardCall, SoftCall}
 use Rattle.admission.specs.Conditions.{Condition, FirstFails}
 use Rattle.admission.specs.Domain.{early, hard_early, soft_early, stats_early}
 use Rattle.answer.specs.declared.Decoded.{Decoded}
-use Rattle.answer.specs.declared.Answer.{Answer}
-use Rattle.answer.specs.declared.Answer.TheVariants.{Found}
+use Rattle.answer.specs.Answers.{Answer}
 use Rattle.answer.specs.declared.SoftDecoded.{SoftDecoded}
-use Rattle.answer.specs.declared.SoftAnswer.{SoftAnswer}
-use Rattle.answer.specs.declared.SoftAnswer.TheVariants as soft
+use Rattle.answer.specs.Answers.{SoftAnswer}
 use Rattle.answer.specs.declared.MatchStats.{MatchStats}
-use Rattle.answer.specs.declared.StatsAnswer.{StatsAnswer}
-use Rattle.answer.specs.declared.StatsAnswer.TheVariants as stats
+use Rattle.answer.specs.Answers.{StatsAnswer}
 use Rattle.stats.specs.Stats.{stats_answer}
 use Rattle.verdict.specs.Answers.{Answers, answers}
 use Rattle.soft_verdict.specs.SoftVerdictTheorems.{soft-answers}
@@ -29,8 +26,7 @@ use Rattle.export_exact.specs.Exports.{ExactFlat}
 use Rattle.flat_exact.specs.declared.FlatExact.{FlatExact}
 use Rattle.flat_exact.specs.FlatExact.{flat_exact}
 use Rattle.exact_answer.specs.declared.ExactDecoded.{ExactDecoded}
-use Rattle.exact_answer.specs.declared.ExactAnswer.{ExactAnswer}
-use Rattle.exact_answer.specs.declared.ExactAnswer.TheVariants as exact
+use Rattle.exact_answer.specs.Answers.{ExactAnswer}
 use Rattle.exact_demand.specs.ExactDomain.{exact_early_by}
 use Rattle.exact_demand.proofs.ExactEnds.{exact-answers}
 use Rattle.claims.specs.Late.{hard_late, soft_late, exact_late}
@@ -64,7 +60,7 @@ module _ {Answer Told : Type 0} {refusing : Refusal → Answer} {finding : Told 
 
 -- HARD: the number is 0 only where the library found
 pub hard-zero-found : (call : HardCall) (c c' : List ℕ) (w w' : List Float) (r : FlatAnswer) → (h : HardFlat call c c' w w' r) → r.refusal ≡ not_refused
-    → (d : Decoded) × (h.told ≡ Found d)
+    → (d : Decoded) × (h.told ≡ Ok d)
 unfolding numbers_above early hard_early hard_late
 hard-zero-found call c c' w w' r h e =
     zero-found answers (λ (a : Answer). (flat a).refusal) (λ x. refl)
@@ -73,7 +69,7 @@ hard-zero-found call c c' w w' r h e =
 
 -- SOFT: the same
 pub soft-zero-found : (call : SoftCall) (c c' : List ℕ) (w w' : List Float) (a a' : List ℤ) (r : FlatSoft)
-    → (h : SoftFlat call c c' w w' a a' r) → r.refusal ≡ not_refused → (d : SoftDecoded) × (h.told ≡ soft.Found d)
+    → (h : SoftFlat call c c' w w' a a' r) → r.refusal ≡ not_refused → (d : SoftDecoded) × (h.told ≡ Ok d)
 unfolding numbers_above early soft_early soft_late
 soft-zero-found call c c' w w' a a' r h e =
     zero-found soft-answers (λ (x : SoftAnswer). (flat_soft x).refusal) (λ x. refl)
@@ -81,7 +77,7 @@ soft-zero-found call c c' w w' a a' r h e =
     (ap (λ (x : FlatSoft). x.refusal) (sym h.shown) ∙ e)
 
 -- EXACT: the same
-pub exact-zero-found : (call : HardCall) (c c' u u' : List ℕ) (r : FlatExact) → (h : ExactFlat call c c' u u' r) → r.refusal ≡ not_refused → (d : ExactDecoded) × (h.told ≡ exact.Found d)
+pub exact-zero-found : (call : HardCall) (c c' u u' : List ℕ) (r : FlatExact) → (h : ExactFlat call c c' u u' r) → r.refusal ≡ not_refused → (d : ExactDecoded) × (h.told ≡ Ok d)
 unfolding numbers_above early exact_early_by exact_late
 exact-zero-found call c c' u u' r h e =
     zero-found exact-answers (λ (x : ExactAnswer). (flat_exact x).refusal) (λ x. refl)
@@ -89,7 +85,7 @@ exact-zero-found call c c' u u' r h e =
     (ap (λ (x : FlatExact). x.refusal) (sym h.shown) ∙ e)
 
 -- MATCH STATISTICS: the same
-pub stats-zero-counted : (E : EdgeList) (t row col : ℕ) (B : Board) → (flat_stats (stats_answer E t row col B)).refusal ≡ not_refused → (s : MatchStats) × (stats_answer E t row col B ≡ stats.Counted s)
+pub stats-zero-counted : (E : EdgeList) (t row col : ℕ) (B : Board) → (flat_stats (stats_answer E t row col B)).refusal ≡ not_refused → (s : MatchStats) × (stats_answer E t row col B ≡ Ok s)
 unfolding numbers_above early stats_early
 stats-zero-counted E t row col B e =
     zero-found stats-answers (λ (x : StatsAnswer). (flat_stats x).refusal) (λ x. refl) (stats-promise E t row col B (stats_answer E t row col B) refl).demands refl e

@@ -1,5 +1,5 @@
 -- An accepted call is found when it meets all conditions of Late.antt, and else refused by the number of the first that it does not meet.
-use Rattle.std.specs.Prelude.{◌≡◌, Bool, true, false, ◌&&◌, List, ℕ, ◌≤◌, eqb, get_or, length, pos, Float}
+use Rattle.std.specs.Prelude.{◌≡◌, Bool, true, false, ◌&&◌, List, ℕ, ◌≤◌, eqb, get_or, length, pos, Float, Err, Ok}
 use Rattle.std.proofs.Math.Path.{refl}
 use Rattle.std.proofs.Common.{sym, ap, ap₂, subst, ◌∙◌, eq-eqb, eqb-true}
 use Rattle.std.proofs.Math.Logic.{inl, inr}
@@ -15,14 +15,12 @@ use Rattle.admission.specs.Calls.{HardCall, SoftCall}
 use Rattle.admission.specs.Conditions.{AllMet, FirstFails}
 use Rattle.admission.specs.Accepted.{HardAccepted, SoftAccepted}
 use Rattle.figures.specs.Figures.{no_confidence}
+use Rattle.scan.specs.Pairs.{ok-first}
 use Rattle.scan.specs.declared.scan.Candidate.{Candidate}
 use Rattle.scan.specs.declared.scan.RunnerUp.{RunnerUp}
 use Rattle.hard.specs.Select.{selection}
-use Rattle.hard.specs.declared.select.Selection.TheVariants.{Selected}
-use Rattle.answer.specs.declared.Answer.{Answer}
-use Rattle.answer.specs.declared.Answer.TheVariants.{Found, Refused}
-use Rattle.answer.specs.declared.SoftAnswer.{SoftAnswer}
-use Rattle.answer.specs.declared.SoftAnswer.TheVariants as found-soft
+use Rattle.answer.specs.Answers.{Answer}
+use Rattle.answer.specs.Answers.{SoftAnswer}
 use Rattle.verdict.specs.Verdict.{refused_by, agreed}
 use Rattle.verdict.specs.Answers.{answers}
 use Rattle.soft_verdict.specs.SoftVerdict.{soft_refused_by}
@@ -43,17 +41,16 @@ use Rattle.claims.proofs.DemandsLaws.{Right, right-found, right-refused}
 use Rattle.claims.specs.Late.{hard_late, soft_late}
 
 -- a list has one winner, so whoever wins has its transform and origin
-wins-as : (B : Board) (E : EdgeList) (ts : List ℕ) (limit : Float) (P : Placing) (x : Candidate) (r : RunnerUp) → Wins B E ts limit P → selection B E ts limit ≡ Selected x r → SameSquare ts x.placing P
+wins-as : (B : Board) (E : EdgeList) (ts : List ℕ) (limit : Float) (P : Placing) (x : Candidate) (r : RunnerUp) → Wins B E ts limit P → selection B E ts limit ≡ Ok (x, r) → SameSquare ts x.placing P
 wins-as B E ts limit P x r w e =
-    let q : Selected w.winner w.runner ≡ Selected x r = sym w.chosen ∙ e in
-    let same : w.winner ≡ x = cc in (
+    let same : w.winner ≡ x = ok-first (sym w.chosen ∙ e) in (
       ap (λ (c : Candidate). get_or ts c.placing.listed 0) (sym same) ∙ w.transform,
       ap (λ (c : Candidate). c.placing.row) (sym same) ∙ w.row,
       ap (λ (c : Candidate). c.placing.col) (sym same) ∙ w.col,
     )
 
 -- the winner wins, and so does every placing with its transform and origin
-winner-wins : (B : Board) (E : EdgeList) (ts : List ℕ) (limit : Float) (P : Placing) (x : Candidate) (r : RunnerUp) → selection B E ts limit ≡ Selected x r → SameSquare ts x.placing P → Wins B E ts limit P
+winner-wins : (B : Board) (E : EdgeList) (ts : List ℕ) (limit : Float) (P : Placing) (x : Candidate) (r : RunnerUp) → selection B E ts limit ≡ Ok (x, r) → SameSquare ts x.placing P → Wins B E ts limit P
 winner-wins B E ts limit P x r e s = record { winner = x; runner = r; chosen = e; transform = s.0; row = s.1; col = s.2 }
 
 -- the test of two placings is true exactly where they have one transform and origin
@@ -124,11 +121,11 @@ module _ (call : HardCall) (m n : ℕ) (A : HardAccepted call m n) where
   )
 
   -- a refusal by the number of the first condition that is not met is right
-  hard-refused : (k : ℕ) → FirstFails (hard_late call) k → Right Refused Found (hard_late call) (refused_by k)
-  hard-refused k = right-refused Refused Found answers (hard_late call) (numbered k)
+  hard-refused : (k : ℕ) → FirstFails (hard_late call) k → Right Err Ok (hard_late call) (refused_by k)
+  hard-refused k = right-refused Err Ok answers (hard_late call) (numbered k)
 
   -- however an accepted call ends, its answer is right
-  hard-ended : (a : Answer) → hard.HardEnd call m n A a → Right Refused Found (hard_late call) a
+  hard-ended : (a : Answer) → hard.HardEnd call m n A a → Right Err Ok (hard_late call) a
   unfolding hard_late AllMet FirstFails
   hard-ended a (hard.no_logical_confidence h) = hard-refused why.no_confidence (inl ((λ k. clash h k), refl))
   hard-ended a (hard.none_within h k) = hard-refused why.none_within_limit (inr (h, inl (not_within call k, refl)))
@@ -155,11 +152,11 @@ module _ (call : HardCall) (m n : ℕ) (A : HardAccepted call m n) where
       hard-refused why.not_far_ahead (inr (k.0, inr (k.1, inr (physical-known p, inr (both-win w p h, inl ((λ l. none l.0 l.1), refl))))))
   hard-ended a (hard.found w p h g d) =
       let k = logical-known w in
-      right-found Refused Found answers (hard_late call) d
+      right-found Err Ok answers (hard_late call) d
       (k.0, (k.1, (physical-known p, (both-win w p h, ((w.winner.placing, winner-leads call.board call.logical call.transforms call.error_limit A.board A.logical few w.winner w.runner-up w.selected g), tt)))))
 
   -- HARD
-  pub hard-right : Right Refused Found (hard_late call) (hard_core call)
+  pub hard-right : Right Err Ok (hard_late call) (hard_core call)
   hard-right = hard-ended (hard_core call) (hard.hard-ends call m n A)
 
 -- ---- soft decode
@@ -213,10 +210,10 @@ module _ (call : SoftCall) (m n o : ℕ) (A : SoftAccepted call m n o) where
   )
 
   -- the same of a soft refusal, and of every end
-  soft-refused : (k : ℕ) → FirstFails (soft_late call) k → Right found-soft.Refused found-soft.Found (soft_late call) (soft_refused_by k)
-  soft-refused k = right-refused found-soft.Refused found-soft.Found soft-answers (soft_late call) (numbered k)
+  soft-refused : (k : ℕ) → FirstFails (soft_late call) k → Right Err Ok (soft_late call) (soft_refused_by k)
+  soft-refused k = right-refused Err Ok soft-answers (soft_late call) (numbered k)
 
-  soft-ended : (a : SoftAnswer) → soft_core call ≡ a → soft.SoftEnd call m n o A a → Right found-soft.Refused found-soft.Found (soft_late call) a
+  soft-ended : (a : SoftAnswer) → soft_core call ≡ a → soft.SoftEnd call m n o A a → Right Err Ok (soft_late call) a
   unfolding soft_late AllMet FirstFails
   soft-ended a e (soft.no_physical_confidence h) = soft-refused why.no_confidence (inl ((λ k. clash h k), refl))
   soft-ended a e (soft.margin_below h b) = soft-refused why.soft_margin (inr (h, inl ((λ c. clash b (clear-only c.0 c.1 c.2)), refl)))
@@ -247,8 +244,8 @@ module _ (call : SoftCall) (m n o : ℕ) (A : SoftAccepted call m n o) where
   soft-ended a e (soft.found h b w d f) =
       let k = soft-known w in
       let s = soft-sound call m n o A f e in
-      right-found found-soft.Refused found-soft.Found soft-answers (soft_late call) f (h, ((first, other, clears b), (k.0, (k.1, (first-wins b w d, ((s.square, s.leads), tt))))))
+      right-found Err Ok soft-answers (soft_late call) f (h, ((first, other, clears b), (k.0, (k.1, (first-wins b w d, ((s.square, s.leads), tt))))))
 
   -- SOFT
-  pub soft-right : Right found-soft.Refused found-soft.Found (soft_late call) (soft_core call)
+  pub soft-right : Right Err Ok (soft_late call) (soft_core call)
   soft-right = soft-ended (soft_core call) refl (soft.soft-ends call m n o A)

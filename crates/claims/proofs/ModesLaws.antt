@@ -1,5 +1,5 @@
 -- THE TWO HARD MODES ON ONE ACCEPTED CALL: by who leads, since no two placings of a list do, and by how each ends. No table occurs.
-use Rattle.std.specs.Prelude.{◌≡◌, List, ℕ, ◌≤◌, get_or, Float}
+use Rattle.std.specs.Prelude.{◌≡◌, List, ℕ, ◌≤◌, get_or, Float, Err, Ok}
 use Rattle.std.proofs.Math.Path.{refl, subst}
 use Rattle.std.proofs.Common.{sym, ap₂, ◌∙◌, inl, inr, arith}
 use Rattle.laws.specs.Tests.{clash}
@@ -11,8 +11,7 @@ use Rattle.admission.specs.Calls.{HardCall}
 use Rattle.admission.specs.Accepted.{HardAccepted}
 use Rattle.figures.specs.Figures.{rate_of}
 use Rattle.answer.specs.declared.Decoded.{Decoded}
-use Rattle.answer.specs.declared.Answer.{Answer}
-use Rattle.answer.specs.declared.Answer.TheVariants as hard
+use Rattle.answer.specs.Answers.{Answer}
 use Rattle.verdict.specs.Verdict.{decoded_of}
 use Rattle.demand.specs.Demand.{Same, Leads, RunsUp}
 use Rattle.demand.specs.DemandLaws.{leader-named}
@@ -22,7 +21,7 @@ use Rattle.hard_core.specs.HardDemand.{HardAnswered}
 use Rattle.hard_core.proofs.HardNumbers as ended
 use Rattle.hard_core.proofs.HardTheorems.{hard-sound}
 use Rattle.exact_answer.specs.declared.ExactDecoded.{ExactDecoded}
-use Rattle.exact_answer.specs.declared.ExactAnswer.{ExactAnswer}
+use Rattle.exact_answer.specs.Answers.{ExactAnswer}
 use Rattle.exact_core.specs.ExactCore.{exact_core}
 use Rattle.exact_demand.specs.ExactDemand.{ExactAnswered}
 use Rattle.exact_demand.proofs.ExactEnds.{ExactEnd, no_logical_units, none-within-limit, no_physical_units, winners_differ, none_leads, found, exact-ends}
@@ -81,12 +80,12 @@ module _ (call : HardCall) (d : Decoded) (x : ExactDecoded) (a : HardAnswered ca
 
 module _ (call : HardCall) (m n : ℕ) (A : HardAccepted call m n) where
   -- the rate of a found hard answer is that of its own hits and edges
-  pub hard-rate : (d : Decoded) → hard_core call ≡ hard.Found d → d.error_rate ≡ rate_of d.edges d.hits
+  pub hard-rate : (d : Decoded) → hard_core call ≡ Ok d → d.error_rate ≡ rate_of d.edges d.hits
   unfolding decoded_of
   hard-rate d e = subst (λ (z : Decoded). z.error_rate ≡ rate_of z.edges z.hits) (hard-ten-fields call m n A d e).decoded refl
 
   -- hard decode refuses by 11, by 13, or finds: against each end of exact decode
-  at-eleven : (x : ExactAnswer) → ExactEnd call x → NoneWithinLimit call.board call.logical call.transforms call.error_limit → ModesAgree (hard.Refused (numbered why.none_within_limit)) x
+  at-eleven : (x : ExactAnswer) → ExactEnd call x → NoneWithinLimit call.board call.logical call.transforms call.error_limit → ModesAgree (Err (numbered why.none_within_limit)) x
   at-eleven x (no_logical_units z) h = exact_refuses _ (numbered why.no_confidence) (inl refl)
   at-eleven x (none-within-limit u k) h = both_refuse (numbered why.none_within_limit)
   at-eleven x (no_physical_units u P k z) h = exact_refuses _ (numbered why.no_confidence) (inl refl)
@@ -94,7 +93,7 @@ module _ (call : HardCall) (m n : ℕ) (A : HardAccepted call m n) where
   at-eleven x (none_leads b k l) h = clash (h b.logical b.logical_wins.on-board) b.within
   at-eleven x (found b k e y) h = clash (h b.logical b.logical_wins.on-board) b.within
 
-  at-thirteen : (x : ExactAnswer) → ExactEnd call x → Winner call.board call.logical call.transforms call.error_limit A.board A.logical A.transforms.few → NoneLeads call.board call.logical call.transforms call.error_limit → ModesAgree (hard.Refused (numbered why.not_far_ahead)) x
+  at-thirteen : (x : ExactAnswer) → ExactEnd call x → Winner call.board call.logical call.transforms call.error_limit A.board A.logical A.transforms.few → NoneLeads call.board call.logical call.transforms call.error_limit → ModesAgree (Err (numbered why.not_far_ahead)) x
   at-thirteen x (no_logical_units z) w h = exact_refuses _ (numbered why.no_confidence) (inl refl)
   at-thirteen x (none-within-limit u k) w h =
       let s = (winner-some call.board call.logical call.transforms call.error_limit A.board A.logical A.transforms.few w).1 in
@@ -104,7 +103,7 @@ module _ (call : HardCall) (m n : ℕ) (A : HardAccepted call m n) where
   at-thirteen x (none_leads b k l) w h = both_refuse (numbered why.not_far_ahead)
   at-thirteen x (found b k e y) w h = absurd (h y.square y.leads)
 
-  at-found : (x : ExactAnswer) → ExactEnd call x → (d : Decoded) → hard_core call ≡ hard.Found d → ModesAgree (hard.Found d) x
+  at-found : (x : ExactAnswer) → ExactEnd call x → (d : Decoded) → hard_core call ≡ Ok d → ModesAgree (Ok d) x
   at-found x (no_logical_units z) d e = exact_refuses _ (numbered why.no_confidence) (inl refl)
   at-found x (none-within-limit u k) d e = let a = hard-sound call m n A d e in clash (k a.square a.leads.on-board) a.leads.within
   at-found x (no_physical_units u P k z) d e = exact_refuses _ (numbered why.no_confidence) (inl refl)

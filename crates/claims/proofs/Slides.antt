@@ -5,14 +5,13 @@ use Rattle.std.specs.Prelude.{◌≡◌, List, ℕ, ◌≤◌, ◌<◌, length, 
 use Rattle.std.proofs.Common.{sym, subst}
 use Rattle.board.specs.Hits.{EdgeList, Board, size}
 use Rattle.board.specs.Domain.{BoardOk, ListOk}
-use Rattle.decide.specs.declared.Outcome.{Outcome}
+use Rattle.decide.specs.Kinds.{Outcome}
 use Rattle.hard.specs.Select.{selection}
 use Rattle.decide.specs.Decide.{gated, DecideDone}
-use Rattle.refusals.specs.declared.Admission.{Admission}
-use Rattle.refusals.specs.declared.Admission.TheVariants.{Accepted}
-use Rattle.exact_scan.specs.declared.kept.ExactSelection.{ExactSelection}
+use Rattle.refusals.specs.Admission.{Admission, accepted}
+use Rattle.exact_scan.specs.Kinds.{ExactSelection}
 use Rattle.exact.specs.Select.{ExactDone}
-use Rattle.locate_answer.specs.declared.LocateAnswer.{LocateAnswer}
+use Rattle.locate_answer.specs.Answers.{LocateAnswer}
 use Rattle.locate_admission.specs.LocateAdmission.{locate_admission}
 use Rattle.locate.specs.Located.{AfterChecks, LocateDone}
 use Rattle.sliding.specs.Sliding.{Slid, slid_placing, SlidTo}
@@ -34,7 +33,7 @@ slide-the-picture board transforms limit down right before after board-ok before
 -- the same of the engine without tables (C-16), of whatever the contract of `locate` allows for two accepted calls
 pub slide-without-tables : (board : Board) (transforms : List ℕ) (limit : Float) (down right : ℤ) (before after : EdgeList)
     → BoardOk board → ListOk before → ListOk after → length transforms ≤ 8 → Slid down right before after
-    → (one other : LocateAnswer) → locate_admission before transforms board limit ≡ Accepted → locate_admission after transforms board limit ≡ Accepted
+    → (one other : LocateAnswer) → locate_admission before transforms board limit ≡ accepted → locate_admission after transforms board limit ≡ accepted
     → LocateDone board before transforms limit one → LocateDone board after transforms limit other → LocatedSlidTo board down right one other
 slide-without-tables board transforms limit down right before after board-ok before-ok after-ok few slid one other a b first second =
     located-slides board transforms down right board-ok before after limit before-ok after-ok few slid one other

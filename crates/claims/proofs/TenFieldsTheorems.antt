@@ -1,6 +1,6 @@
 -- THE OLD ANSWER COMES OUT: of what both decoders answer, `ten_fields` (crate ten_fields) makes document 01's answer of ten fields, with the same bits. A refusal is handed on; of a found answer
 -- each field is what document 01 says of the winner, its runner-up and, in soft decode, the two best by likelihood.
-use Rattle.std.specs.Prelude.{◌≡◌, ℕ, ◌-◌, ◌≤◌, get_or, pos}
+use Rattle.std.specs.Prelude.{◌≡◌, ℕ, ◌-◌, ◌≤◌, get_or, pos, Err, Ok}
 use Rattle.std.proofs.Math.Path.{refl}
 use Rattle.std.proofs.Common.{sym, ap, ◌∙◌, arith, le-ltb}
 use Rattle.std.specs.Float.{binary32}
@@ -14,16 +14,13 @@ use Rattle.figures.specs.Figures.{rate_of, mean_of}
 use Rattle.figures.specs.declared.Fit.{Fit}
 use Rattle.scan.specs.declared.scan.Candidate.{Candidate}
 use Rattle.scan.specs.declared.scan.RunnerUp.{RunnerUp}
-use Rattle.hard.specs.declared.select.Selection.{Selection}
-use Rattle.hard.specs.declared.select.Selection.TheVariants as sel
+use Rattle.hard.specs.Kinds.{Selection}
 use Rattle.hard.specs.Select.{selection}
 use Rattle.hard.proofs.SelectTheorems.{selected-in-range}
 use Rattle.answer.specs.declared.Decoded.{Decoded}
-use Rattle.answer.specs.declared.Answer.{Answer}
-use Rattle.answer.specs.declared.Answer.TheVariants as hard
+use Rattle.answer.specs.Answers.{Answer}
 use Rattle.answer.specs.declared.SoftDecoded.{SoftDecoded}
-use Rattle.answer.specs.declared.SoftAnswer.{SoftAnswer}
-use Rattle.answer.specs.declared.SoftAnswer.TheVariants as soft
+use Rattle.answer.specs.Answers.{SoftAnswer}
 use Rattle.verdict.specs.Verdict.{decoded_of}
 use Rattle.verdict.specs.Answers.{answers, never_both}
 use Rattle.verdict.proofs.VerdictTheorems.{judged-is}
@@ -35,7 +32,6 @@ use Rattle.soft_core.specs.Soft.{soft_core}
 use Rattle.soft_core.specs.SoftDemand.{with_total}
 use Rattle.soft_core.proofs.SoftTheorems.{FoundBy, found-by}
 use Rattle.ten_fields.specs.declared.TenFields.{TenFields}
-use Rattle.ten_fields.specs.declared.TenAnswer.TheVariants as ten
 use Rattle.ten_fields.specs.TenFields.{as_score, ten_of_hard, ten_of_soft, any_of_hard, any_of_soft, ten_fields}
 
 -- ---- document 01's answers
@@ -91,14 +87,14 @@ module _ (call : HardCall) (m n : ℕ) (A : HardAccepted call m n) (d : Decoded)
   pub record HardTold : Type 0 where
     pub winner : Candidate
     pub runner : RunnerUp
-    pub selected : selection call.board call.logical call.transforms call.error_limit ≡ sel.Selected winner runner
+    pub selected : selection call.board call.logical call.transforms call.error_limit ≡ Ok (winner, runner)
     pub decoded : decoded_of (get_or call.transforms winner.placing.listed 0) winner runner (size call.logical) ≡ d
     pub told : ten_of_hard d ≡ decoded01 (get_or call.transforms winner.placing.listed 0) winner runner (size call.logical)
 
-  by-physical : (x : Candidate) (r : RunnerUp) → selection call.board call.logical call.transforms call.error_limit ≡ sel.Selected x r → (q : Selection)
-      → after_physical call.logical call.transforms x r q ≡ hard.Found d → HardTold
-  by-physical x r e (sel.Refused k) h = absurd (never_both answers d k h)
-  by-physical x r e (sel.Selected y o) h =
+  by-physical : (x : Candidate) (r : RunnerUp) → selection call.board call.logical call.transforms call.error_limit ≡ Ok (x, r) → (q : Selection)
+      → after_physical call.logical call.transforms x r q ≡ Ok d → HardTold
+  by-physical x r e (Err k) h = absurd (never_both answers d k h)
+  by-physical x r e (Ok (y, o)) h =
       let t = get_or call.transforms x.placing.listed 0 in
       let i = selected-in-range call.board call.logical call.transforms call.error_limit A.board A.logical A.transforms.few x r e in
       let q = judged-is t x r (get_or call.transforms y.placing.listed 0) y (size call.logical) d h in
@@ -110,12 +106,12 @@ module _ (call : HardCall) (m n : ℕ) (A : HardAccepted call m n) (d : Decoded)
         told = ap ten_of_hard (sym q) ∙ ten-of-decoded t x r (size call.logical) (omega (arith, i.hits, A.logical.few)) (omega (arith, i.runner_up_hits, A.logical.few));
       }
 
-  by-logical : (q : Selection) → selection call.board call.logical call.transforms call.error_limit ≡ q → after_logical call q ≡ hard.Found d → HardTold
-  by-logical (sel.Refused k) e h = absurd (never_both answers d k h)
-  by-logical (sel.Selected x r) e h = by-physical x r e (selection call.board call.physical call.transforms one_f) h
+  by-logical : (q : Selection) → selection call.board call.logical call.transforms call.error_limit ≡ q → after_logical call q ≡ Ok d → HardTold
+  by-logical (Err k) e h = absurd (never_both answers d k h)
+  by-logical (Ok (x, r)) e h = by-physical x r e (selection call.board call.physical call.transforms one_f) h
 
   -- HARD: the ten fields of a found answer are document 01's
-  pub hard-ten-fields : hard_core call ≡ hard.Found d → HardTold
+  pub hard-ten-fields : hard_core call ≡ Ok d → HardTold
   unfolding hard_core
   hard-ten-fields h = by-logical (selection call.board call.logical call.transforms call.error_limit) refl h
 
@@ -132,7 +128,7 @@ module _ (call : SoftCall) (m n k : ℕ) (A : SoftAccepted call m n k) (d : Soft
         ten_of_soft d ≡ soft_decoded01 t (best_of (with_total B E X ts by.first) (with_total B E X ts by.second) (size E)) (fit_of B E t by.first.row by.first.col) (size E) by.runner
 
   -- SOFT: the ten fields of a found answer are document 01's
-  pub soft-ten-fields : soft_core call ≡ soft.Found d → SoftTold
+  pub soft-ten-fields : soft_core call ≡ Ok d → SoftTold
   soft-ten-fields h =
       let f = found-by call m n k A d h in
       let H = call.hard in
@@ -140,9 +136,9 @@ module _ (call : SoftCall) (m n k : ℕ) (A : SoftAccepted call m n k) (d : Soft
       record { by = f; told = ap ten_of_soft (sym f.told) ∙ ten-of-soft-decoded _ _ _ _ _ f.runner (omega (arith, i.runner_up_hits, A.hard.logical.few)) }
 
 -- ---- the answer as a whole: found with these fields, or refused as it was
-pub hard-ten-answer : (answer : Answer) → ((d : Decoded) → answer ≡ hard.Found d → ten_fields (any_of_hard answer) ≡ ten.Found (ten_of_hard d)) × ((r : Refusal) → answer ≡ hard.Refused r → ten_fields (any_of_hard answer) ≡ ten.Refused r)
+pub hard-ten-answer : (answer : Answer) → ((d : Decoded) → answer ≡ Ok d → ten_fields (any_of_hard answer) ≡ Ok (ten_of_hard d)) × ((r : Refusal) → answer ≡ Err r → ten_fields (any_of_hard answer) ≡ Err r)
 hard-ten-answer answer = ((λ d e. ap (λ (a : Answer). ten_fields (any_of_hard a)) e), λ r e. ap (λ (a : Answer). ten_fields (any_of_hard a)) e)
 
 pub soft-ten-answer : (answer : SoftAnswer)
-    → ((d : SoftDecoded) → answer ≡ soft.Found d → ten_fields (any_of_soft answer) ≡ ten.Found (ten_of_soft d)) × ((r : Refusal) → answer ≡ soft.Refused r → ten_fields (any_of_soft answer) ≡ ten.Refused r)
+    → ((d : SoftDecoded) → answer ≡ Ok d → ten_fields (any_of_soft answer) ≡ Ok (ten_of_soft d)) × ((r : Refusal) → answer ≡ Err r → ten_fields (any_of_soft answer) ≡ Err r)
 soft-ten-answer answer = ((λ d e. ap (λ (a : SoftAnswer). ten_fields (any_of_soft a)) e), λ r e. ap (λ (a : SoftAnswer). ten_fields (any_of_soft a)) e)

@@ -13,7 +13,7 @@
 --   clears      its own best placing by likelihood, edge by edge, clears the soft margin (soft_core/specs/SoftDemand.antt)
 --   answered    what a found answer says (hard_core/specs/HardDemand.antt, SoftDemand.antt); a square is a transform's number, a row and a column
 --   room        what the caller lends; its first places are used, and the rest is surplus
-use Rattle.std.specs.Prelude.{◌≡◌, Bool, false, ◌⊎◌, List, [], ◌++◌, ℕ, ◌-◌, ◌≤◌, ◌<◌, get_or, length, pos, Float}
+use Rattle.std.specs.Prelude.{◌≡◌, Bool, false, ◌⊎◌, List, [], ◌++◌, ℕ, ◌-◌, ◌≤◌, ◌<◌, get_or, length, pos, Float, Err, None, Ok}
 use Rattle.std.specs.Float.{nan, binary32}
 use Rattle.std.specs.Float.Ieee.{sub, div, of_int}
 use Rattle.laws.specs.Words.{zero_f, one_f}
@@ -21,10 +21,8 @@ use Rattle.board.specs.declared.edge.Placing.{Placing}
 use Rattle.board.specs.Hits.{EdgeList, Board, size, hits, hits_at}
 use Rattle.board.specs.Domain.{BoardOk, ListOk}
 use Rattle.refusals.specs.declared.Refusal.{Refusal}
-use Rattle.refusals.specs.declared.Place.TheVariants.{Nowhere}
 use Rattle.refusals.specs.declared.ListName.{ListName}
-use Rattle.refusals.specs.declared.Admission.{Admission}
-use Rattle.refusals.specs.declared.Admission.TheVariants as admission
+use Rattle.refusals.specs.Admission.{Admission, accepted}
 use Rattle.findings.specs.Places.{PlaceRight}
 use Rattle.admission.specs.Calls.{HardCall, SoftCall, HardRoom, SoftRoom}
 use Rattle.admission.specs.Refusals.{stats_admission, hard_checked, soft_checked}
@@ -36,16 +34,12 @@ use Rattle.figures.specs.Figures.{no_confidence}
 use Rattle.scan.specs.declared.scan.Candidate.{Candidate}
 use Rattle.scan.specs.declared.scan.RunnerUp.{RunnerUp}
 use Rattle.hard.specs.Select.{selection}
-use Rattle.hard.specs.declared.select.Selection.TheVariants.{Selected}
 use Rattle.answer.specs.declared.Decoded.{Decoded}
-use Rattle.answer.specs.declared.Answer.{Answer}
-use Rattle.answer.specs.declared.Answer.TheVariants.{Found, Refused}
+use Rattle.answer.specs.Answers.{Answer}
 use Rattle.answer.specs.declared.SoftDecoded.{SoftDecoded}
-use Rattle.answer.specs.declared.SoftAnswer.{SoftAnswer}
-use Rattle.answer.specs.declared.SoftAnswer.TheVariants as soft
+use Rattle.answer.specs.Answers.{SoftAnswer}
 use Rattle.answer.specs.declared.MatchStats.{MatchStats}
-use Rattle.answer.specs.declared.StatsAnswer.{StatsAnswer}
-use Rattle.answer.specs.declared.StatsAnswer.TheVariants as stats
+use Rattle.answer.specs.Answers.{StatsAnswer}
 use Rattle.demand.specs.Demand.{OnBoard, Same, WithinLimit, Leads, RunnerUpExists, Names, Wins, AgreesPhysical}
 use Rattle.demand.specs.FoundRange.{AnswerInRange, SoftAnswerInRange}
 use Rattle.decode_hard.specs.HardAnswer.{hard_answer, HardDone}
@@ -90,28 +84,28 @@ pub record WinsByHits (B : Board) (E : EdgeList) (ts : List ℕ) (limit : Float)
 
 -- HARD DECODE: `answer` is what the call gave, with the room before and after it. The early conditions are `hard_early`, and tables_for L places of each slice are used (`hard-promise`)
 pub record HardPromise (early : List Condition) (used : ℕ) (call : HardCall) (before after : HardRoom) (answer : Answer) : Type 0 where
-  pub demands : Demands Refused Found early (hard_late call) (after ≡ before)
+  pub demands : Demands Err Ok early (hard_late call) (after ≡ before)
       (Emptied 0 0 used before.counts after.counts × Emptied nan zero_f used before.weights after.weights) (HardAnswered call) answer
   -- "answers exactly when": a placing that leads and agrees is found, and it is the one that the answer names
   pub finds_square : AllMet early → no_confidence call.logical ≡ false → (P : Placing)
       → Leads call.board call.logical call.transforms call.error_limit P → AgreesPhysical call.board call.physical call.transforms P
-      → (found : Decoded) × (answer ≡ Found found) × Names call.transforms P found.square
+      → (found : Decoded) × (answer ≡ Ok found) × Names call.transforms P found.square
   pub logical-winner : AllMet early → WinsByHits call.board call.logical call.transforms call.error_limit
   pub physical-winner : AllMet early → WinsByHits call.board call.physical call.transforms one_f
 
 -- SOFT DECODE: `soft_early`, and sums_for L places of the sums (`soft-promise`)
 pub record SoftPromise (early : List Condition) (used used-sums : ℕ) (call : SoftCall) (before after : SoftRoom) (answer : SoftAnswer) : Type 0 where
-  pub demands : Demands soft.Refused soft.Found early (soft_late call) (after ≡ before)
+  pub demands : Demands Err Ok early (soft_late call) (after ≡ before)
       (Emptied 0 0 used before.counts after.counts × Emptied nan zero_f used before.weights after.weights × Emptied (pos 0) (pos 0) used-sums before.sums after.sums) (SoftAnswered call) answer
   -- "answers exactly when": its own best placing, where it clears the margin and leads, is found, and it is the one that the answer names
   pub finds_square : AllMet early → no_confidence call.hard.physical ≡ false → no_confidence call.hard.logical ≡ false → (P Q : Placing)
       → Clears call P Q → Leads call.hard.board call.hard.logical call.hard.transforms call.hard.error_limit P
-      → (found : SoftDecoded) × (answer ≡ soft.Found found) × Names call.hard.transforms P found.square
+      → (found : SoftDecoded) × (answer ≡ Ok found) × Names call.hard.transforms P found.square
   pub logical-winner : AllMet early → WinsByHits call.hard.board call.hard.logical call.hard.transforms call.hard.error_limit
 
 -- MATCH STATISTICS, of a list at one square: `stats_early`, no late conditions, no room, and the hits are counted edge by edge (`stats-promise`)
 pub record StatsPromise (early : List Condition) (list : EdgeList) (transform row col : ℕ) (board : Board) (answer : StatsAnswer) : Type 0 where
-  pub demands : Demands stats.Refused stats.Counted early [] (Unit {0}) (Unit {0})
+  pub demands : Demands Err Ok early [] (Unit {0}) (Unit {0})
       (λ counted. (counted.hits ≡ hits board list transform row col) × (counted.edges ≡ size list)) answer
 
 -- ==== PARTICULARS
@@ -119,16 +113,16 @@ pub record StatsPromise (early : List Condition) (list : EdgeList) (transform ro
 -- ---- EARLY REFUSALS, of every entry point
 -- a call that is refused before any work is done is refused by one of 1 to 9, 16 and 17
 abbrev pub EarlyNumber : Admission → Type 0
-EarlyNumber checked = (refusal : Refusal) → checked ≡ admission.Refused refusal → ((1 ≤ refusal.number) × (refusal.number ≤ 9)) ⊎ ((refusal.number ≡ 16) ⊎ (refusal.number ≡ 17))
+EarlyNumber checked = (refusal : Refusal) → checked ≡ Err refusal → ((1 ≤ refusal.number) × (refusal.number ≤ 9)) ⊎ ((refusal.number ≡ 16) ⊎ (refusal.number ≡ 17))
 
 -- a call is accepted exactly in its domain; else it is refused by one of these numbers, and the call `refused` as is said for each entry point. A refusal about an edge names the first
 -- bad edge of its kind, the logical list first, and every other names none (findings/specs/Places.antt); where 16 and 17 are read as 4, the number is that of document 01's table
 pub record Early (checked : Admission) (domain : Type 0) (count : ListName → ℕ) (bad : ℕ → ListName → ℕ → Bool) (document-01 : Admission) (refused : Refusal → Type 0) : Type 0 where
-  pub accepts : (checked ≡ admission.Accepted → domain) × (domain → checked ≡ admission.Accepted)
+  pub accepts : (checked ≡ accepted → domain) × (domain → checked ≡ accepted)
   pub number : EarlyNumber checked
-  pub place : (refusal : Refusal) → checked ≡ admission.Refused refusal → PlaceRight count bad refusal
+  pub place : (refusal : Refusal) → checked ≡ Err refusal → PlaceRight count bad refusal
   pub old_number : admission01 checked ≡ document-01
-  pub refuses : (refusal : Refusal) → checked ≡ admission.Refused refusal → refused refusal
+  pub refuses : (refusal : Refusal) → checked ≡ Err refusal → refused refusal
 
 -- ---- RUNNER-UP
 -- "In the domain a runner-up always exists, and this is proved": whatever the selection on an accepted list chose, passed by the gate or not, another placing
@@ -136,7 +130,7 @@ pub record Early (checked : Admission) (domain : Type 0) (count : ListName → �
 abbrev pub RunnerUpAlways : Type 0
 RunnerUpAlways =
     (board : Board) (list : EdgeList) (transforms : List ℕ) (limit : Float) → BoardOk board → ListOk list → length transforms ≤ 8
-    → (winner : Candidate) (runner-up : RunnerUp) → selection board list transforms limit ≡ Selected winner runner-up → RunnerUpExists board list transforms winner.placing runner-up.hits
+    → (winner : Candidate) (runner-up : RunnerUp) → selection board list transforms limit ≡ Ok (winner, runner-up) → RunnerUpExists board list transforms winner.placing runner-up.hits
 
 -- ---- HARD DECODE
 -- all early conditions are met
@@ -151,18 +145,18 @@ HardGave call before after answer = HardDone call before.counts after.counts bef
 pub record HardParticulars (call : HardCall) (before after : HardRoom) (answer : Answer) : Type 0 where
   -- DEMAND 1, early refusals
   pub early : Early (hard_checked call before) (InHardDomain call before) (hard_count call) (hard_bad call) (hard_numbers01 call (length before.counts) (length before.weights))
-      (λ refusal. (answer ≡ Refused refusal) × (after.counts ≡ before.counts) × (after.weights ≡ before.weights))
+      (λ refusal. (answer ≡ Err refusal) × (after.counts ≡ before.counts) × (after.weights ≡ before.weights))
   -- else it is refused by 10 to 13, if at all, and about no edge
-  pub refused_late : InHardDomain call before → (refusal : Refusal) → answer ≡ Refused refusal → (10 ≤ refusal.number) × (refusal.number ≤ 13) × (refusal.place ≡ Nowhere)
+  pub refused_late : InHardDomain call before → (refusal : Refusal) → answer ≡ Err refusal → (10 ≤ refusal.number) × (refusal.number ≤ 13) × (refusal.place ≡ None)
   -- each of them exactly when
   pub refused_exactly : InHardDomain call before → HardLate call answer
   -- a found answer is in range: its whole numbers, and no float is a NaN or an infinity
-  pub answer_in_range : (found : Decoded) → answer ≡ Found found → AnswerInRange (length call.board.h) found
+  pub answer_in_range : (found : Decoded) → answer ≡ Ok found → AnswerInRange (length call.board.h) found
   -- "What the room held before has no influence": the same call with room as long gives the same answer
   pub no_influence : (before' after' : HardRoom) (answer' : Answer) → HardGave call before' after' answer' → length before'.counts ≡ length before.counts → length before'.weights ≡ length before.weights
       → answer' ≡ answer
   -- C-12: the margin is the winner's hits less the runner-up's, of exactly the two counts that the answer holds
-  pub margin-of-the-two : (found : Decoded) → answer ≡ Found found → found.margin_hits ≡ found.hits - found.runner_up_hits
+  pub margin-of-the-two : (found : Decoded) → answer ≡ Ok found → found.margin_hits ≡ found.hits - found.runner_up_hits
   -- DEMAND 2: the answer is document 01's
   pub by_the_rules : answer ≡ hard_answer call (length before.counts) (length before.weights)
 
@@ -183,28 +177,28 @@ MarginOfTheTwo found = found.margin ≡ div binary32 (sub binary32 found.best_sc
 pub record SoftParticulars (call : SoftCall) (before after : SoftRoom) (answer : SoftAnswer) : Type 0 where
   -- DEMAND 1, early refusals
   pub early : Early (soft_checked call before) (InSoftDomain call before) (hard_count call.hard) (soft_bad call) (soft_numbers01 call (length before.counts) (length before.weights) (length before.sums))
-      (λ refusal. (answer ≡ soft.Refused refusal) × (after.counts ≡ before.counts) × (after.weights ≡ before.weights) × (after.sums ≡ before.sums))
+      (λ refusal. (answer ≡ Err refusal) × (after.counts ≡ before.counts) × (after.weights ≡ before.weights) × (after.sums ≡ before.sums))
   -- else it is refused by 10, 11, 13, 14 or 15, if at all, and about no edge
-  pub refused_late : InSoftDomain call before → (refusal : Refusal) → answer ≡ soft.Refused refusal
-      → ((10 ≤ refusal.number) × (refusal.number ≤ 15) × (refusal.number ≡ 12 → ⊥)) × (refusal.place ≡ Nowhere)
+  pub refused_late : InSoftDomain call before → (refusal : Refusal) → answer ≡ Err refusal
+      → ((10 ≤ refusal.number) × (refusal.number ≤ 15) × (refusal.number ≡ 12 → ⊥)) × (refusal.place ≡ None)
   pub refused_exactly : InSoftDomain call before → SoftLate call answer
-  pub answer_in_range : (found : SoftDecoded) → answer ≡ soft.Found found → SoftAnswerInRange (length call.hard.board.h) found
+  pub answer_in_range : (found : SoftDecoded) → answer ≡ Ok found → SoftAnswerInRange (length call.hard.board.h) found
   pub no_influence : (before' after' : SoftRoom) (answer' : SoftAnswer) → SoftGave call before' after' answer'
       → length before'.counts ≡ length before.counts → length before'.weights ≡ length before.weights → length before'.sums ≡ length before.sums → answer' ≡ answer
   -- C-12: the margin is (best - second) / edges of exactly the two totals that the answer holds
-  pub margin-of-the-two : (found : SoftDecoded) → answer ≡ soft.Found found → MarginOfTheTwo found
+  pub margin-of-the-two : (found : SoftDecoded) → answer ≡ Ok found → MarginOfTheTwo found
   -- DEMAND 2: the answer is document 01's
   pub by_the_rules : answer ≡ soft_answer call (length before.counts) (length before.weights) (length before.sums)
   -- and which of the second-best placings its margin is of, where several tie
-  pub kept : (found : SoftDecoded) → answer ≡ soft.Found found → SoftKept call found
+  pub kept : (found : SoftDecoded) → answer ≡ Ok found → SoftKept call found
 
 -- ---- MATCH STATISTICS
 -- the particulars of match statistics
 pub record StatsParticulars (list : EdgeList) (transform row col : ℕ) (board : Board) (answer : StatsAnswer) : Type 0 where
   -- DEMAND 1, early refusals
   pub early : Early (stats_admission list transform row col board) (AllMet (stats_early list transform row col board)) (stats_count list) (stats_bad list) (stats_numbers01 list transform row col board)
-      (λ refusal. answer ≡ stats.Refused refusal)
+      (λ refusal. answer ≡ Err refusal)
   -- DEMAND 2: every other call gives the statistics of document 01
-  pub by_the_rules : AllMet (stats_early list transform row col board) → answer ≡ stats.Counted (stats_of list transform row col board)
+  pub by_the_rules : AllMet (stats_early list transform row col board) → answer ≡ Ok (stats_of list transform row col board)
   -- and what is counted is in range: its whole numbers, and no float is a NaN or an infinity
-  pub answer_in_range : (counted : MatchStats) → answer ≡ stats.Counted counted → StatsInRange counted
+  pub answer_in_range : (counted : MatchStats) → answer ≡ Ok counted → StatsInRange counted

@@ -5,13 +5,15 @@ ghost use Rattle.std.specs.Prelude.{◌≡◌, [], not, cond, ◌+◌, ◌%◌, 
 ghost use Rattle.laws.specs.Words.{put};
 ghost use Rattle.laws.specs.Modulus.{modulus_of};
 ghost use Rattle.board.specs.Transform.{matrix_of};
-ghost use Rattle.board.specs.Hits.{edges, tables, pattern_bit};
+ghost use Rattle.board.specs.Hits.{pattern_bit};
 ghost use Rattle.board.specs.Domain.{EdgeOk, BoardOk, Patterns};
 ghost use Rattle.classes.specs.Classes.{added_three, straight, edge_added, three_of, CountReady};
 ghost use Rattle.board.specs.Sides.{period_of};
+ghost use Rattle.board.specs.Given.{board_of, edges_of};
 
 use board::edge::Edge;
-use board::pattern::pattern_bit;
+use board::list::Edges;
+use board::pattern::{Tables, pattern_bit};
 use laws::Modulus;
 
 // The hits of the three classes of one long residue, by short residue 0, 1 and 2.
@@ -97,8 +99,7 @@ fn is_on(orientation: u8, straight: bool) -> bool
 
 // One edge more: it counts where the transform puts it on the side that is asked for, which its orientation tells before it is looked up.
 fn count_edge(
-    h: &[u8],
-    v: &[u8],
+    tables: Tables,
     period: Modulus,
     sum: Three,
     edge: Edge,
@@ -108,10 +109,10 @@ fn count_edge(
     straight: bool,
     long: u32,
 ) -> Three
-    requires board_ok { BoardOk (tables h.now v.now) × (period ≡ modulus_of (period_of (tables h.now v.now) horizontal)) }
-    requires edge_ok { EdgeOk edge t × (matrix ≡ matrix_of t) × (straight ≡ Rattle.classes.specs.Classes.straight t horizontal) × (long < period_of (tables h.now v.now) horizontal) }
+    requires board_ok { BoardOk (board_of tables) × (period ≡ modulus_of (period_of (board_of tables) horizontal)) }
+    requires edge_ok { EdgeOk edge t × (matrix ≡ matrix_of t) × (straight ≡ Rattle.classes.specs.Classes.straight t horizontal) × (long < period_of (board_of tables) horizontal) }
     requires a_bound { (sum.a < 8192) × (sum.b < 8192) × (sum.c < 8192) }
-    ensures { result ≡ edge_added (tables h.now v.now) t horizontal long edge sum }
+    ensures { result ≡ edge_added (board_of tables.entry) t horizontal long edge sum }
 {
     let bit = edge.bit;
     if is_on(edge.orientation, straight) {
@@ -119,46 +120,36 @@ fn count_edge(
         let row = l.row;
         let col = l.col;
         if horizontal {
-            return add_three(h, period, sum, row, col, long, bit);
+            return add_three(tables.h, period, sum, row, col, long, bit);
         }
-        return add_three(v, period, sum, col, row, long, bit);
+        return add_three(tables.v, period, sum, col, row, long, bit);
     }
     sum
 }
 
 // How many long residues a side has: the length of its pattern table.
-pub fn period_of(h: &[u8], v: &[u8], horizontal: bool) -> usize
-    ensures { result ≡ period_of (tables h.now v.now) horizontal }
+pub fn period_of(tables: Tables, horizontal: bool) -> usize
+    ensures { result ≡ period_of (board_of tables.entry) horizontal }
 {
     if horizontal {
-        return h.len();
+        return tables.h.len();
     }
-    v.len()
+    tables.v.len()
 }
 
 // The hits of the three classes of a long residue, on the horizontal or the vertical side, under the transform t.
-pub fn long_hits(
-    rows: &[i32],
-    cols: &[i32],
-    orientations: &[u8],
-    bits: &[u8],
-    t: u8,
-    horizontal: bool,
-    long: u32,
-    h: &[u8],
-    v: &[u8],
-) -> Three
-    requires { CountReady (tables h.now v.now) (edges rows.now cols.now orientations.now bits.now []) t × (long < period_of (tables h.now v.now) horizontal) }
-    ensures { result ≡ three_of (tables h.now v.now) (edges rows.now cols.now orientations.now bits.now []) t horizontal long }
+pub fn long_hits(edges: Edges, t: u8, horizontal: bool, long: u32, tables: Tables) -> Three
+    requires { CountReady (board_of tables) (edges_of edges) t × (long < period_of (board_of tables) horizontal) }
+    ensures { result ≡ three_of (board_of tables.entry) (edges_of edges.entry) t horizontal long }
 {
     let matrix = lookup::matrix_of(t);
     let straight = is_straight(t, matrix, horizontal);
-    let period = laws::modulus_of(period_of(h, v, horizontal) as u32);
+    let period = laws::modulus_of(period_of(tables, horizontal) as u32);
     let mut sum = Three { a: 0, b: 0, c: 0 };
-    for i in 0..rows.len() {
-        let edge = board::edge::edge_at(rows, cols, orientations, bits, i);
+    for i in 0..edges.rows.len() {
+        let edge = edges.edge_at(i);
         sum = count_edge(
-            h, v, period, sum, edge, t, matrix, horizontal, straight, long,
+            tables, period, sum, edge, t, matrix, horizontal, straight, long,
         );
     }
     sum

@@ -1,5 +1,5 @@
 -- One list decided, by hits alone: hits are board's, counted edge by edge; no table, weight or score occurs.
-use Rattle.std.specs.Prelude.{◌≡◌, refl, Bool, true, false, cond, ◌⊎◌, List, ℕ, ◌≤◌, length, Float}
+use Rattle.std.specs.Prelude.{◌≡◌, refl, Bool, true, false, cond, ◌⊎◌, List, ℕ, ◌≤◌, length, Float, Err, None, Ok, Some}
 use Rattle.std.proofs.Common.{sym, ◌∙◌, inl, inr}
 use Rattle.board.specs.Hits.{EdgeList, Board, size}
 use Rattle.board.specs.Sides.{period_of}
@@ -11,15 +11,13 @@ use Rattle.figures.specs.Figures.{no_confidence}
 use Rattle.scan.specs.Scan.{chosen}
 use Rattle.scan.specs.declared.scan.Candidate.{Candidate}
 use Rattle.scan.specs.declared.scan.RunnerUp.{RunnerUp}
-use Rattle.scan.specs.declared.scan.Choice.{Choice}
-use Rattle.scan.specs.declared.scan.Choice.TheVariants.{Nothing, Chosen}
+use Rattle.scan.specs.Kinds.{Choice}
 use Rattle.hard.specs.Placings.{NoneWithin, SomeWithin, Sole, MostOther, Right, not-far-ahead, found}
 use Rattle.hard.specs.OneList.{key_at, origin_number, outcome_of}
 use Rattle.hard.specs.Select.{scan_of, of_choice, selection}
 use Rattle.hard.specs.SelectLaws.{select-unique}
 use Rattle.hard.proofs.SelectTheorems.{hits_at_key, selection-is, one-list-by-hits}
-use Rattle.decide.specs.declared.Outcome.{Outcome}
-use Rattle.decide.specs.declared.Outcome.TheVariants.{Refused, Decided}
+use Rattle.decide.specs.Kinds.{Outcome}
 use Rattle.decide.specs.Decide.{when_passed, gated, DecideDone}
 
 module _ (B : Board) (E : EdgeList) (ts : List ℕ) (limit : Float) where
@@ -33,10 +31,10 @@ module _ (B : Board) (E : EdgeList) (ts : List ℕ) (limit : Float) where
   -- the right outcome: nothing within the limit exactly when no placing is; not far enough ahead exactly when some are and none is ahead of every other by more than its own
   -- misses; else that one placing, its hits, and the most hits of any other
   abbrev pub RightOutcome : Outcome → Type 0
-  RightOutcome (Refused r) =
+  RightOutcome (Err r) =
       ((r ≡ numbered why.none_within_limit) × NoneWithin (length ts) origins (size E) limit (hits_at_key B E ts))
       ⊎ ((r ≡ numbered why.not_far_ahead) × SomeWithin (length ts) origins (size E) limit (hits_at_key B E ts) × ((p k : ℕ) → Sole (length ts) origins (size E) limit (hits_at_key B E ts) p k → ⊥))
-  RightOutcome (Decided w runner-up) =
+  RightOutcome (Ok (w, runner-up)) =
       Sole (length ts) origins (size E) limit (hits_at_key B E ts) w.placing.listed (key_of w)
       × (w.hits ≡ hits_at_key B E ts w.placing.listed (key_of w))
       × MostOther (length ts) origins (size E) limit (hits_at_key B E ts) w.placing.listed (key_of w) runner-up.hits
@@ -47,8 +45,8 @@ module _ (B : Board) (E : EdgeList) (ts : List ℕ) (limit : Float) where
   by-gate false w runner-up r = inr (refl, r.0, r.1)
 
   by-choice : (x : Choice) → Right (length ts) origins (size E) limit (hits_at_key B E ts) (outcome_of (period_of B false) (size E) x) → RightOutcome (gated (size E) (of_choice x))
-  by-choice Nothing r = inl (refl, r)
-  by-choice (Chosen w runner-up) r = by-gate (passed (size E) w.hits runner-up.hits) w runner-up r
+  by-choice None r = inl (refl, r)
+  by-choice (Some (w, runner-up)) r = by-gate (passed (size E) w.hits runner-up.hits) w runner-up r
 
   -- ONE LIST, DECIDED: where there is some confidence, the outcome is the right one
   pub decided-by-hits : BoardOk B → ListOk E → length ts ≤ 8 → no_confidence E ≡ false → RightOutcome (gated (size E) (selection B E ts limit))

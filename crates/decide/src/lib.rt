@@ -2,68 +2,50 @@
 #![tactic(auto)]
 
 ghost use Rattle.std.specs.Prelude.{◌≡◌};
-ghost use Rattle.board.specs.Hits.{edges, tables};
+ghost use Rattle.board.specs.Hits.{edges};
 ghost use Rattle.hard.specs.Select.{SelectReady};
 ghost use Rattle.decide.specs.Decide.{gated, DecideDone};
+ghost use Rattle.board.specs.Given.{board_of, list_of};
 
+use board::list::List;
+use board::pattern::Tables;
 use hard::select::Selection;
-use refusals::{Place, Refusal};
+use refusals::Refusal;
 use scan::scan::{Candidate, RunnerUp};
 
 // What one list comes to: refused (no confidence, nothing within the limit, not far enough ahead), or the winner with its runner-up.
-#[derive(Clone, Copy)]
-pub enum Outcome {
-    Refused(Refusal),
-    Decided(Candidate, RunnerUp),
-}
+pub type Outcome = Result<(Candidate, RunnerUp), Refusal>;
 
 // A selection of a list of so many edges, asked by the gate.
 fn ask_gate(selection: Selection, edges: u32) -> Outcome
     ensures { result ≡ gated edges selection }
 {
     match selection {
-        Selection::Refused(why) => Outcome::Refused(why),
-        Selection::Selected(winner, runner_up) => {
+        Err(why) => Err(why),
+        Ok((winner, runner_up)) => {
             if figures::passes(edges, winner.hits, runner_up.hits) {
-                return Outcome::Decided(winner, runner_up);
+                return Ok((winner, runner_up));
             }
-            Outcome::Refused(Refusal {
+            Err(Refusal {
                 number: refusals::NOT_FAR_AHEAD,
-                place: Place::Nowhere,
+                place: None,
             })
         }
     }
 }
 
 // Selects on one list and asks the gate. The room is left as it was used.
-pub fn decide<'a>(
-    rows: &[i32],
-    cols: &[i32],
-    orientations: &[u8],
-    bits: &[u8],
-    confidences: &[f32],
+pub fn decide(
+    list: List,
     transforms: &[u8],
-    h: &'a [u8],
-    v: &'a [u8],
+    tables: Tables,
     error_limit: f32,
     counts: &mut [u32],
     weights: &mut [f32],
 ) -> Outcome
-    requires { SelectReady (tables h.now v.now) (edges rows.now cols.now orientations.now bits.now confidences.now) transforms.now counts.old weights.old }
-    ensures { DecideDone (tables h.now v.now) (edges rows.now cols.now orientations.now bits.now confidences.now) transforms.now error_limit counts.old counts.new weights.old weights.new result }
+    requires { SelectReady (board_of tables) (list_of list) transforms.now counts.old weights.old }
+    ensures { DecideDone (board_of tables.entry) (list_of list.entry) transforms.now error_limit counts.old counts.new weights.old weights.new result }
 {
-    let selection = hard::select::select(
-        rows,
-        cols,
-        orientations,
-        bits,
-        confidences,
-        transforms,
-        h,
-        v,
-        error_limit,
-        counts,
-        weights,
-    );
-    ask_gate(selection, rows.len() as u32)
+    let selection = hard::select::select(list, transforms, tables, error_limit, counts, weights);
+    ask_gate(selection, list.edges.rows.len() as u32)
 }

@@ -1,20 +1,18 @@
 -- Laws of exact decode: the two ways in which it ends, and that the promise determines the result.
-use Rattle.std.specs.Prelude.{◌≡◌, List, ℕ, length}
+use Rattle.std.specs.Prelude.{◌≡◌, List, ℕ, length, Err}
 use Rattle.std.proofs.Math.Path.{sym, ap}
 use Rattle.std.proofs.Common.{◌∙◌}
 use Rattle.laws.specs.Words.{cleared}
 use Rattle.laws.specs.Cleared.{cleared-forgets}
 use Rattle.room.specs.Room.{tables_room}
 use Rattle.refusals.specs.declared.Refusal.{Refusal}
-use Rattle.refusals.specs.declared.Admission.{Admission}
-use Rattle.refusals.specs.declared.Admission.TheVariants as admission
+use Rattle.refusals.specs.Admission.{Admission, accepted}
 use Rattle.admission.specs.Calls.{HardCall}
 use Rattle.admission.specs.Refusals.{hard_admission}
 use Rattle.admission.specs.Accepted.{HardAccepted}
 use Rattle.verdict.specs.Verdict.{when_accepted}
 use Rattle.demand.specs.Left.{left}
-use Rattle.exact_answer.specs.declared.ExactAnswer.{ExactAnswer}
-use Rattle.exact_answer.specs.declared.ExactAnswer.TheVariants.{Refused}
+use Rattle.exact_answer.specs.Answers.{ExactAnswer}
 use Rattle.exact_core.specs.ExactCore.{exact_core, ExactCoreDone}
 use Rattle.decode_exact.specs.ExactAnswer.{exact_answer, ExactCallDone}
 
@@ -35,23 +33,23 @@ core-accepted call m n A = record {
 -- ---- the two ways in which exact decode ends
 module _ (call : HardCall) (c u : List ℕ) where
   module _ (a : Admission) (e : a ≡ hard_admission call (length c) (length u)) where
-    pub exact-refused : (x : Refusal) → a ≡ admission.Refused x → ExactCallDone call c c u u (Refused x)
+    pub exact-refused : (x : Refusal) → a ≡ Err x → ExactCallDone call c c u u (Err x)
     unfolding exact_answer left
     exact-refused x n =
         let f = sym n ∙ e in
         record {
-          answer = ap (λ (y : Admission). when_accepted Refused y (exact_core call)) f;
+          answer = ap (λ (y : Admission). when_accepted Err y (exact_core call)) f;
           counts = ap (λ (y : Admission). left 0 (tables_room call.board) y c) f;
           units = ap (λ (y : Admission). left 0 (tables_room call.board) y u) f;
         }
 
-    pub exact-done : (c' u' u'' : List ℕ) (r : ExactAnswer) → a ≡ admission.Accepted → HardAccepted call (length c) (length u) → ExactCoreDone call u u' r
+    pub exact-done : (c' u' u'' : List ℕ) (r : ExactAnswer) → a ≡ accepted → HardAccepted call (length c) (length u) → ExactCoreDone call u u' r
         → c' ≡ cleared 0 (tables_room call.board) c → u'' ≡ cleared 0 (tables_room call.board) u' → ExactCallDone call c c' u u'' r
     unfolding exact_answer left
     exact-done c' u' u'' r z A D k l =
         let f = sym z ∙ e in
         record {
-          answer = D.answer ∙ ap (λ (y : Admission). when_accepted Refused y (exact_core call)) f;
+          answer = D.answer ∙ ap (λ (y : Admission). when_accepted Err y (exact_core call)) f;
           counts = k ∙ ap (λ (y : Admission). left 0 (tables_room call.board) y c) f;
           units = l ∙ cleared-forgets 0 (tables_room call.board) 0 u u' A.room.1 D.units ∙ ap (λ (y : Admission). left 0 (tables_room call.board) y u) f;
         }

@@ -1,6 +1,6 @@
 -- What customers are promised of a decoded view, in terms of board's hits. Only `Wins` speaks of more: of a list's selection, which goes by
 -- tables and weights. Quotes are of the demands (docs/CONTRACTS.md).
-use Rattle.std.specs.Prelude.{◌≡◌, false, List, ℕ, ◌+◌, ◌*◌, ◌-◌, ◌≤◌, ◌<◌, get_or, length, Float}
+use Rattle.std.specs.Prelude.{◌≡◌, false, List, ℕ, ◌+◌, ◌*◌, ◌-◌, ◌≤◌, ◌<◌, get_or, length, Float, Ok}
 use Rattle.laws.specs.Words.{one_f}
 use Rattle.board.specs.declared.edge.Placing.{Placing}
 use Rattle.board.specs.Hits.{EdgeList, Board, size, hits_at}
@@ -8,7 +8,6 @@ use Rattle.scan.specs.Scan.{over_limit}
 use Rattle.hard.specs.Select.{selection}
 use Rattle.scan.specs.declared.scan.Candidate.{Candidate}
 use Rattle.scan.specs.declared.scan.RunnerUp.{RunnerUp}
-use Rattle.hard.specs.declared.select.Selection.TheVariants.{Selected}
 use Rattle.answer.specs.declared.Square.{Square}
 
 -- "A placing is one place in the transform list with one of the 251,001 origins": three rows to a horizontal pattern, three columns to a vertical one
@@ -55,7 +54,7 @@ Names ts P s = (get_or ts P.listed 0 ≡ s.transform) × (P.row ≡ s.row) × (P
 pub record Wins (B : Board) (E : EdgeList) (ts : List ℕ) (limit : Float) (P : Placing) : Type 0 where
   pub winner : Candidate
   pub runner : RunnerUp
-  pub chosen : selection B E ts limit ≡ Selected winner runner
+  pub chosen : selection B E ts limit ≡ Ok (winner, runner)
   pub transform : get_or ts winner.placing.listed 0 ≡ get_or ts P.listed 0
   pub row : winner.placing.row ≡ P.row
   pub col : winner.placing.col ≡ P.col

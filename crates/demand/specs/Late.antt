@@ -1,9 +1,8 @@
 -- Words of the late refusals, for both decoders.
-use Rattle.std.specs.Prelude.{◌≡◌, List, ℕ, get_or}
+use Rattle.std.specs.Prelude.{◌≡◌, List, ℕ, get_or, Ok}
 use Rattle.board.specs.declared.edge.Placing.{Placing}
 use Rattle.admission.specs.Calls.{HardCall}
 use Rattle.hard.specs.Select.{selection}
-use Rattle.hard.specs.declared.select.Selection.TheVariants.{Selected}
 use Rattle.scan.specs.declared.scan.Candidate.{Candidate}
 use Rattle.scan.specs.declared.scan.RunnerUp.{RunnerUp}
 
@@ -15,7 +14,7 @@ Exactly this that = (this → that) × (that → this)
 pub record LogicalKept (call : HardCall) : Type 0 where
   pub winner : Candidate
   pub runner-up : RunnerUp
-  pub chosen : selection call.board call.logical call.transforms call.error_limit ≡ Selected winner runner-up
+  pub chosen : selection call.board call.logical call.transforms call.error_limit ≡ Ok (winner, runner-up)
 
 -- two placings have the same transform and origin
 abbrev pub SameSquare : List ℕ → Placing → Placing → Type 0

@@ -1,5 +1,5 @@
 -- What a selection on one list comes to, in words of placings: no confidence, no placing within the limit, or a winner. Hits are board's, edge by edge.
-use Rattle.std.specs.Prelude.{◌≡◌, Bool, true, false, cond, List, ◌⊎◌, ℕ, ◌≤◌, length, Float}
+use Rattle.std.specs.Prelude.{◌≡◌, Bool, true, false, cond, List, ◌⊎◌, ℕ, ◌≤◌, length, Float, Err, None, Ok, Some}
 use Rattle.std.proofs.Math.Path.{refl}
 use Rattle.std.proofs.Common.{sym, ap, subst, ◌∙◌, inl, inr, le_trans, le_of_eq, arith}
 use Rattle.laws.specs.Tests.{clash}
@@ -10,15 +10,13 @@ use Rattle.board.specs.Domain.{ListOk, BoardOk}
 use Rattle.scan.specs.Scan.{over_limit, chosen}
 use Rattle.scan.specs.declared.scan.Candidate.{Candidate}
 use Rattle.scan.specs.declared.scan.RunnerUp.{RunnerUp}
-use Rattle.scan.specs.declared.scan.Choice.{Choice}
-use Rattle.scan.specs.declared.scan.Choice.TheVariants.{Nothing, Chosen}
+use Rattle.scan.specs.Kinds.{Choice}
 use Rattle.figures.specs.Figures.{no_confidence}
 use Rattle.figures.specs.Gate.{passed}
 use Rattle.refusals.specs.declared.Refusal.{Refusal}
 use Rattle.refusals.specs.Numbers.{numbered}
 use Rattle.refusals.specs.Numbers as why
-use Rattle.hard.specs.declared.select.Selection.{Selection}
-use Rattle.hard.specs.declared.select.Selection.TheVariants.{Refused, Selected}
+use Rattle.hard.specs.Kinds.{Selection}
 use Rattle.hard.specs.Placings.{found, not-far-ahead, NoneWithin, SomeWithin, Right}
 use Rattle.hard.specs.OneList.{key_at, origin_number, outcome_of}
 use Rattle.hard.specs.Select.{of_choice, or_refused, scan_of, selection}
@@ -62,8 +60,8 @@ module _ (B : Board) (E : EdgeList) (ts : List ℕ) (limit : Float) where
 
     -- the three ways in which a selection ends
     abbrev pub Ended : Selection → Type 0
-    Ended (Refused r) = ((r ≡ numbered why.no_confidence) × (no_confidence E ≡ true)) ⊎ ((r ≡ numbered why.none_within_limit) × (no_confidence E ≡ false) × NoneWithinLimit)
-    Ended (Selected w r) = (no_confidence E ≡ false) × SomeWithinLimit × ((passed (size E) w.hits r.hits ≡ true) ⊎ NoneLeads)
+    Ended (Err r) = ((r ≡ numbered why.no_confidence) × (no_confidence E ≡ true)) ⊎ ((r ≡ numbered why.none_within_limit) × (no_confidence E ≡ false) × NoneWithinLimit)
+    Ended (Ok (w, r)) = (no_confidence E ≡ false) × SomeWithinLimit × ((passed (size E) w.hits r.hits ≡ true) ⊎ NoneLeads)
 
     by-gate : (b : Bool) (w : Candidate) (r : RunnerUp) → passed (size E) w.hits r.hits ≡ b
         → Right (length ts) origins (size E) limit (hits_at_key B E ts) (cond b (found w.placing.listed (key_at (period_of B false) w.placing.row w.placing.col) w.hits r.hits) not-far-ahead)
@@ -72,8 +70,8 @@ module _ (B : Board) (E : EdgeList) (ts : List ℕ) (limit : Float) where
     by-gate false w r g R = (some-placing R.0, inr (λ Q l. R.1 Q.listed (key_of B board Q) (leads-sole B board ts E limit Q l)))
 
     by-choice : (x : Choice) → no_confidence E ≡ false → Right (length ts) origins (size E) limit (hits_at_key B E ts) (outcome_of (period_of B false) (size E) x) → Ended (of_choice x)
-    by-choice Nothing k R = inr (refl, k, by-placings R)
-    by-choice (Chosen w r) k R = let g = by-gate (passed (size E) w.hits r.hits) w r refl R in (k, g.0, g.1)
+    by-choice None k R = inr (refl, k, by-placings R)
+    by-choice (Some (w, r)) k R = let g = by-gate (passed (size E) w.hits r.hits) w r refl R in (k, g.0, g.1)
 
     by-confidence : (b : Bool) → no_confidence E ≡ b → Ended (or_refused b (chosen (scan_of B E ts limit (length ts))))
     by-confidence true k = inl (refl, k)
@@ -85,45 +83,45 @@ module _ (B : Board) (E : EdgeList) (ts : List ℕ) (limit : Float) where
     ended = by-confidence (no_confidence E) refl
 
     -- ---- each end, exactly when
-    pub refused_none : selection B E ts limit ≡ Refused (numbered why.no_confidence) → no_confidence E ≡ true
+    pub refused_none : selection B E ts limit ≡ Err (numbered why.no_confidence) → no_confidence E ≡ true
     refused_none e = go (subst Ended e ended)
       where
-        go : Ended (Refused (numbered why.no_confidence)) → no_confidence E ≡ true
+        go : Ended (Err (numbered why.no_confidence)) → no_confidence E ≡ true
         go (inl h) = h.1
         go (inr h) = let z : why.no_confidence ≡ why.none_within_limit = ap (λ (x : Refusal). x.number) h.0 in absurd (omega (arith, z))
 
-    pub none-refused : no_confidence E ≡ true → selection B E ts limit ≡ Refused (numbered why.no_confidence)
+    pub none-refused : no_confidence E ≡ true → selection B E ts limit ≡ Err (numbered why.no_confidence)
     unfolding selection
     none-refused h = rw h
 
-    pub refused-within : selection B E ts limit ≡ Refused (numbered why.none_within_limit) → (no_confidence E ≡ false) × NoneWithinLimit
+    pub refused-within : selection B E ts limit ≡ Err (numbered why.none_within_limit) → (no_confidence E ≡ false) × NoneWithinLimit
     refused-within e = go (subst Ended e ended)
       where
-        go : Ended (Refused (numbered why.none_within_limit)) → (no_confidence E ≡ false) × NoneWithinLimit
+        go : Ended (Err (numbered why.none_within_limit)) → (no_confidence E ≡ false) × NoneWithinLimit
         go (inl h) = let z : why.none_within_limit ≡ why.no_confidence = ap (λ (x : Refusal). x.number) h.0 in absurd (omega (arith, z))
         go (inr h) = (h.1, h.2)
 
-    pub within-refused : no_confidence E ≡ false → NoneWithinLimit → selection B E ts limit ≡ Refused (numbered why.none_within_limit)
+    pub within-refused : no_confidence E ≡ false → NoneWithinLimit → selection B E ts limit ≡ Err (numbered why.none_within_limit)
     within-refused k n = go (selection B E ts limit) refl ended
       where
-        go : (x : Selection) → selection B E ts limit ≡ x → Ended x → selection B E ts limit ≡ Refused (numbered why.none_within_limit)
-        go (Refused r) e (inl h) = clash h.1 k
-        go (Refused r) e (inr h) = e ∙ ap Refused h.0
-        go (Selected w r) e h = absurd (not-both n h.1)
+        go : (x : Selection) → selection B E ts limit ≡ x → Ended x → selection B E ts limit ≡ Err (numbered why.none_within_limit)
+        go (Err r) e (inl h) = clash h.1 k
+        go (Err r) e (inr h) = e ∙ ap Err h.0
+        go (Ok (w, r)) e h = absurd (not-both n h.1)
 
     -- a winner exactly where there is some confidence and some placing is within the limit
     pub record Winner : Type 0 where
       pub winner : Candidate
       pub runner-up : RunnerUp
-      pub selected : selection B E ts limit ≡ Selected winner runner-up
+      pub selected : selection B E ts limit ≡ Ok (winner, runner-up)
 
     pub some-winner : no_confidence E ≡ false → SomeWithinLimit → Winner
     some-winner k s = go (selection B E ts limit) refl ended
       where
         go : (x : Selection) → selection B E ts limit ≡ x → Ended x → Winner
-        go (Refused r) e (inl h) = clash h.1 k
-        go (Refused r) e (inr h) = absurd (not-both h.2 s)
-        go (Selected w r) e h = record { winner = w; runner-up = r; selected = e }
+        go (Err r) e (inl h) = clash h.1 k
+        go (Err r) e (inr h) = absurd (not-both h.2 s)
+        go (Ok (w, r)) e h = record { winner = w; runner-up = r; selected = e }
 
     pub winner-some : (W : Winner) → (no_confidence E ≡ false) × SomeWithinLimit × ((passed (size E) W.winner.hits W.runner-up.hits ≡ true) ⊎ NoneLeads)
     winner-some W = subst Ended W.selected ended

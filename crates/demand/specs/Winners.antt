@@ -1,6 +1,6 @@
 -- The winner of hard selection on one list: a runner-up always exists; and where it passes the gate, it leads, its hits are board's, and its runner-up is another
 -- placing with hits no third exceeds.
-use Rattle.std.specs.Prelude.{◌≡◌, true, false, List, ℕ, ◌≤◌, ◌<◌, get_or, length, Float}
+use Rattle.std.specs.Prelude.{◌≡◌, true, false, List, ℕ, ◌≤◌, ◌<◌, get_or, length, Float, Ok}
 use Rattle.std.proofs.Common.{sym, ◌∙◌}
 use Rattle.board.specs.declared.edge.Placing.{Placing}
 use Rattle.board.specs.Hits.{EdgeList, Board, size, hits_at}
@@ -14,7 +14,6 @@ use Rattle.hard.specs.Select.{tables_of, selection}
 use Rattle.hard.proofs.SelectTheorems.{hits_at_key, selected-in-range, selected-most-other, selected-right, selected-runner-up}
 use Rattle.scan.specs.declared.scan.Candidate.{Candidate}
 use Rattle.scan.specs.declared.scan.RunnerUp.{RunnerUp}
-use Rattle.hard.specs.declared.select.Selection.TheVariants.{Selected}
 use Rattle.demand.specs.Demand.{OnBoard, Leads, RunsUp, RunnerUpExists}
 use Rattle.demand.specs.DemandLaws.{same_key, hits-key, sole-leads, most-runs-up, most-exists}
 
@@ -22,7 +21,7 @@ use Rattle.demand.specs.DemandLaws.{same_key, hits-key, sole-leads, most-runs-up
 abbrev pub runner_at : ℕ → RunnerUp → Placing
 runner_at p r = record { listed = p; row = r.row; col = r.col }
 
-module _ (B : Board) (E : EdgeList) (ts : List ℕ) (limit : Float) (board : BoardOk B) (list : ListOk E) (few : length ts ≤ 8) (x : Candidate) (r : RunnerUp) (e : selection B E ts limit ≡ Selected x r) where
+module _ (B : Board) (E : EdgeList) (ts : List ℕ) (limit : Float) (board : BoardOk B) (list : ListOk E) (few : length ts ≤ 8) (x : Candidate) (r : RunnerUp) (e : selection B E ts limit ≡ Ok (x, r)) where
   in-range : InRange (period_of B true) (period_of B false) (size E) (total_confidence E) limit (λ p. get_or ts p 0) (λ p. tables_of B E (get_or ts p 0)) (length ts) x r
   in-range = selected-in-range B E ts limit board list few x r e
 

@@ -1,8 +1,9 @@
 -- C-15, one list, in terms of placings: what is selected is the winner, with its hits and its weight (`exact-winner`); there is one (`winner-exists`) and only one (`winner-once`); 10 and 11 mean what
 -- they say (`exact-10`, `exact-11`, `exact-selects`); and another placing has the runner-up's hits, and no third more (`exact-runner-up`).
+use Rattle.exact_scan.specs.Kinds.{ExactSelection}
 use Rattle.std.proofs.Math.Path.{◌≡◌, refl, sym, ap}
 use Rattle.std.proofs.Common.{ap₂, subst, ◌∙◌, ⊎_elim, mul-le-mul_right, arith}
-use Rattle.std.specs.Prelude.{Bool, List, ℕ, suc, ◌+◌, ◌*◌, ◌^◌, ◌≤◌, ◌<◌, length, Float}
+use Rattle.std.specs.Prelude.{Bool, List, ℕ, suc, ◌+◌, ◌*◌, ◌^◌, ◌≤◌, ◌<◌, length, Float, Err, Ok}
 use Rattle.std.proofs.Math.Bool.{true, false, cond}
 use Rattle.std.proofs.Math.ListN.{get_or}
 use borrow.Author.Tests.{eqb-true}
@@ -17,6 +18,7 @@ use Rattle.board.proofs.HitsLaws.{hits-le}
 use Rattle.board.specs.Sides.{period_of}
 use Rattle.board.specs.Domain.{ListOk, BoardOk}
 use Rattle.grid.specs.BoardGrid.{period-h, period-v}
+use Rattle.scan.specs.Pairs.{ok-first, ok-second}
 use Rattle.scan.specs.Scan.{over_limit, runner_up_of}
 use Rattle.scan.specs.declared.scan.RunnerUp.{RunnerUp}
 use Rattle.hard.specs.OneList.{origin_number}
@@ -32,7 +34,6 @@ use Rattle.exact_scan.specs.Exact.{ValuesOk, finished_one}
 use Rattle.exact_scan.specs.FirstLaws.{value_by, hits_by, First, runner-up-other, runner-up-place, runner-up-own}
 use Rattle.exact_scan.specs.declared.kept.ExactScan.{ExactScan}
 use Rattle.exact_scan.specs.declared.kept.ExactWinner.{ExactWinner}
-use Rattle.exact_scan.specs.declared.kept.ExactSelection.TheVariants.{Refused, Selected}
 use Rattle.demand.specs.Demand.{OnBoard, Same, WithinLimit, RunsUp, RunnerUpExists}
 use Rattle.demand.specs.DemandLaws.{key_of, key_below, row_back, col-back, same_key, hits-key, placing-on, most-runs-up, most-exists}
 use Rattle.demand.specs.Winners.{runner_at}
@@ -139,50 +140,50 @@ module _ (B : Board) (E : EdgeList) (ts : List ℕ) (board : BoardOk B) (list : 
     abbrev W : ExactWinner
     W = let c = kept B E ts board list some in record { hits = hits_of c.value; weight = weight_of c.value; placing = c.placing }
 
-    comes-to : exact_selection B E ts limit ≡ cond (no_units E) (Refused (numbered why.no_confidence)) (cond over (Refused (numbered why.none_within_limit)) (Selected W (runner_up_of scan.positions.summaries P.listed scan.positions.count)))
+    comes-to : exact_selection B E ts limit ≡ cond (no_units E) (Err (numbered why.no_confidence)) (cond over (Err (numbered why.none_within_limit)) (Ok (W, (runner_up_of scan.positions.summaries P.listed scan.positions.count))))
     unfolding finished_one
     comes-to = selection-is B E ts board list some limit
 
     -- 10 exactly when the unit sum is 0
-    pub exact-10 : (exact_selection B E ts limit ≡ Refused (numbered why.no_confidence) → units_to E.confidences (length E.confidences) ≡ 0) × (units_to E.confidences (length E.confidences) ≡ 0 → exact_selection B E ts limit ≡ Refused (numbered why.no_confidence))
+    pub exact-10 : (exact_selection B E ts limit ≡ Err (numbered why.no_confidence) → units_to E.confidences (length E.confidences) ≡ 0) × (units_to E.confidences (length E.confidences) ≡ 0 → exact_selection B E ts limit ≡ Err (numbered why.no_confidence))
     unfolding no_units
     exact-10 = (λ e. eqb-true (units_to E.confidences (length E.confidences)) 0 (go (no_units E) over refl (sym comes-to ∙ e)), λ h. comes-to ∙ rw h)
       where
-        go : (b o : Bool) → no_units E ≡ b → cond b (Refused (numbered why.no_confidence)) (cond o (Refused (numbered why.none_within_limit)) (Selected (W) (runner_up_of scan.positions.summaries P.listed scan.positions.count))) ≡ Refused (numbered why.no_confidence) → no_units E ≡ true
+        go : (b o : Bool) → no_units E ≡ b → cond {A = ExactSelection} b (Err (numbered why.no_confidence)) (cond o (Err (numbered why.none_within_limit)) (Ok (W, (runner_up_of scan.positions.summaries P.listed scan.positions.count)))) ≡ Err (numbered why.no_confidence) → no_units E ≡ true
         go true o q e = q
         go false true q e = let z : numbered why.none_within_limit ≡ numbered why.no_confidence = cc in let n : why.none_within_limit ≡ why.no_confidence = ap (λ (r : Refusal). r.number) z in absurd (omega arith)
         go false false q e = let z : ◌≡◌ {A = ℕ} 0 1 = cc in absurd (omega arith)
 
     -- 11 exactly when there are units and no placing is within the limit
     pub exact-11 : no_units E ≡ false
-        → (exact_selection B E ts limit ≡ Refused (numbered why.none_within_limit) → (Q : Placing) → OnBoard B ts Q → over_limit (size E) limit (hits_at B E ts Q) ≡ true)
-        × (((Q : Placing) → OnBoard B ts Q → over_limit (size E) limit (hits_at B E ts Q) ≡ true) → exact_selection B E ts limit ≡ Refused (numbered why.none_within_limit))
+        → (exact_selection B E ts limit ≡ Err (numbered why.none_within_limit) → (Q : Placing) → OnBoard B ts Q → over_limit (size E) limit (hits_at B E ts Q) ≡ true)
+        × (((Q : Placing) → OnBoard B ts Q → over_limit (size E) limit (hits_at B E ts Q) ≡ true) → exact_selection B E ts limit ≡ Err (numbered why.none_within_limit))
     exact-11 u = (
       λ e Q o. fewer-over (size E) limit (hits_at B E ts Q) (hits_at B E ts P) list.few (winner-exists.most_hits Q o) (hits-le B E (get_or ts P.listed 0) P.row P.col) (ap (over_limit (size E) limit) (sym kept-hits-at) ∙ go over refl (rw u at (sym comes-to ∙ e))),
       λ all. comes-to ∙ rw (u, kept-hits-at, all P kept_on),
     )
       where
-        go : (o : Bool) → over ≡ o → cond o (Refused (numbered why.none_within_limit)) (Selected (W) (runner_up_of scan.positions.summaries P.listed scan.positions.count)) ≡ Refused (numbered why.none_within_limit) → over ≡ true
+        go : (o : Bool) → over ≡ o → cond {A = ExactSelection} o (Err (numbered why.none_within_limit)) (Ok (W, (runner_up_of scan.positions.summaries P.listed scan.positions.count))) ≡ Err (numbered why.none_within_limit) → over ≡ true
         go true q e = q
         go false q e = let z : ◌≡◌ {A = ℕ} 0 1 = cc in absurd (omega arith)
 
     -- and where a placing is within the limit, one is selected
-    pub exact-selects : no_units E ≡ false → (Q : Placing) → WithinLimit B E ts limit Q → (w : ExactWinner) × (r : RunnerUp) × (exact_selection B E ts limit ≡ Selected w r)
+    pub exact-selects : no_units E ≡ false → (Q : Placing) → WithinLimit B E ts limit Q → (w : ExactWinner) × (r : RunnerUp) × (exact_selection B E ts limit ≡ Ok (w, r))
     exact-selects u Q q = (W, runner_up_of scan.positions.summaries P.listed scan.positions.count, comes-to ∙ rw (u, within))
       where
         within : over ≡ false
         within = ap (over_limit (size E) limit) kept-hits-at ∙ more_within (size E) limit (hits_at B E ts Q) (hits_at B E ts P) list.few (winner-exists.most_hits Q q.0) (hits-le B E (get_or ts P.listed 0) P.row P.col) q.1
 
     -- what is selected, off the scan
-    module _ (w : ExactWinner) (r : RunnerUp) (e : exact_selection B E ts limit ≡ Selected w r) where
+    module _ (w : ExactWinner) (r : RunnerUp) (e : exact_selection B E ts limit ≡ Ok (w, r)) where
       told : (no_units E ≡ false) × (over ≡ false) × (W ≡ w) × (runner_up_of scan.positions.summaries P.listed scan.positions.count ≡ r)
       told = go (no_units E) over refl refl (sym comes-to ∙ e)
         where
-          go : (b o : Bool) → no_units E ≡ b → over ≡ o → cond b (Refused (numbered why.no_confidence)) (cond o (Refused (numbered why.none_within_limit)) (Selected (W) (runner_up_of scan.positions.summaries P.listed scan.positions.count))) ≡ Selected w r
+          go : (b o : Bool) → no_units E ≡ b → over ≡ o → cond {A = ExactSelection} b (Err (numbered why.no_confidence)) (cond o (Err (numbered why.none_within_limit)) (Ok (W, (runner_up_of scan.positions.summaries P.listed scan.positions.count)))) ≡ Ok (w, r)
               → (no_units E ≡ false) × (over ≡ false) × (W ≡ w) × (runner_up_of scan.positions.summaries P.listed scan.positions.count ≡ r)
           go true o q s d = let z : ◌≡◌ {A = ℕ} 0 1 = cc in absurd (omega arith)
           go false true q s d = let z : ◌≡◌ {A = ℕ} 0 1 = cc in absurd (omega arith)
-          go false false q s d = (q, s, cc, cc)
+          go false false q s d = (q, s, ok-first d, ok-second d)
 
       -- THE SELECTED PLACING IS THE WINNER, with its hits and its weight, and is within the limit
       pub exact-winner : IsWinner B E ts w.placing × (w.hits ≡ hits_at B E ts w.placing) × (w.weight ≡ weight_at B E ts w.placing) × (over_limit (size E) limit (hits_at B E ts w.placing) ≡ false)

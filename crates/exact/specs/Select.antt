@@ -1,5 +1,5 @@
 -- C-15, one list: its values built for each transform in the list's order, and what the exact selection comes to.
-use Rattle.std.specs.Prelude.{◌≡◌, Bool, true, false, cond, List, ℕ, zero, suc, ◌+◌, ◌≤◌, ◌<◌, eqb, get_or, length, Float}
+use Rattle.std.specs.Prelude.{◌≡◌, Bool, true, false, cond, List, ℕ, zero, suc, ◌+◌, ◌≤◌, ◌<◌, eqb, get_or, length, Float, Err}
 use Rattle.std.specs.Float.{nan}
 use Rattle.laws.specs.Words.{fold, all, Weight}
 use Rattle.refusals.specs.Numbers.{numbered}
@@ -12,8 +12,7 @@ use Rattle.unit_terms.specs.Values.{unit_of}
 use Rattle.units.specs.Units.{values_of, UnitsBuilt}
 use Rattle.exact_scan.specs.Exact.{ValueTables, value_tables, exact_scanned, finished}
 use Rattle.exact_scan.specs.declared.kept.ExactScan.{ExactScan}
-use Rattle.exact_scan.specs.declared.kept.ExactSelection.{ExactSelection}
-use Rattle.exact_scan.specs.declared.kept.ExactSelection.TheVariants.{Refused}
+use Rattle.exact_scan.specs.Kinds.{ExactSelection}
 
 -- the units of the first n confidences, added up
 unfoldable pub units_to : List Float → ℕ → ℕ
@@ -42,7 +41,7 @@ exact_scan_of B E ts n = exact_scanned (period_of B true) (period_of B false) (�
 
 -- the selection on one list: refused without confidence, then where the kept placing is over the limit, else the winner with its runner-up
 unfoldable pub exact_selection : Board → EdgeList → List ℕ → Float → ExactSelection
-exact_selection B E ts limit = cond (no_units E) (Refused (numbered why.no_confidence)) (finished (size E) limit (exact_scan_of B E ts (length ts)))
+exact_selection B E ts limit = cond (no_units E) (Err (numbered why.no_confidence)) (finished (size E) limit (exact_scan_of B E ts (length ts)))
 
 -- ---- what an exact selection asks, and what it leaves in the room
 pub record ExactSelectReady (B : Board) (E : EdgeList) (ts : List ℕ) (a : List ℕ) : Type 0 where

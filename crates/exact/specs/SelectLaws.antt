@@ -1,5 +1,5 @@
 -- Laws of the exact selection on one list: its values are as the fold asks, the room after each transform, and the scan one transform further.
-use Rattle.std.specs.Prelude.{◌≡◌, Bool, Float}
+use Rattle.std.specs.Prelude.{◌≡◌, Bool, Float, Err, Some}
 use Rattle.std.proofs.Math.Path.{refl, sym, ap, ap₂, subst}
 use Rattle.std.proofs.Common.{◌∙◌, le_refl}
 use Rattle.std.proofs.Math.Bool.{true, false, cond}
@@ -34,11 +34,9 @@ use Rattle.values.specs.Values.{hits_of, weight_of, v_at, n_at}
 use Rattle.exact_scan.specs.Exact.{ValueTables, value_tables, ValuesOk, empty_exact, fold_exact, exact_scanned, finished_one, finished_by, finished, SoundKept, SoundExact}
 use Rattle.exact_scan.specs.FirstLaws.{exact-count, First, KeptFirst, kept-first, value-hits, hits_by, value_by, key_of}
 use Rattle.exact_scan.specs.declared.kept.ExactCandidate.{ExactCandidate}
-use Rattle.exact_scan.specs.declared.kept.ExactKept.{ExactKept}
-use Rattle.exact_scan.specs.declared.kept.ExactKept.TheVariants.{One}
+use Rattle.exact_scan.specs.Kinds.{ExactKept}
 use Rattle.exact_scan.specs.declared.kept.ExactScan.{ExactScan}
-use Rattle.exact_scan.specs.declared.kept.ExactSelection.{ExactSelection}
-use Rattle.exact_scan.specs.declared.kept.ExactSelection.TheVariants.{Refused}
+use Rattle.exact_scan.specs.Kinds.{ExactSelection}
 use Rattle.exact.specs.Select.{units_to, no_units, UnitsToReady, value_tables_of, built_at, exact_scan_of, exact_selection, ExactSelectReady, ValueRoom, values_to, ExactDone}
 
 -- ---- the unit sum
@@ -224,7 +222,7 @@ module _ (B : Board) (E : EdgeList) (ts : List ℕ) (board : BoardOk B) (list : 
   abbrev pub kept : ExactCandidate
   kept = one_kept.one
 
-  pub kept-is : (exact_scan_of B E ts (length ts)).best ≡ One kept
+  pub kept-is : (exact_scan_of B E ts (length ts)).best ≡ Some kept
   unfolding exact_scan_of
   kept-is = one_kept.kept
 
@@ -244,14 +242,14 @@ module _ (B : Board) (E : EdgeList) (ts : List ℕ) (board : BoardOk B) (list : 
   kept-count = exact-count (period_of B true) (period_of B false) (λ p. get_or ts p 0) tab (length ts)
 
   -- what the selection comes to, by what is kept
-  pub selection-is : (limit : Float) → exact_selection B E ts limit ≡ cond (no_units E) (Refused (numbered why.no_confidence)) (finished_one (size E) limit (exact_scan_of B E ts (length ts)).positions kept)
+  pub selection-is : (limit : Float) → exact_selection B E ts limit ≡ cond (no_units E) (Err (numbered why.no_confidence)) (finished_one (size E) limit (exact_scan_of B E ts (length ts)).positions kept)
   unfolding exact_selection finished
-  selection-is limit = ap (λ (k : ExactKept). cond (no_units E) (Refused (numbered why.no_confidence)) (finished_by (size E) limit (exact_scan_of B E ts (length ts)).positions k)) kept-is
+  selection-is limit = ap (λ (k : ExactKept). cond (no_units E) (Err (numbered why.no_confidence)) (finished_by (size E) limit (exact_scan_of B E ts (length ts)).positions k)) kept-is
 
 -- ---- the two ends of a selection
 module _ (B : Board) (E : EdgeList) (ts : List ℕ) (limit : Float) (a : List ℕ) where
   -- no confidence: refused, and the room is as it was
-  pub exact-refused : units_to E.confidences (length E.confidences) ≡ 0 → ExactDone B E ts limit a a (Refused (numbered why.no_confidence))
+  pub exact-refused : units_to E.confidences (length E.confidences) ≡ 0 → ExactDone B E ts limit a a (Err (numbered why.no_confidence))
   unfolding exact_selection no_units values_to ValueRoom
   exact-refused h = record { answer = rw h; room = rw h refl }
 

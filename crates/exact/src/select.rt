@@ -1,15 +1,17 @@
 // The exact selection on one list: the values of each transform in turn, folded into the scan, and what it comes to.
 ghost use Rattle.std.specs.Prelude.{◌≡◌, ◌<◌, length};
-ghost use Rattle.board.specs.Hits.{edges, tables};
 ghost use Rattle.exact_scan.specs.Exact.{fold_exact};
 ghost use Rattle.exact.specs.Select.{UnitsToReady, units_to, ExactSelectReady, ExactDone};
 ghost use Rattle.exact.specs.SelectLaws.{room_values, ValueRoomReady, ExactScanDone};
+ghost use Rattle.board.specs.Given.{board_of, list_of};
 
+use board::list::List;
+use board::pattern::Tables;
 use exact_scan::finish::finish_exact;
 use exact_scan::fold::{empty_exact, fold_values};
 use exact_scan::kept::{ExactScan, ExactSelection};
 use laws::Periods;
-use refusals::{Place, Refusal};
+use refusals::Refusal;
 use unit_terms::value_of;
 use values::table::weight_of;
 
@@ -43,28 +45,18 @@ fn fold_value_room<'a>(
 }
 
 // The exact scan of a list over all its transforms, in order: the values are built anew for each.
-fn scan_values<'a>(
-    rows: &[i32],
-    cols: &[i32],
-    orientations: &[u8],
-    bits: &[u8],
-    confidences: &[f32],
-    transforms: &[u8],
-    h: &'a [u8],
-    v: &'a [u8],
-    units: &mut [u64],
-) -> ExactScan
-    requires { ExactSelectReady (tables h.now v.now) (edges rows.now cols.now orientations.now bits.now confidences.now) transforms.now units.old }
-    ensures { ExactScanDone (tables h.now v.now) (edges rows.now cols.now orientations.now bits.now confidences.now) transforms.now (length transforms.now) units.old units.new result }
+fn scan_values(list: List, transforms: &[u8], tables: Tables, units: &mut [u64]) -> ExactScan
+    requires { ExactSelectReady (board_of tables) (list_of list) transforms.now units.old }
+    ensures { ExactScanDone (board_of tables.entry) (list_of list.entry) transforms.now (length transforms.now) units.old units.new result }
 {
     let periods = Periods {
-        h: h.len(),
-        v: v.len(),
+        h: tables.h.len(),
+        v: tables.v.len(),
     };
     let mut scan = empty_exact();
     for i in 0..transforms.len() {
         let t = transforms[i];
-        units::build_units(rows, cols, orientations, bits, confidences, t, h, v, units);
+        units::build_units(list, t, tables, units);
         let number = transforms[i];
         scan = fold_value_room(scan, units, periods, number);
     }
@@ -72,38 +64,23 @@ fn scan_values<'a>(
 }
 
 // The exact selection on one list.
-pub fn select_exact<'a>(
-    rows: &[i32],
-    cols: &[i32],
-    orientations: &[u8],
-    bits: &[u8],
-    confidences: &[f32],
+pub fn select_exact(
+    list: List,
     transforms: &[u8],
-    h: &'a [u8],
-    v: &'a [u8],
+    tables: Tables,
     error_limit: f32,
     units: &mut [u64],
 ) -> ExactSelection
-    requires { ExactSelectReady (tables h.now v.now) (edges rows.now cols.now orientations.now bits.now confidences.now) transforms.now units.old }
-    ensures { ExactDone (tables h.now v.now) (edges rows.now cols.now orientations.now bits.now confidences.now) transforms.now error_limit units.old units.new result }
+    requires { ExactSelectReady (board_of tables) (list_of list) transforms.now units.old }
+    ensures { ExactDone (board_of tables.entry) (list_of list.entry) transforms.now error_limit units.old units.new result }
 {
-    if unit_sum(confidences) == 0 {
-        return ExactSelection::Refused(Refusal {
+    if unit_sum(list.confidences) == 0 {
+        return Err(Refusal {
             number: refusals::NO_CONFIDENCE,
-            place: Place::Nowhere,
+            place: None,
         });
     }
-    let edges = rows.len() as u32;
-    let scan = scan_values(
-        rows,
-        cols,
-        orientations,
-        bits,
-        confidences,
-        transforms,
-        h,
-        v,
-        units,
-    );
+    let edges = list.edges.rows.len() as u32;
+    let scan = scan_values(list, transforms, tables, units);
     finish_exact(scan, edges, error_limit)
 }

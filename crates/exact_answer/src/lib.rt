@@ -20,8 +20,4 @@ pub struct ExactDecoded {
 }
 
 // The answer of exact decode.
-#[derive(Clone, Copy)]
-pub enum ExactAnswer {
-    Found(ExactDecoded),
-    Refused(Refusal),
-}
+pub type ExactAnswer = Result<ExactDecoded, Refusal>;

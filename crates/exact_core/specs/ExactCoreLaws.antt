@@ -1,5 +1,5 @@
 -- Laws of an accepted exact call: the ways in which it ends, and that its promise determines the result.
-use Rattle.std.specs.Prelude.{◌≡◌, ℕ, ◌≤◌, get_or, length}
+use Rattle.std.specs.Prelude.{◌≡◌, ℕ, ◌≤◌, get_or, length, Err, Ok}
 use Rattle.std.proofs.Math.Path.{refl, sym, ap, subst}
 use Rattle.std.proofs.Common.{ap₂, ◌∙◌, le_trans, le_of_eq}
 use mathlib.Core.List.{List}
@@ -12,12 +12,10 @@ use Rattle.admission.specs.Calls.{HardCall}
 use Rattle.admission.specs.Accepted.{HardAccepted}
 use Rattle.scan.specs.declared.scan.RunnerUp.{RunnerUp}
 use Rattle.exact_scan.specs.declared.kept.ExactWinner.{ExactWinner}
-use Rattle.exact_scan.specs.declared.kept.ExactSelection.{ExactSelection}
-use Rattle.exact_scan.specs.declared.kept.ExactSelection.TheVariants as sel
+use Rattle.exact_scan.specs.Kinds.{ExactSelection}
 use Rattle.exact.specs.Select.{exact_selection, ExactDone}
 use Rattle.exact.specs.SelectLaws.{exact-beyond, exact-unique}
-use Rattle.exact_answer.specs.declared.ExactAnswer.{ExactAnswer}
-use Rattle.exact_answer.specs.declared.ExactAnswer.TheVariants.{Refused}
+use Rattle.exact_answer.specs.Answers.{ExactAnswer}
 use Rattle.exact_verdict.specs.ExactVerdict.{exact_judged}
 use Rattle.exact_core.specs.ExactCore.{total_units, runner_weight_of, judged_winners, exact_after_physical, exact_after_logical, exact_core, PhysicalValues, ExactCoreRoom, ExactCoreDone}
 use Rattle.exact_core.specs.ExactReady.{ready-logical, ready-physical}
@@ -38,7 +36,7 @@ module _ (call : HardCall) (m n : ℕ) (A : HardAccepted call m n) (u : List ℕ
     still-room = le_trans room (le_of_eq (sym first.len))
 
     -- the logical list was refused
-    pub core-refused : (x : Refusal) → r ≡ sel.Refused x → ExactCoreDone call u v (Refused x)
+    pub core-refused : (x : Refusal) → r ≡ Err x → ExactCoreDone call u v (Err x)
     unfolding exact_core PhysicalValues
     core-refused x k = record {
       answer = ap (exact_after_logical call) (sym k ∙ D.answer);
@@ -46,7 +44,7 @@ module _ (call : HardCall) (m n : ℕ) (A : HardAccepted call m n) (u : List ℕ
       units = first;
     }
 
-    module _ (w : ExactWinner) (runner : RunnerUp) (k : r ≡ sel.Selected w runner) (v' : List ℕ) (q : ExactSelection) (F : ExactDone call.board call.physical call.transforms one_f v v' q) where
+    module _ (w : ExactWinner) (runner : RunnerUp) (k : r ≡ Ok (w, runner)) (v' : List ℕ) (q : ExactSelection) (F : ExactDone call.board call.physical call.transforms one_f v v' q) where
       both : SameBeyond 0 (tables_room call.board) u v'
       both = beyond-trans 0 (tables_room call.board) u v v' first (exact-beyond call.board call.physical call.transforms one_f v (ready-physical call m n A v still-room) v' q F)
 
@@ -59,21 +57,21 @@ module _ (call : HardCall) (m n : ℕ) (A : HardAccepted call m n) (u : List ℕ
       core-answer = ap (exact_after_physical call.board call.logical call.transforms w runner) F.answer ∙ ap (exact_after_logical call) (sym k ∙ D.answer)
 
       -- the physical list was refused
-      pub core-physical-refused : (x : Refusal) → q ≡ sel.Refused x → ExactCoreDone call u v' (Refused x)
+      pub core-physical-refused : (x : Refusal) → q ≡ Err x → ExactCoreDone call u v' (Err x)
       core-physical-refused x g = record { answer = ap (exact_after_physical call.board call.logical call.transforms w runner) (sym g) ∙ core-answer; room = core-room; units = both }
 
       -- both lists have a winner
-      pub core-judged : (p : ExactWinner) (other : RunnerUp) (a : ExactAnswer) → q ≡ sel.Selected p other → a ≡ judged_winners call.board call.logical call.transforms w runner p → ExactCoreDone call u v' a
+      pub core-judged : (p : ExactWinner) (other : RunnerUp) (a : ExactAnswer) → q ≡ Ok (p, other) → a ≡ judged_winners call.board call.logical call.transforms w runner p → ExactCoreDone call u v' a
       core-judged p other a g e = record { answer = e ∙ ap (exact_after_physical call.board call.logical call.transforms w runner) (sym g) ∙ core-answer; room = core-room; units = both }
 
 -- ---- any two results that the core's promise allows are equal, and so are the rooms
 module _ (call : HardCall) where
   physical-same : (s : ExactSelection) (m n c d : List ℕ) → m ≡ n → PhysicalValues s call m c → PhysicalValues s call n d → c ≡ d
   unfolding PhysicalValues
-  physical-same (sel.Refused x) m n c d e f g = f ∙ e ∙ sym g
-  physical-same (sel.Selected w runner) m n c d e f g =
+  physical-same (Err x) m n c d e f g = f ∙ e ∙ sym g
+  physical-same (Ok (w, runner)) m n c d e f g =
       let s = exact_selection call.board call.physical call.transforms one_f in
-      let h : PhysicalValues (sel.Selected w runner) call m d = subst (λ (k : List ℕ). PhysicalValues (sel.Selected w runner) call k d) (sym e) g in
+      let h : PhysicalValues (Ok (w, runner)) call m d = subst (λ (k : List ℕ). PhysicalValues (Ok (w, runner)) call k d) (sym e) g in
       (exact-unique call.board call.physical call.transforms one_f m c d s s (record { answer = refl; room = f }) (record { answer = refl; room = h })).1
 
   pub exact-core-unique : (u u' v' : List ℕ) (r s : ExactAnswer) → ExactCoreDone call u u' r → ExactCoreDone call u v' s → (r ≡ s) × (u' ≡ v')

@@ -1,5 +1,5 @@
 -- What the selections of an accepted exact call ask, what their winners are known for, and that the surplus of the room stays.
-use Rattle.std.specs.Prelude.{◌≡◌, List, ℕ, ◌≤◌, ◌<◌, get_or, length}
+use Rattle.std.specs.Prelude.{◌≡◌, List, ℕ, ◌≤◌, ◌<◌, get_or, length, Ok}
 use Rattle.std.proofs.Common.{subst, arith}
 use Rattle.laws.specs.Words.{one_f}
 use Rattle.board.specs.Hits.{EdgeList, Board, size}
@@ -10,7 +10,6 @@ use Rattle.admission.specs.Calls.{HardCall}
 use Rattle.admission.specs.Accepted.{TransformsOk, StatsAccepted, HardAccepted}
 use Rattle.scan.specs.declared.scan.RunnerUp.{RunnerUp}
 use Rattle.exact_scan.specs.declared.kept.ExactWinner.{ExactWinner}
-use Rattle.exact_scan.specs.declared.kept.ExactSelection.TheVariants as sel
 use Rattle.exact.specs.Select.{exact_selection, ExactSelectReady}
 use Rattle.exact.proofs.ExactTheorems.{exact-winner, exact-runner-up-on}
 
@@ -33,7 +32,7 @@ module _ (call : HardCall) (m n : ℕ) (A : HardAccepted call m n) where
   ready-physical u r = exact-ready call.board call.physical call.transforms u A.physical A.some_physical A.board A.transforms r
 
   -- ---- what the winners are known for
-  module _ (w : ExactWinner) (runner : RunnerUp) (e : exact_selection call.board call.logical call.transforms call.error_limit ≡ sel.Selected w runner) where
+  module _ (w : ExactWinner) (runner : RunnerUp) (e : exact_selection call.board call.logical call.transforms call.error_limit ≡ Ok (w, runner)) where
     few-hits : w.hits ≤ size call.logical
     few-hits =
         let x = exact-winner call.board call.logical call.transforms A.board A.logical A.transforms.some call.error_limit w runner e in
@@ -51,7 +50,7 @@ module _ (call : HardCall) (m n : ℕ) (A : HardAccepted call m n) where
         }
 
     -- what judging asks
-    pub judge-ready : (p : ExactWinner) (other : RunnerUp) → exact_selection call.board call.physical call.transforms one_f ≡ sel.Selected p other → JudgeReady call.board call.logical call.transforms w runner p
+    pub judge-ready : (p : ExactWinner) (other : RunnerUp) → exact_selection call.board call.physical call.transforms one_f ≡ Ok (p, other) → JudgeReady call.board call.logical call.transforms w runner p
     judge-ready p other f = record {
       runner-up = on-board;
       hits = few-hits;

@@ -1,5 +1,5 @@
 -- HOW AN ACCEPTED EXACT CALL ENDS, in words of placings and lists and in document 01's order: "10 logical, 11, 10 physical, 12, 13".
-use Rattle.std.specs.Prelude.{◌≡◌, Bool, true, false, cond, ◌⊎◌, ℕ, ◌-◌, ◌<◌, get_or}
+use Rattle.std.specs.Prelude.{◌≡◌, Bool, true, false, cond, ◌⊎◌, ℕ, ◌-◌, ◌<◌, get_or, Err, Ok}
 use Rattle.std.proofs.Math.Path.{refl, sym, ap}
 use Rattle.std.proofs.Common.{inl, inr, arith}
 use borrow.Author.Tests.{ltb-true}
@@ -7,7 +7,6 @@ use Rattle.laws.specs.Tests.{clash}
 use Rattle.laws.specs.Words.{one_f}
 use Rattle.board.specs.declared.edge.Placing.{Placing}
 use Rattle.board.specs.Hits.{size, hits_at}
-use Rattle.refusals.specs.declared.Refusal.{Refusal}
 use Rattle.refusals.specs.Numbers as why
 use Rattle.admission.specs.Calls.{HardCall}
 use Rattle.admission.specs.Accepted.{HardAccepted}
@@ -16,33 +15,27 @@ use Rattle.figures.specs.Gate.{passed}
 use Rattle.scan.specs.Scan.{over_limit}
 use Rattle.scan.specs.declared.scan.RunnerUp.{RunnerUp}
 use Rattle.hard_core.proofs.HardNumbers.{physical-within}
-use Rattle.verdict.specs.Answers.{Answers}
+use Rattle.verdict.specs.Answers.{Answers, answers}
 use Rattle.verdict.proofs.VerdictTheorems.{Agree, test, agree_of, of_agree}
 use Rattle.demand.specs.Demand.{WithinLimit}
 use Rattle.demand.specs.Late.{SameSquare}
 use Rattle.demand.specs.OneSelection.{NoneWithinLimit, NoneLeads}
 use Rattle.demand.specs.Winners.{runner_at}
 use Rattle.exact_scan.specs.declared.kept.ExactWinner.{ExactWinner}
-use Rattle.exact_scan.specs.declared.kept.ExactSelection.{ExactSelection}
-use Rattle.exact_scan.specs.declared.kept.ExactSelection.TheVariants as sel
+use Rattle.exact_scan.specs.Kinds.{ExactSelection}
 use Rattle.exact.specs.Select.{exact_selection}
 use Rattle.exact.specs.Winner.{weight_of_square, IsWinner}
 use Rattle.exact.proofs.ExactTheorems.{exact-runner-up-named}
 use Rattle.exact_answer.specs.declared.ExactDecoded.{ExactDecoded}
-use Rattle.exact_answer.specs.declared.ExactAnswer.{ExactAnswer}
-use Rattle.exact_answer.specs.declared.ExactAnswer.TheVariants.{Found, Refused}
+use Rattle.exact_answer.specs.Answers.{ExactAnswer}
 use Rattle.exact_verdict.specs.ExactVerdict.{exact_refused_by, exact_decoded_of, exact_judged}
 use Rattle.exact_core.specs.ExactCore.{total_units, runner_weight_of, judged_winners, exact_after_physical, exact_after_logical, exact_core}
 use Rattle.exact_demand.specs.ExactDemand.{ExactAnswered}
 use Rattle.exact_demand.proofs.ExactSelections.{SelectionEnd, no-units, none_within, selected, exact-ended, wins, hits-told, weight-told, within, gate-leads, gate-none}
 
 -- exact answers are made in two ways, as hard ones are
-pub exact-answers : Answers Refused Found
-exact-answers = record { either = either; apart = λ d r e. let z : ◌≡◌ {A = ℕ} 0 1 = cc in omega arith; once = λ r s e. cc }
-  where
-    either : (a : ExactAnswer) → ((d : ExactDecoded) × (a ≡ Found d)) ⊎ ((r : Refusal) × (a ≡ Refused r))
-    either (Found d) = inl (d, refl)
-    either (Refused r) = inr (r, refl)
+pub exact-answers : Answers {Answer = ExactAnswer} Err Ok
+exact-answers = answers
 
 -- both lists have units and a winner, and that of the logical list is within the limit
 pub record BothWin (call : HardCall) : Type 0 where
@@ -61,7 +54,7 @@ pub data ExactEnd (call : HardCall) : ExactAnswer → Type 0 where
   no_physical_units : 0 < total_units call.logical → (P : Placing) → WithinLimit call.board call.logical call.transforms call.error_limit P → total_units call.physical ≡ 0 → ExactEnd call (exact_refused_by why.no_confidence)
   winners_differ : (b : BothWin call) → (SameSquare call.transforms b.physical b.logical → ⊥) → ExactEnd call (exact_refused_by why.lists_disagree)
   none_leads : (b : BothWin call) → SameSquare call.transforms b.physical b.logical → NoneLeads call.board call.logical call.transforms call.error_limit → ExactEnd call (exact_refused_by why.not_far_ahead)
-  found : (b : BothWin call) → SameSquare call.transforms b.physical b.logical → (d : ExactDecoded) → ExactAnswered call d → ExactEnd call (Found d)
+  found : (b : BothWin call) → SameSquare call.transforms b.physical b.logical → (d : ExactDecoded) → ExactAnswered call d → ExactEnd call (Ok d)
 
 module _ (call : HardCall) (m n : ℕ) (A : HardAccepted call m n) where
   abbrev LogicalEnd : ExactSelection → Type 0
@@ -71,7 +64,7 @@ module _ (call : HardCall) (m n : ℕ) (A : HardAccepted call m n) where
   PhysicalEnd = SelectionEnd call.board call.physical call.transforms one_f A.board A.physical A.transforms.some
 
   -- ---- the logical list has a winner
-  module _ (u : 0 < total_units call.logical) (w : ExactWinner) (r : RunnerUp) (e : exact_selection call.board call.logical call.transforms call.error_limit ≡ sel.Selected w r) where
+  module _ (u : 0 < total_units call.logical) (w : ExactWinner) (r : RunnerUp) (e : exact_selection call.board call.logical call.transforms call.error_limit ≡ Ok (w, r)) where
     logical-won : IsWinner call.board call.logical call.transforms w.placing
     logical-won = wins call.board call.logical call.transforms call.error_limit A.board A.logical A.transforms.some A.transforms.few w r e
 
@@ -85,7 +78,7 @@ module _ (call : HardCall) (m n : ℕ) (A : HardAccepted call m n) where
     t = get_or call.transforms w.placing.listed 0
 
     -- ---- and so has the physical one
-    module _ (v : 0 < total_units call.physical) (p : ExactWinner) (o : RunnerUp) (f : exact_selection call.board call.physical call.transforms one_f ≡ sel.Selected p o) where
+    module _ (v : 0 < total_units call.physical) (p : ExactWinner) (o : RunnerUp) (f : exact_selection call.board call.physical call.transforms one_f ≡ Ok (p, o)) where
       abbrev s : ℕ
       s = get_or call.transforms p.placing.listed 0
 
@@ -125,11 +118,11 @@ module _ (call : HardCall) (m n : ℕ) (A : HardAccepted call m n) where
             rate = ap (rate_of (size call.logical)) counted;
           }
 
-      by-gate : SameSquare call.transforms p.placing w.placing → (b : Bool) → passed (size call.logical) w.hits r.hits ≡ b → ExactEnd call (cond b (Found told) (exact_refused_by why.not_far_ahead))
+      by-gate : SameSquare call.transforms p.placing w.placing → (b : Bool) → passed (size call.logical) w.hits r.hits ≡ b → ExactEnd call (cond b (Ok told) (exact_refused_by why.not_far_ahead))
       by-gate q true g = found both q told (answered q g)
       by-gate q false g = none_leads both q (gate-none call.board call.logical call.transforms call.error_limit A.board A.logical A.transforms.some A.transforms.few w r e g)
 
-      by-test : (b : Bool) → test t w.placing s p.placing ≡ b → ExactEnd call (cond b (cond (passed (size call.logical) w.hits r.hits) (Found told) (exact_refused_by why.not_far_ahead)) (exact_refused_by why.lists_disagree))
+      by-test : (b : Bool) → test t w.placing s p.placing ≡ b → ExactEnd call (cond b (cond (passed (size call.logical) w.hits r.hits) (Ok told) (exact_refused_by why.not_far_ahead)) (exact_refused_by why.lists_disagree))
       by-test true a = by-gate (same (agree_of t w.placing s p.placing a)) (passed (size call.logical) w.hits r.hits) refl
       by-test false a = winners_differ both (λ q. clash (of_agree t w.placing s p.placing (record { transform = sym q.0; row = sym q.1; col = sym q.2 })) a)
 

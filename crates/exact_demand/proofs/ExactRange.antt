@@ -1,5 +1,5 @@
 -- A found exact answer is in range.
-use Rattle.std.specs.Prelude.{◌≡◌, length, get_or}
+use Rattle.std.specs.Prelude.{◌≡◌, length, get_or, Ok}
 use Rattle.std.proofs.Common.{sym, le_refl, arith}
 use Rattle.std.proofs.Math.Path.{subst}
 use Prim.Native.Nat.{ℕ, ◌+◌, ◌^◌, ◌≤◌, ◌<◌}
@@ -19,7 +19,6 @@ use Rattle.exact.specs.Select.{units_to}
 use Rattle.exact.specs.SelectLaws.{list-units, units_small}
 use Rattle.exact.specs.Winner.{weight_of_square}
 use Rattle.exact_answer.specs.declared.ExactDecoded.{ExactDecoded}
-use Rattle.exact_answer.specs.declared.ExactAnswer.TheVariants.{Found}
 use Rattle.exact_core.specs.ExactCore.{total_units, exact_core}
 use Rattle.exact_demand.proofs.ExactTheorems.{exact-sound}
 
@@ -43,7 +42,7 @@ module _ (E : EdgeList) (list : ListOk E) where
   pub total-few : total_units E ≤ 2 ^ 37
   total-few = omega (arith, units_small E.confidences (list-units E list) (length E.confidences) (le_refl (length E.confidences)), list.confidences, list.few)
 
-pub exact-in-range : (call : HardCall) (m n : ℕ) (A : HardAccepted call m n) (d : ExactDecoded) → exact_core call ≡ Found d → ExactInRange (length call.board.h) d
+pub exact-in-range : (call : HardCall) (m n : ℕ) (A : HardAccepted call m n) (d : ExactDecoded) → exact_core call ≡ Ok d → ExactInRange (length call.board.h) d
 exact-in-range call m n A d e =
     let s = exact-sound call m n A d e in
     let a = s.1 in

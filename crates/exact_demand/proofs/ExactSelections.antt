@@ -1,5 +1,5 @@
 -- What an exact selection on one list comes to, in words of placings: no units, no placing within the limit, or a winner; and what its gate says of who leads. Hits are board's, edge by edge.
-use Rattle.std.specs.Prelude.{◌≡◌, refl, Bool, true, false, List, ℕ, ◌-◌, ◌≤◌, ◌<◌, get_or, length, Float}
+use Rattle.std.specs.Prelude.{◌≡◌, refl, Bool, true, false, List, ℕ, ◌-◌, ◌≤◌, ◌<◌, get_or, length, Float, Err, Ok}
 use Rattle.std.proofs.Common.{sym, subst, ◌∙◌, ⊎_elim, eq-zero-or-pos, arith, ltb-true, ltb-false, ne_eqb}
 use Rattle.board.specs.declared.edge.Placing.{Placing}
 use Rattle.board.specs.Hits.{EdgeList, Board, size, hits, hits_at}
@@ -15,8 +15,7 @@ use Rattle.demand.specs.Demand.{Same, Leads, RunnerUpExists}
 use Rattle.demand.specs.DemandLaws.{same_or_not}
 use Rattle.demand.specs.OneSelection.{NoneWithinLimit, NoneLeads}
 use Rattle.exact_scan.specs.declared.kept.ExactWinner.{ExactWinner}
-use Rattle.exact_scan.specs.declared.kept.ExactSelection.{ExactSelection}
-use Rattle.exact_scan.specs.declared.kept.ExactSelection.TheVariants.{Refused, Selected}
+use Rattle.exact_scan.specs.Kinds.{ExactSelection}
 use Rattle.exact.specs.Select.{no_units, exact_selection}
 use Rattle.exact.specs.Winner.{weight_at, IsWinner}
 use Rattle.exact.proofs.ExactTheorems as one_list_lem
@@ -35,9 +34,9 @@ has-units E h = ne_eqb (total_units E) 0 (λ e. omega (arith, h, e))
 module _ (B : Board) (E : EdgeList) (ts : List ℕ) (limit : Float) (board : BoardOk B) (list : ListOk E) (some : 0 < length ts) where
   -- the three ways in which a selection ends
   pub data SelectionEnd : ExactSelection → Type 0 where
-    no-units : total_units E ≡ 0 → SelectionEnd (Refused (numbered why.no_confidence))
-    none_within : 0 < total_units E → NoneWithinLimit B E ts limit → SelectionEnd (Refused (numbered why.none_within_limit))
-    selected : 0 < total_units E → (w : ExactWinner) (r : RunnerUp) → exact_selection B E ts limit ≡ Selected w r → SelectionEnd (Selected w r)
+    no-units : total_units E ≡ 0 → SelectionEnd (Err (numbered why.no_confidence))
+    none_within : 0 < total_units E → NoneWithinLimit B E ts limit → SelectionEnd (Err (numbered why.none_within_limit))
+    selected : 0 < total_units E → (w : ExactWinner) (r : RunnerUp) → exact_selection B E ts limit ≡ Ok (w, r) → SelectionEnd (Ok (w, r))
 
   -- the list's winner, and that none has more hits
   abbrev W : Placing
@@ -61,7 +60,7 @@ module _ (B : Board) (E : EdgeList) (ts : List ℕ) (limit : Float) (board : Boa
       (λ u. by-limit u (over_limit (size E) limit (hits_at B E ts W)) refl) (eq-zero-or-pos (total_units E))
 
   -- ---- the winner, where there is one
-  module _ (few : length ts ≤ 8) (w : ExactWinner) (r : RunnerUp) (e : exact_selection B E ts limit ≡ Selected w r) where
+  module _ (few : length ts ≤ 8) (w : ExactWinner) (r : RunnerUp) (e : exact_selection B E ts limit ≡ Ok (w, r)) where
     abbrev P : Placing
     P = w.placing
 

@@ -1,11 +1,10 @@
 -- DEMAND 3, EXACT. For accepted inputs with a unit sum above 0 of each list, exact decode answers exactly when one placing of the logical list leads and agrees with the winner of the physical list by
 -- hits, weight, list position, row and column; it gives that placing, and a runner-up that is another placing with hits no third exceeds. Hits and weights are counted edge by edge.
-use Rattle.std.specs.Prelude.{◌≡◌, refl, ℕ, ◌≤◌, ◌<◌, get_or}
+use Rattle.std.specs.Prelude.{◌≡◌, refl, ℕ, ◌≤◌, ◌<◌, get_or, Err, None, Ok}
 use Rattle.std.proofs.Common.{sym, ap, subst, ◌∙◌, arith}
 use Rattle.laws.specs.Tests.{clash}
 use Rattle.board.specs.declared.edge.Placing.{Placing}
 use Rattle.refusals.specs.declared.Refusal.{Refusal}
-use Rattle.refusals.specs.declared.Place.TheVariants.{Nowhere}
 use Rattle.refusals.specs.Numbers.{numbered}
 use Rattle.refusals.specs.Numbers as why
 use Rattle.admission.specs.Calls.{HardCall}
@@ -15,8 +14,7 @@ use Rattle.demand.specs.Demand.{Leads}
 use Rattle.demand.specs.Late.{SameSquare}
 use Rattle.exact.proofs.ExactTheorems.{winner-once}
 use Rattle.exact_answer.specs.declared.ExactDecoded.{ExactDecoded}
-use Rattle.exact_answer.specs.declared.ExactAnswer.{ExactAnswer}
-use Rattle.exact_answer.specs.declared.ExactAnswer.TheVariants.{Found, Refused}
+use Rattle.exact_answer.specs.Answers.{ExactAnswer}
 use Rattle.exact_verdict.specs.ExactVerdict.{exact_refused_by}
 use Rattle.exact_core.specs.ExactCore.{total_units, exact_core}
 use Rattle.exact_demand.specs.ExactDemand.{ExactWins, ExactAnswered}
@@ -36,10 +34,10 @@ agreeing call b Q x y =
 
 module _ (call : HardCall) (m n : ℕ) (A : HardAccepted call m n) where
   -- FOUND MEANS TRUE, and the logical list has units
-  pub exact-sound : (d : ExactDecoded) → exact_core call ≡ Found d → (0 < total_units call.logical) × ExactAnswered call d
+  pub exact-sound : (d : ExactDecoded) → exact_core call ≡ Ok d → (0 < total_units call.logical) × ExactAnswered call d
   exact-sound d e = go (exact_core call) (exact-ends call m n A) e
     where
-      go : (a : ExactAnswer) → ExactEnd call a → a ≡ Found d → (0 < total_units call.logical) × ExactAnswered call d
+      go : (a : ExactAnswer) → ExactEnd call a → a ≡ Ok d → (0 < total_units call.logical) × ExactAnswered call d
       go a (no_logical_units z) q = absurd (never_both exact-answers d (numbered why.no_confidence) q)
       go a (none-within-limit u h) q = absurd (never_both exact-answers d (numbered why.none_within_limit) q)
       go a (no_physical_units u P h z) q = absurd (never_both exact-answers d (numbered why.no_confidence) q)
@@ -49,10 +47,10 @@ module _ (call : HardCall) (m n : ℕ) (A : HardAccepted call m n) where
 
   -- A TRUE SQUARE IS FOUND
   pub exact-complete : 0 < total_units call.logical → 0 < total_units call.physical → (Q : Placing) → Leads call.board call.logical call.transforms call.error_limit Q
-      → ExactWins call.board call.physical call.transforms Q → (d : ExactDecoded) × (exact_core call ≡ Found d)
+      → ExactWins call.board call.physical call.transforms Q → (d : ExactDecoded) × (exact_core call ≡ Ok d)
   exact-complete u v Q l x = go (exact_core call) (exact-ends call m n A) refl
     where
-      go : (a : ExactAnswer) → ExactEnd call a → exact_core call ≡ a → (d : ExactDecoded) × (exact_core call ≡ Found d)
+      go : (a : ExactAnswer) → ExactEnd call a → exact_core call ≡ a → (d : ExactDecoded) × (exact_core call ≡ Ok d)
       go a (no_logical_units z) q = absurd (omega (arith, u, z))
       go a (none-within-limit k h) q = clash (h Q l.on-board) l.within
       go a (no_physical_units k P h z) q = absurd (omega (arith, v, z))
@@ -61,13 +59,13 @@ module _ (call : HardCall) (m n : ℕ) (A : HardAccepted call m n) where
       go a (found b h d y) q = (d, q)
 
   -- refused late means 10 to 13, and about no edge
-  pub exact-late : (r : Refusal) → exact_core call ≡ Refused r → (why.no_confidence ≤ r.number) × (r.number ≤ why.not_far_ahead) × (r.place ≡ Nowhere)
+  pub exact-late : (r : Refusal) → exact_core call ≡ Err r → (why.no_confidence ≤ r.number) × (r.number ≤ why.not_far_ahead) × (r.place ≡ None)
   exact-late r e = go (exact_core call) (exact-ends call m n A) e
     where
-      numbers : (k : ℕ) → why.no_confidence ≤ k → k ≤ why.not_far_ahead → exact_refused_by k ≡ Refused r → (why.no_confidence ≤ r.number) × (r.number ≤ why.not_far_ahead) × (r.place ≡ Nowhere)
+      numbers : (k : ℕ) → why.no_confidence ≤ k → k ≤ why.not_far_ahead → exact_refused_by k ≡ Err r → (why.no_confidence ≤ r.number) × (r.number ≤ why.not_far_ahead) × (r.place ≡ None)
       numbers k h l q = let z = exact-answers.once (numbered k) r q in let y : k ≡ r.number = ap (λ (x : Refusal). x.number) z in (omega arith, omega arith, sym (ap (λ (x : Refusal). x.place) z))
 
-      go : (a : ExactAnswer) → ExactEnd call a → a ≡ Refused r → (why.no_confidence ≤ r.number) × (r.number ≤ why.not_far_ahead) × (r.place ≡ Nowhere)
+      go : (a : ExactAnswer) → ExactEnd call a → a ≡ Err r → (why.no_confidence ≤ r.number) × (r.number ≤ why.not_far_ahead) × (r.place ≡ None)
       go a (no_logical_units z) q = numbers why.no_confidence (omega arith) (omega arith) q
       go a (none-within-limit u h) q = numbers why.none_within_limit (omega arith) (omega arith) q
       go a (no_physical_units u P h z) q = numbers why.no_confidence (omega arith) (omega arith) q

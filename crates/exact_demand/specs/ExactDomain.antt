@@ -1,12 +1,11 @@
--- THE DOMAIN of an exact call: hard decode's conditions, with room of u32 and of u64. Accepted exactly when all are met, and else refused by the number of the first that is not: hard decode's laws,
+-- THE DOMAIN of an exact call: hard decode's conditions, with room of u32 and of u64. accepted exactly when all are met, and else refused by the number of the first that is not: hard decode's laws,
 -- since of room they know the lengths alone.
-use Rattle.std.specs.Prelude.{◌≡◌, List, ℕ, length, replicate}
+use Rattle.std.specs.Prelude.{◌≡◌, List, ℕ, length, replicate, Err}
 use Rattle.std.proofs.Math.Path.{subst}
 use Rattle.std.proofs.lemmas.List.{length-replicate}
 use Rattle.laws.specs.Words.{zero_f}
 use Rattle.refusals.specs.declared.Refusal.{Refusal}
-use Rattle.refusals.specs.declared.Admission.{Admission}
-use Rattle.refusals.specs.declared.Admission.TheVariants.{Accepted, Refused}
+use Rattle.refusals.specs.Admission.{Admission, accepted}
 use Rattle.room.specs.Room.{tables_for}
 use Rattle.admission.specs.Calls.{HardCall, HardRoom}
 use Rattle.admission.specs.Refusals.{hard_admission}
@@ -41,17 +40,17 @@ module _ (call : HardCall) (room : ExactRoom) where
   -- with n places of u64 room: accepted exactly when all conditions are met
   abbrev Judged : ℕ → Type 0
   Judged n =
-      (hard_admission call (length room.counts) n ≡ Accepted → AllMet (exact_early_by call (length room.counts) n))
-      × (AllMet (exact_early_by call (length room.counts) n) → hard_admission call (length room.counts) n ≡ Accepted)
+      (hard_admission call (length room.counts) n ≡ accepted → AllMet (exact_early_by call (length room.counts) n))
+      × (AllMet (exact_early_by call (length room.counts) n) → hard_admission call (length room.counts) n ≡ accepted)
 
   -- EXACT: accepted exactly when all conditions are met
-  pub exact-domain : (exact_checked call room ≡ Accepted → AllMet (exact_early call room)) × (AllMet (exact_early call room) → exact_checked call room ≡ Accepted)
+  pub exact-domain : (exact_checked call room ≡ accepted → AllMet (exact_early call room)) × (AllMet (exact_early call room) → exact_checked call room ≡ accepted)
   unfolding hard_early exact_early_by
   exact-domain = subst Judged (length-replicate (length room.units) zero_f) (hard-domain call as_long)
 
   -- and else refused by the number of the first that is not
-  pub exact-first : (r : Refusal) → exact_checked call room ≡ Refused r → FirstFails (exact_early call room) r.number
+  pub exact-first : (r : Refusal) → exact_checked call room ≡ Err r → FirstFails (exact_early call room) r.number
   unfolding hard_early exact_early_by
   exact-first =
-      subst (λ (n : ℕ). (r : Refusal) → hard_admission call (length room.counts) n ≡ Refused r → FirstFails (exact_early_by call (length room.counts) n) r.number) (length-replicate (length room.units) zero_f)
+      subst (λ (n : ℕ). (r : Refusal) → hard_admission call (length room.counts) n ≡ Err r → FirstFails (exact_early_by call (length room.counts) n) r.number) (length-replicate (length room.units) zero_f)
       (hard-first call as_long)

@@ -1,5 +1,5 @@
 -- C-15, one list: the scan over the tables of values of each list position. It keeps the placing of most hits, then most weight, then the earliest list position, then row, then column.
-use Rattle.std.specs.Prelude.{cond, ◌≡◌, List, ℕ, zero, suc, ◌+◌, ◌*◌, ◌/◌, ◌%◌, ◌≤◌, ◌<◌, leb, length, Float}
+use Rattle.std.specs.Prelude.{cond, ◌≡◌, List, ℕ, zero, suc, ◌+◌, ◌*◌, ◌/◌, ◌%◌, ◌≤◌, ◌<◌, leb, length, Float, Err, None, Ok, Some}
 use Rattle.refusals.specs.Numbers.{numbered}
 use Rattle.refusals.specs.Numbers as why
 use Rattle.best.specs.CellTables.{Period}
@@ -7,16 +7,13 @@ use Rattle.best.specs.declared.lex.LexMax.{LexMax}
 use Rattle.scan.specs.Scan.{over_limit, empty_scan, pushed, runner_up_of}
 use Rattle.scan.specs.declared.scan.TransformSummary.{TransformSummary}
 use Rattle.scan.specs.declared.scan.HardScan.{HardScan}
-use Rattle.scan.specs.declared.scan.Kept.TheVariants as old
 use Rattle.folding.specs.Transform.{best_hits, runner_up_within, summary_of}
 use Rattle.unit_terms.specs.Values.{one_hit}
 use Rattle.values.specs.Values.{hits_of, weight_of, v_at, n_at, value_of, first_origin, best_value, by_hits}
 use Rattle.exact_scan.specs.declared.kept.ExactCandidate.{ExactCandidate}
-use Rattle.exact_scan.specs.declared.kept.ExactKept.{ExactKept}
-use Rattle.exact_scan.specs.declared.kept.ExactKept.TheVariants.{Nobody, One}
+use Rattle.exact_scan.specs.Kinds.{ExactKept}
 use Rattle.exact_scan.specs.declared.kept.ExactScan.{ExactScan}
-use Rattle.exact_scan.specs.declared.kept.ExactSelection.{ExactSelection}
-use Rattle.exact_scan.specs.declared.kept.ExactSelection.TheVariants.{Refused, Selected}
+use Rattle.exact_scan.specs.Kinds.{ExactSelection}
 
 -- the horizontal and the vertical table of values of one transform
 pub record ValueTables : Type 0 where
@@ -65,19 +62,19 @@ better_of k c = cond (leb c.value k.value) k c
 
 -- what is kept after c: the first one, then the better one
 abbrev pub taken : ExactKept → ExactCandidate → ExactKept
-taken Nobody c = One c
-taken (One k) c = One (better_of k c)
+taken None c = Some c
+taken (Some k) c = Some (better_of k c)
 
 -- ---- the scan
 -- of no transforms
 unfoldable pub empty_exact : ExactScan
 unfolding empty_scan
-empty_exact = record { positions = empty_scan; best = Nobody }
+empty_exact = record { positions = empty_scan; best = None }
 
 -- the transform t, with the tables X, at the scan's next list position
 unfoldable pub fold_exact : ℕ → ℕ → ℕ → ValueTables → ExactScan → ExactScan
 unfolding exact_summary exact_candidate pushed
-fold_exact L M t X scan = record { positions = pushed scan.positions (exact_summary L M t X) old.Nobody; best = taken scan.best (exact_candidate L M scan.positions.count X) }
+fold_exact L M t X scan = record { positions = pushed scan.positions (exact_summary L M t X) None; best = taken scan.best (exact_candidate L M scan.positions.count X) }
 
 -- the first n list positions, of which position p has the transform ts p and the tables tab p
 unfoldable pub exact_scanned : ℕ → ℕ → (ℕ → ℕ) → (ℕ → ValueTables) → ℕ → ExactScan
@@ -90,13 +87,13 @@ unfoldable pub finished_one : ℕ → Float → HardScan → ExactCandidate → 
 unfolding over_limit runner_up_of
 finished_one edges limit h c =
     cond (over_limit edges limit (hits_of c.value))
-    (Refused (numbered why.none_within_limit))
-    (Selected (record { hits = hits_of c.value; weight = weight_of c.value; placing = c.placing }) (runner_up_of h.summaries c.placing.listed h.count))
+    (Err (numbered why.none_within_limit))
+    (Ok ((record { hits = hits_of c.value; weight = weight_of c.value; placing = c.placing }), (runner_up_of h.summaries c.placing.listed h.count)))
 
 -- and by what is kept: nobody is within any limit
 abbrev pub finished_by : ℕ → Float → HardScan → ExactKept → ExactSelection
-finished_by edges limit h Nobody = Refused (numbered why.none_within_limit)
-finished_by edges limit h (One c) = finished_one edges limit h c
+finished_by edges limit h None = Err (numbered why.none_within_limit)
+finished_by edges limit h (Some c) = finished_one edges limit h c
 
 -- what the scan comes to
 unfoldable pub finished : ℕ → Float → ExactScan → ExactSelection
@@ -116,8 +113,8 @@ pub record SoundOne (edges : ℕ) (h : HardScan) (c : ExactCandidate) : Type 0 w
 
 -- where there is one
 abbrev pub SoundKept : ℕ → HardScan → ExactKept → Type 0
-SoundKept edges h Nobody = Unit {0}
-SoundKept edges h (One c) = SoundOne edges h c
+SoundKept edges h None = Unit {0}
+SoundKept edges h (Some c) = SoundOne edges h c
 
 -- of a scan
 abbrev pub SoundExact : ℕ → ExactScan → Type 0

@@ -1,5 +1,5 @@
 -- Laws of the exact scan: what is known of a transform's two tables of values, how large its keys are, what is kept, and the fold put together.
-use Rattle.std.specs.Prelude.{◌≡◌, true, false, List, ℕ, ◌+◌, ◌*◌, ◌≤◌, ◌<◌, length, Float}
+use Rattle.std.specs.Prelude.{◌≡◌, true, false, List, ℕ, ◌+◌, ◌*◌, ◌≤◌, ◌<◌, length, Float, Err, None, Ok}
 use Rattle.std.proofs.Common.{arith, le-leb}
 use Rattle.std.proofs.lemmas.Bool.{lt-leb}
 use Rattle.refusals.specs.Numbers.{numbered}
@@ -14,7 +14,6 @@ use Rattle.scan.specs.Scan.{over_limit, pushed, runner_up_of}
 use Rattle.scan.specs.declared.scan.TransformSummary.{TransformSummary}
 use Rattle.scan.specs.declared.scan.HardScan.{HardScan}
 use Rattle.scan.specs.declared.scan.RunnerUp.{RunnerUp}
-use Rattle.scan.specs.declared.scan.Kept.TheVariants.{Nobody}
 use Rattle.folding.specs.Transform.{BestOk, best_hits, runner_up_within, competitor_of, summary_of}
 use Rattle.folding.specs.TransformLaws.{within-small}
 use Rattle.folding.specs.declared.transform.Ranked.{Ranked}
@@ -24,9 +23,8 @@ use Rattle.values.specs.ValuesLaws.{PairTop, cell_in, cell-top, second-inside}
 use Rattle.values.specs.declared.table.ValueMax.{ValueMax}
 use Rattle.exact_scan.specs.Exact.{ValueTables, ValuesOk, summary_by, exact_origin, exact_summary, candidate_at, exact_candidate, better_of, taken, fold_exact, finished_one}
 use Rattle.exact_scan.specs.declared.kept.ExactCandidate.{ExactCandidate}
-use Rattle.exact_scan.specs.declared.kept.ExactKept.{ExactKept}
+use Rattle.exact_scan.specs.Kinds.{ExactKept}
 use Rattle.exact_scan.specs.declared.kept.ExactScan.{ExactScan}
-use Rattle.exact_scan.specs.declared.kept.ExactSelection.TheVariants.{Refused, Selected}
 
 -- ---- the tables
 -- what is known of what two tables say, and of their best origin
@@ -104,7 +102,7 @@ module _ (L M : ℕ) (p : Period L) (q : Period M) (X : ValueTables) (ok : Value
       → first ≡ first_origin L M hs vs a b
       → s ≡ summary_by L M t (by_hits a) (by_hits b) first
       → best ≡ taken scan.best (record { value = best_value a b; placing = record { listed = scan.positions.count; row = s.best.row; col = s.best.col } })
-      → positions ≡ pushed scan.positions s Nobody
+      → positions ≡ pushed scan.positions s None
       → record { positions = positions; best = best } ≡ fold_exact L M t X scan
   unfolding fold_exact exact_summary exact_candidate exact_origin candidate_at summary_by summary_of competitor_of
   folded t scan a b first s best positions ea eb ef es ek ep = rw (ep, ek, es, ef, ea, eb)
@@ -134,11 +132,11 @@ module _ (k c : ExactCandidate) where
 
 -- ---- what the scan comes to
 module _ (edges : ℕ) (limit : Float) (h : HardScan) (c : ExactCandidate) (hits : ℕ) (e : hits ≡ hits_of c.value) where
-  pub finish-over : over_limit edges limit hits ≡ true → Refused (numbered why.none_within_limit) ≡ finished_one edges limit h c
+  pub finish-over : over_limit edges limit hits ≡ true → Err (numbered why.none_within_limit) ≡ finished_one edges limit h c
   unfolding finished_one
   finish-over t = rw (← e, t)
 
   pub finish-within : (weight : ℕ) (r : RunnerUp) → over_limit edges limit hits ≡ false → weight ≡ weight_of c.value → r ≡ runner_up_of h.summaries c.placing.listed h.count
-      → Selected (record { hits = hits; weight = weight; placing = c.placing }) r ≡ finished_one edges limit h c
+      → Ok ((record { hits = hits; weight = weight; placing = c.placing }), r) ≡ finished_one edges limit h c
   unfolding finished_one
   finish-within weight r t ew er = rw (← e, t, ← ew, ← er)

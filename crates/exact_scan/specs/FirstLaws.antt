@@ -1,6 +1,6 @@
 -- What the exact scan keeps: of all placings the one of greatest value, of those the one at the earliest list position, and there the row-major first. And its runner-up: the most hits that another
 -- placing has.
-use Rattle.std.specs.Prelude.{◌≡◌, Bool, true, List, length, get_or, Float}
+use Rattle.std.specs.Prelude.{◌≡◌, Bool, true, List, length, get_or, Float, Some}
 use Rattle.std.proofs.Math.Path.{refl, ap, subst}
 use Rattle.std.proofs.Common.{sym, ◌∙◌, div-lt_iff_lt-mul, arith}
 use Rattle.std.proofs.Math.Logic.{⊎_elim}
@@ -28,8 +28,7 @@ use Rattle.values.specs.OriginLaws.{first_under, first-is, first-has, greatest, 
 use Rattle.exact_scan.specs.Exact.{ValueTables, ValuesOk, summary_by, exact_origin, exact_summary, candidate_at, exact_candidate, better_of, taken, empty_exact, fold_exact, exact_scanned}
 use Rattle.exact_scan.specs.ExactLaws.{h-two, v-two, stays, greater}
 use Rattle.exact_scan.specs.declared.kept.ExactCandidate.{ExactCandidate}
-use Rattle.exact_scan.specs.declared.kept.ExactKept.{ExactKept}
-use Rattle.exact_scan.specs.declared.kept.ExactKept.TheVariants.{One}
+use Rattle.exact_scan.specs.Kinds.{ExactKept}
 use Rattle.exact_scan.specs.declared.kept.ExactScan.{ExactScan}
 
 -- the value of the origin with the key k, by one transform's tables, and its hits
@@ -164,7 +163,7 @@ module _ (L M : ℕ) (ts : ℕ → ℕ) (tab : ℕ → ValueTables) where
     -- one is kept of the first n positions, and it is the first best
     pub record KeptFirst (n : ℕ) : Type 0 where
       pub one : ExactCandidate
-      pub kept : (scan n).best ≡ One one
+      pub kept : (scan n).best ≡ Some one
       pub first : First n one
 
     pub kept-first : (n : ℕ) → ((i : ℕ) → i < suc n → ValuesOk L M (tab i)) → KeptFirst (suc n)

@@ -1,3 +1,4 @@
 pub mod Exact
 pub mod ExactLaws
 pub mod FirstLaws
+pub mod Kinds

@@ -1,22 +1,21 @@
 // What the exact scan of a list comes to.
-ghost use Rattle.std.specs.Prelude.{◌≡◌};
+ghost use Rattle.std.specs.Prelude.{◌≡◌, Err};
 ghost use Rattle.refusals.specs.Numbers.{numbered, none_within_limit};
-ghost use Rattle.exact_scan.specs.declared.kept.ExactSelection.TheVariants.{Refused};
 ghost use Rattle.exact_scan.specs.Exact.{finished_one, finished, SoundOne, SoundExact};
 
-use crate::kept::{ExactCandidate, ExactKept, ExactScan, ExactSelection, ExactWinner};
-use refusals::{Place, Refusal};
+use crate::kept::{ExactCandidate, ExactScan, ExactSelection, ExactWinner};
+use refusals::Refusal;
 use scan::record::{over_limit, runner_up};
 use scan::scan::HardScan;
 use values::table::{hits_of, weight_of};
 
 // The refusal where no placing is within the limit.
 fn none_within() -> ExactSelection
-    ensures { result ≡ Refused (numbered none_within_limit) }
+    ensures { result ≡ Err (numbered none_within_limit) }
 {
-    ExactSelection::Refused(Refusal {
+    Err(Refusal {
         number: refusals::NONE_WITHIN_LIMIT,
-        place: Place::Nowhere,
+        place: None,
     })
 }
 
@@ -42,7 +41,7 @@ fn finish_one(
         weight,
         placing,
     };
-    ExactSelection::Selected(winner, runner_up)
+    Ok((winner, runner_up))
 }
 
 // What the scan comes to: refused where nothing is kept, else by the kept placing.
@@ -52,7 +51,7 @@ pub fn finish_exact(scan: ExactScan, edges: u32, error_limit: f32) -> ExactSelec
 {
     let kept = scan.best;
     match kept {
-        ExactKept::Nobody => none_within(),
-        ExactKept::One(best) => finish_one(scan.positions, best, edges, error_limit),
+        None => none_within(),
+        Some(best) => finish_one(scan.positions, best, edges, error_limit),
     }
 }

@@ -10,7 +10,7 @@ use board::edge::Placing;
 use folding::transform::{Ranked, runner_up_within, summary};
 use laws::Periods;
 use scan::record::{empty, push};
-use scan::scan::{Kept, TransformSummary};
+use scan::scan::TransformSummary;
 use values::origin::first_origin;
 use values::table::{ValueMax, by_hits, value_max};
 
@@ -19,7 +19,7 @@ pub fn empty_exact() -> ExactScan
     ensures { result ≡ empty_exact }
 {
     let positions = empty();
-    let best = ExactKept::Nobody;
+    let best = None;
     ExactScan { positions, best }
 }
 
@@ -57,10 +57,10 @@ fn take(kept: ExactKept, c: ExactCandidate) -> ExactKept
     ensures { result ≡ taken kept c }
 {
     match kept {
-        ExactKept::Nobody => ExactKept::One(c),
-        ExactKept::One(k) => {
+        None => Some(c),
+        Some(k) => {
             let best = better(k, c);
-            ExactKept::One(best)
+            Some(best)
         }
     }
 }
@@ -91,7 +91,7 @@ pub fn fold_values<'a>(
     let c = ExactCandidate { value, placing };
     let kept = scan.best;
     let best = take(kept, c);
-    let nobody = Kept::Nobody;
+    let nobody = None;
     let positions = push(old, s, nobody);
     ExactScan { positions, best }
 }

@@ -11,11 +11,7 @@ pub struct ExactCandidate {
 }
 
 // What is kept of the placings so far: nobody before the first transform.
-#[derive(Clone, Copy)]
-pub enum ExactKept {
-    Nobody,
-    One(ExactCandidate),
-}
+pub type ExactKept = Option<ExactCandidate>;
 
 // Up to eight transforms: their summaries and how many there are, as document 01's scan holds them (that scan keeps nobody), and what is kept.
 #[derive(Clone, Copy)]
@@ -33,8 +29,4 @@ pub struct ExactWinner {
 }
 
 // What an exact selection comes to: refused (no confidence, nothing within the limit), or the winner with its runner-up.
-#[derive(Clone, Copy)]
-pub enum ExactSelection {
-    Refused(Refusal),
-    Selected(ExactWinner, RunnerUp),
-}
+pub type ExactSelection = Result<(ExactWinner, RunnerUp), Refusal>;

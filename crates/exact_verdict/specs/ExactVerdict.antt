@@ -1,5 +1,5 @@
 -- The verdict on the exact winners (request C-15): document 01's agreement and gate on hits, and what a found answer holds. Weights decide nothing here.
-use Rattle.std.specs.Prelude.{cond, ℕ}
+use Rattle.std.specs.Prelude.{cond, ℕ, Err, Ok}
 use Rattle.refusals.specs.Numbers.{numbered}
 use Rattle.refusals.specs.Numbers as why
 use Rattle.scan.specs.declared.scan.RunnerUp.{RunnerUp}
@@ -8,12 +8,11 @@ use Rattle.figures.specs.Gate.{passed}
 use Rattle.exact_scan.specs.declared.kept.ExactWinner.{ExactWinner}
 use Rattle.verdict.proofs.VerdictTheorems.{test}
 use Rattle.exact_answer.specs.declared.ExactDecoded.{ExactDecoded}
-use Rattle.exact_answer.specs.declared.ExactAnswer.{ExactAnswer}
-use Rattle.exact_answer.specs.declared.ExactAnswer.TheVariants.{Found, Refused}
+use Rattle.exact_answer.specs.Answers.{ExactAnswer}
 
 -- a refusal by its number, and nothing else
 abbrev pub exact_refused_by : ℕ → ExactAnswer
-exact_refused_by n = Refused (numbered n)
+exact_refused_by n = Err (numbered n)
 
 -- "The answer: square, hits, edges, weight and the list's total in units (u64), error rate, and the runner-up with its square, hits and weight": of the winner w under the transform t, where
 -- all edges weigh `total` and the runner-up's hits weigh `runner_weight_of`
@@ -36,5 +35,5 @@ unfoldable pub exact_judged : ℕ → ExactWinner → RunnerUp → ℕ → Exact
 unfolding exact_decoded_of
 exact_judged t w runner s p edges total runner_weight_of =
     cond (test t w.placing s p.placing)
-    (cond (passed edges w.hits runner.hits) (Found (exact_decoded_of t w runner edges total runner_weight_of)) (exact_refused_by why.not_far_ahead))
+    (cond (passed edges w.hits runner.hits) (Ok (exact_decoded_of t w runner edges total runner_weight_of)) (exact_refused_by why.not_far_ahead))
     (exact_refused_by why.lists_disagree)

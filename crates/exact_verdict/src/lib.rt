@@ -7,7 +7,7 @@ ghost use Rattle.exact_verdict.specs.ExactVerdict.{exact_decoded_of, exact_judge
 use answer::Square;
 use exact_answer::{ExactAnswer, ExactDecoded};
 use exact_scan::kept::ExactWinner;
-use refusals::{Place, Refusal};
+use refusals::Refusal;
 use scan::scan::RunnerUp;
 
 // What a found exact answer says of the winner w under transform t, with its runner-up, where all edges weigh `total` and the runner-up's hits `runner_weight`.
@@ -65,17 +65,17 @@ pub fn judge_exact(
             if w.placing.col == p.placing.col {
                 if figures::passes(edges, w.hits, runner.hits) {
                     let found = decoded_exact(t, w, runner, edges, total, runner_weight);
-                    return ExactAnswer::Found(found);
+                    return Ok(found);
                 }
-                return ExactAnswer::Refused(Refusal {
+                return Err(Refusal {
                     number: refusals::NOT_FAR_AHEAD,
-                    place: Place::Nowhere,
+                    place: None,
                 });
             }
         }
     }
-    ExactAnswer::Refused(Refusal {
+    Err(Refusal {
         number: refusals::LISTS_DISAGREE,
-        place: Place::Nowhere,
+        place: None,
     })
 }

@@ -1,7 +1,7 @@
 -- What the exported exact decode promises for all inputs: the public library's answer as a struct, and the lent room as the public library leaves it.
 use Rattle.std.specs.Prelude.{◌≡◌, List, ℕ}
 use Rattle.admission.specs.Calls.{HardCall}
-use Rattle.exact_answer.specs.declared.ExactAnswer.{ExactAnswer}
+use Rattle.exact_answer.specs.Answers.{ExactAnswer}
 use Rattle.decode_exact.specs.ExactAnswer.{ExactCallDone}
 use Rattle.flat_exact.specs.declared.FlatExact.{FlatExact}
 use Rattle.flat_exact.specs.FlatExact.{flat_exact}

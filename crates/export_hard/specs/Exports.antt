@@ -1,7 +1,7 @@
 -- What the exported hard decode promises for all inputs: the public library's answer as a struct, and the lent room as the public library leaves it.
 use Rattle.std.specs.Prelude.{◌≡◌, List, ℕ, Float}
 use Rattle.admission.specs.Calls.{HardCall}
-use Rattle.answer.specs.declared.Answer.{Answer}
+use Rattle.answer.specs.Answers.{Answer}
 use Rattle.decode_hard.specs.HardAnswer.{HardDone}
 use Rattle.flat.specs.declared.flat.FlatAnswer.{FlatAnswer}
 use Rattle.flat.specs.Flat.{flat}

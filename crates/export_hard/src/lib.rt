@@ -5,21 +5,24 @@ ghost use Rattle.board.specs.Hits.{edges, tables};
 ghost use Rattle.admission.specs.Calls.{hard_call};
 ghost use Rattle.export_hard.specs.Exports.{HardFlat};
 
+use admission::call::HardCall;
+use board::list::{Edges, List};
+use board::pattern::Tables;
 use flat::flat::FlatAnswer;
 
 // Hard decode: which square the camera faces by its two edge lists, or a refusal.
 pub fn samburext_decode_hard_3<'a>(
-    lrows: &[i32],
-    lcols: &[i32],
-    lorientations: &[u8],
-    lbits: &[u8],
-    lconfidences: &[f32],
-    prows: &[i32],
-    pcols: &[i32],
-    porientations: &[u8],
-    pbits: &[u8],
-    pconfidences: &[f32],
-    transforms: &[u8],
+    lrows: &'a [i32],
+    lcols: &'a [i32],
+    lorientations: &'a [u8],
+    lbits: &'a [u8],
+    lconfidences: &'a [f32],
+    prows: &'a [i32],
+    pcols: &'a [i32],
+    porientations: &'a [u8],
+    pbits: &'a [u8],
+    pconfidences: &'a [f32],
+    transforms: &'a [u8],
     h: &'a [u8],
     v: &'a [u8],
     error_limit: f32,
@@ -33,23 +36,31 @@ pub fn samburext_decode_hard_3<'a>(
         transforms.now (tables h.now v.now) error_limit)
         counts.old counts.new weights.old weights.new result }
 {
-    let answer = decode_hard::decode_hard(
-        lrows,
-        lcols,
-        lorientations,
-        lbits,
-        lconfidences,
-        prows,
-        pcols,
-        porientations,
-        pbits,
-        pconfidences,
+    let logical = List {
+        edges: Edges {
+            rows: lrows,
+            cols: lcols,
+            orientations: lorientations,
+            bits: lbits,
+        },
+        confidences: lconfidences,
+    };
+    let physical = List {
+        edges: Edges {
+            rows: prows,
+            cols: pcols,
+            orientations: porientations,
+            bits: pbits,
+        },
+        confidences: pconfidences,
+    };
+    let call = HardCall {
+        logical,
+        physical,
         transforms,
-        h,
-        v,
+        tables: Tables { h, v },
         error_limit,
-        counts,
-        weights,
-    );
+    };
+    let answer = decode_hard::decode_hard(call, counts, weights);
     flat::flat::flattened(answer)
 }

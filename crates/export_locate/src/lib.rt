@@ -4,34 +4,36 @@
 ghost use Rattle.board.specs.Hits.{edges, tables};
 ghost use Rattle.export_locate.specs.Exports.{LocateFlat};
 
+use board::list::{Edges, List};
+use board::pattern::Tables;
 use flat_located::FlatLocated;
 
 // Locates one list without lent room: which square the camera faces by hits alone, or a refusal.
-pub fn samburext_locate_3(
-    rows: &[i32],
-    cols: &[i32],
-    orientations: &[u8],
-    bits: &[u8],
-    confidences: &[f32],
-    transforms: &[u8],
-    h: &[u8],
-    v: &[u8],
+pub fn samburext_locate_3<'a>(
+    rows: &'a [i32],
+    cols: &'a [i32],
+    orientations: &'a [u8],
+    bits: &'a [u8],
+    confidences: &'a [f32],
+    transforms: &'a [u8],
+    h: &'a [u8],
+    v: &'a [u8],
     error_limit: f32,
 ) -> FlatLocated
     ensures { LocateFlat (tables h.now v.now)
         (edges rows.now cols.now orientations.now bits.now confidences.now)
         transforms.now error_limit result }
 {
-    let answer = locate::locate(
-        rows,
-        cols,
-        orientations,
-        bits,
+    let list = List {
+        edges: Edges {
+            rows,
+            cols,
+            orientations,
+            bits,
+        },
         confidences,
-        transforms,
-        h,
-        v,
-        error_limit,
-    );
+    };
+    let tables = Tables { h, v };
+    let answer = locate::locate(list, transforms, tables, error_limit);
     flat_located::flattened_located(answer)
 }

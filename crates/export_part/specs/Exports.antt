@@ -2,7 +2,7 @@
 use Rattle.std.specs.Prelude.{◌≡◌, List, ℕ}
 use Rattle.admission.specs.Calls.{HardCall}
 use Rattle.part.specs.declared.Part.{Part}
-use Rattle.part_answer.specs.declared.PartAnswer.{PartAnswer}
+use Rattle.part_answer.specs.Answers.{PartAnswer}
 use Rattle.decode_part.specs.PartAnswer.{PartCallDone}
 use Rattle.flat_part.specs.declared.FlatPart.{FlatPart}
 use Rattle.flat_part.specs.FlatPart.{flat_part}

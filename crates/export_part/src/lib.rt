@@ -5,22 +5,25 @@ ghost use Rattle.board.specs.Hits.{edges, tables};
 ghost use Rattle.admission.specs.Calls.{hard_call};
 ghost use Rattle.export_part.specs.Exports.{part_of, PartFlat};
 
+use admission::call::HardCall;
+use board::list::{Edges, List};
+use board::pattern::Tables;
 use flat_part::FlatPart;
 use part::Part;
 
 // Decode over a part: which square of the part the camera faces by its two edge lists, or a refusal. The part starts at a row and a column, and has so many rows and columns of origins.
 pub fn samburext_decode_part_3<'a>(
-    lrows: &[i32],
-    lcols: &[i32],
-    lorientations: &[u8],
-    lbits: &[u8],
-    lconfidences: &[f32],
-    prows: &[i32],
-    pcols: &[i32],
-    porientations: &[u8],
-    pbits: &[u8],
-    pconfidences: &[f32],
-    transforms: &[u8],
+    lrows: &'a [i32],
+    lcols: &'a [i32],
+    lorientations: &'a [u8],
+    lbits: &'a [u8],
+    lconfidences: &'a [f32],
+    prows: &'a [i32],
+    pcols: &'a [i32],
+    porientations: &'a [u8],
+    pbits: &'a [u8],
+    pconfidences: &'a [f32],
+    transforms: &'a [u8],
     h: &'a [u8],
     v: &'a [u8],
     error_limit: f32,
@@ -44,24 +47,31 @@ pub fn samburext_decode_part_3<'a>(
         rows: part_rows,
         cols: part_cols,
     };
-    let answer = decode_part::decode_part(
-        lrows,
-        lcols,
-        lorientations,
-        lbits,
-        lconfidences,
-        prows,
-        pcols,
-        porientations,
-        pbits,
-        pconfidences,
+    let logical = List {
+        edges: Edges {
+            rows: lrows,
+            cols: lcols,
+            orientations: lorientations,
+            bits: lbits,
+        },
+        confidences: lconfidences,
+    };
+    let physical = List {
+        edges: Edges {
+            rows: prows,
+            cols: pcols,
+            orientations: porientations,
+            bits: pbits,
+        },
+        confidences: pconfidences,
+    };
+    let call = HardCall {
+        logical,
+        physical,
         transforms,
-        h,
-        v,
+        tables: Tables { h, v },
         error_limit,
-        part,
-        counts,
-        units,
-    );
+    };
+    let answer = decode_part::decode_part(call, part, counts, units);
     flat_part::flattened_part(answer)
 }

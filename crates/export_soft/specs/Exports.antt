@@ -1,7 +1,7 @@
 -- What the exported soft decode promises for all inputs: the public library's answer as a struct, and the lent room as the public library leaves it.
 use Rattle.std.specs.Prelude.{◌≡◌, List, ℕ, ℤ, Float}
 use Rattle.admission.specs.Calls.{SoftCall}
-use Rattle.answer.specs.declared.SoftAnswer.{SoftAnswer}
+use Rattle.answer.specs.Answers.{SoftAnswer}
 use Rattle.decode_soft.specs.SoftAnswer.{SoftDone}
 use Rattle.flat.specs.declared.flat_soft.FlatSoft.{FlatSoft}
 use Rattle.flat.specs.FlatSoft.{flat_soft}

@@ -1,17 +1,16 @@
 -- Narrowing a transform number to a byte changes no answer.
-use Rattle.std.specs.Prelude.{◌≡◌, refl, Bool, true, false, ℕ, ltb, length}
+use Rattle.std.specs.Prelude.{◌≡◌, refl, Bool, true, false, ℕ, ltb, length, Err, Ok}
 use Rattle.std.proofs.Common.{sym, ap, ◌∙◌}
 use Rattle.laws.specs.Tests.{clash}
 use Rattle.board.specs.Hits.{EdgeList, Board}
 use Rattle.checks.specs.Checks.{origin_bad}
-use Rattle.refusals.specs.declared.Admission.{Admission}
-use Rattle.refusals.specs.declared.Admission.TheVariants.{Accepted, Refused}
+use Rattle.refusals.specs.Admission.{Admission, accepted}
 use Rattle.refusals.specs.declared.ListName.TheVariants as list
 use Rattle.findings.specs.Findings.{first_found, joined, list_findings, settings_findings}
 use Rattle.admission.specs.Refusals.{tables_bad, stats_admission}
 use Rattle.admission.specs.Accepted.{stats-tests-of}
 use Rattle.answer.specs.declared.MatchStats.{MatchStats}
-use Rattle.answer.specs.declared.StatsAnswer.{StatsAnswer}
+use Rattle.answer.specs.Answers.{StatsAnswer}
 use Rattle.stats.specs.Stats.{stats_answer, stats_of, or_counted}
 use Rattle.flat.specs.Flat.{narrow}
 
@@ -21,9 +20,9 @@ unfolding stats_admission
 same-admission E t s row col B e = ap (λ (b : Bool). first_found (joined (list_findings 0 list.Only E) (settings_findings b (tables_bad B) (origin_bad (length B.h) row col)))) e
 
 -- a transform number above 7 is refused whatever it is, so statistics of the narrowed number are those of the number
-same-refusal : (a : Admission) (s u : MatchStats) → (a ≡ Accepted → ⊥) → or_counted a s ≡ or_counted a u
-same-refusal Accepted s u h = absurd (h refl)
-same-refusal (Refused r) s u h = refl
+same-refusal : (a : Admission) (s u : MatchStats) → (a ≡ accepted → ⊥) → or_counted a s ≡ or_counted a u
+same-refusal (Ok _) s u h = absurd (h refl)
+same-refusal (Err r) s u h = refl
 
 narrow-above : (E : EdgeList) (t row col : ℕ) (B : Board) → ltb 7 t ≡ true → stats_answer E (narrow t) row col B ≡ stats_answer E t row col B
 unfolding narrow stats_answer

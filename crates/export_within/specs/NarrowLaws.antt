@@ -1,14 +1,13 @@
 -- Narrowing a transform number to a byte changes no answer.
-use Rattle.std.specs.Prelude.{◌≡◌, refl, Bool, true, false, ℕ, ltb, length, Float}
+use Rattle.std.specs.Prelude.{◌≡◌, refl, Bool, true, false, ℕ, ltb, length, Float, Err, Ok}
 use Rattle.std.proofs.Common.{sym, ap, ◌∙◌, arith, ltb-true}
 use Rattle.board.specs.Hits.{EdgeList, Board, size}
 use Rattle.checks.specs.Checks.{lengths_differ, size_bad}
-use Rattle.refusals.specs.declared.Admission.{Admission}
-use Rattle.refusals.specs.declared.Admission.TheVariants.{Accepted, Refused}
+use Rattle.refusals.specs.Admission.{Admission, accepted}
 use Rattle.refusals.specs.Numbers as why
 use Rattle.findings.specs.Findings.{refused_if, or_else, first_found, settings_findings}
 use Rattle.admission.specs.Refusals.{tables_bad}
-use Rattle.within_answer.specs.declared.WithinAnswer.{WithinAnswer}
+use Rattle.within_answer.specs.Answers.{WithinAnswer}
 use Rattle.within_admission.specs.WithinAdmission.{setting_bad, within_admission}
 use Rattle.within_admission.specs.WithinAdmissionLaws.{within-accepted}
 use Rattle.within.specs.Within.{judged_of, or_judged, within_answer}
@@ -23,9 +22,9 @@ same-admission E t s row col B limit e =
     or_else (refused_if (lengths_differ E) why.lengths_differ) (or_else (refused_if (size_bad 0 (size E)) why.list_size) (first_found (settings_findings b (tables_bad B) (setting_bad (length B.h) row col limit))))) e
 
 -- a transform number above 7 is refused whatever it is
-same-refusal : (a : Admission) (x y : WithinAnswer) → (a ≡ Accepted → ⊥) → or_judged a x ≡ or_judged a y
-same-refusal Accepted x y h = absurd (h refl)
-same-refusal (Refused r) x y h = refl
+same-refusal : (a : Admission) (x y : WithinAnswer) → (a ≡ accepted → ⊥) → or_judged a x ≡ or_judged a y
+same-refusal (Ok _) x y h = absurd (h refl)
+same-refusal (Err r) x y h = refl
 
 narrow-above : (E : EdgeList) (t row col : ℕ) (B : Board) (limit : Float) → ltb 7 t ≡ true → within_answer E (narrow t) row col B limit ≡ within_answer E t row col B limit
 unfolding narrow within_answer

@@ -3,29 +3,21 @@
 
 ghost use Rattle.std.specs.Prelude.{◌≡◌};
 ghost use Rattle.board.specs.Hits.{edges, tables};
-ghost use Rattle.flat.specs.Flat.{narrow};
 ghost use Rattle.within.specs.Within.{within_answer};
 ghost use Rattle.flat_within.specs.FlatWithin.{flat_within};
 
+use answer::Square;
+use board::list::{Edges, List};
+use board::pattern::Tables;
 use flat_within::FlatWithin;
-
-// A transform number as the byte that the library takes: every number above 7 becomes 255, which is refused as any of them is.
-fn narrowed(transform: u32) -> u8
-    ensures { result ≡ narrow transform }
-{
-    if transform > 7 {
-        return 255;
-    }
-    transform as u8
-}
 
 // Whether a list at one known transform and origin is within the error limit, and how many edges were read to know it, or a refusal.
 pub fn samburext_within_limit_1<'a>(
-    rows: &[i32],
-    cols: &[i32],
-    orientations: &[u8],
-    bits: &[u8],
-    confidences: &[f32],
+    rows: &'a [i32],
+    cols: &'a [i32],
+    orientations: &'a [u8],
+    bits: &'a [u8],
+    confidences: &'a [f32],
     transform: u32,
     row: u32,
     col: u32,
@@ -37,18 +29,21 @@ pub fn samburext_within_limit_1<'a>(
         (edges rows.now cols.now orientations.now bits.now confidences.now)
         transform row col (tables h.now v.now) error_limit) }
 {
-    let answer = within::within_limit(
-        rows,
-        cols,
-        orientations,
-        bits,
+    let list = List {
+        edges: Edges {
+            rows,
+            cols,
+            orientations,
+            bits,
+        },
         confidences,
-        narrowed(transform),
+    };
+    let tables = Tables { h, v };
+    let square = Square {
+        transform: narrowing::narrowed(transform),
         row,
         col,
-        h,
-        v,
-        error_limit,
-    );
+    };
+    let answer = within::within_limit(list, square, tables, error_limit);
     flat_within::flattened_within(answer)
 }

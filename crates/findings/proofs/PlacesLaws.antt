@@ -1,5 +1,5 @@
 -- Every refusal that is found has the right place: part by part, each kind after those before it.
-use Rattle.std.specs.Prelude.{◌≡◌, Bool, cond, List, ℕ, ◌<◌, eqb, length, Float}
+use Rattle.std.specs.Prelude.{◌≡◌, Bool, cond, List, ℕ, ◌<◌, eqb, length, Float, Err, Ok}
 use Rattle.std.proofs.Math.Path.{refl}
 use Rattle.std.proofs.Common.{sym, subst, arith, ltb-true, ltb-false, eqb-true}
 use Rattle.std.proofs.Math.Bool.{true, false}
@@ -10,8 +10,7 @@ use Rattle.laws.specs.Words.{first}
 use Rattle.laws.specs.First.{first_passes, first-before, first-none}
 use Rattle.board.specs.Hits.{EdgeList, size}
 use Rattle.refusals.specs.declared.Refusal.{Refusal}
-use Rattle.refusals.specs.declared.Admission.{Admission}
-use Rattle.refusals.specs.declared.Admission.TheVariants.{Accepted, Refused}
+use Rattle.refusals.specs.Admission.{Admission, accepted}
 use Rattle.refusals.specs.declared.ListName.{ListName}
 use Rattle.refusals.specs.declared.ListName.TheVariants as list
 use Rattle.refusals.specs.Numbers.{numbered, edge_refusal}
@@ -24,23 +23,23 @@ use Rattle.findings.specs.Places.{about_edge, two_lists, one_list, unlikely_in, 
 
 -- a fact of the refusal, where there is one
 unfoldable pub Of : (Refusal → Type 0) → Admission → Type 0
-Of P Accepted = Unit
-Of P (Refused r) = P r
+Of P (Ok _) = Unit
+Of P (Err r) = P r
 
-pub of-refusal : (P : Refusal → Type 0) (a : Admission) (r : Refusal) → Of P a → a ≡ Refused r → P r
+pub of-refusal : (P : Refusal → Type 0) (a : Admission) (r : Refusal) → Of P a → a ≡ Err r → P r
 unfolding Of
 of-refusal P a r h e = subst (Of P) e h
 
 module _ (P : Refusal → Type 0) where
-  of_none : Of P Accepted
+  of_none : Of P accepted
   unfolding Of
   of_none = tt
 
   -- of the first of two, where the second is asked only if the first is accepted
-  of-after : (a b : Admission) → Of P a → (a ≡ Accepted → Of P b) → Of P (or_else a b)
+  of-after : (a b : Admission) → Of P a → (a ≡ accepted → Of P b) → Of P (or_else a b)
   unfolding Of or_else
-  of-after Accepted b p q = q refl
-  of-after (Refused r) b p q = p
+  of-after (Ok _) b p q = q refl
+  of-after (Err r) b p q = p
 
   of-else : (a b : Admission) → Of P a → Of P b → Of P (or_else a b)
   of-else a b p q = of-after a b p (λ e. q)
@@ -60,7 +59,7 @@ module _ (P : Refusal → Type 0) where
   pub record Each (f : Findings) : Type 0 where
     pub room : Of P f.room
     pub lengths : Of P f.lengths
-    pub rest : f.lengths ≡ Accepted → Rest f
+    pub rest : f.lengths ≡ accepted → Rest f
 
   pub each-joined : (f g : Findings) → Each f → Each g → Each (joined f g)
   each-joined f g p q = record {
@@ -116,7 +115,7 @@ module _ (count : ListName → ℕ) (bad : ℕ → ListName → ℕ → Bool) wh
     unfolding Of
     right-at h g q = go (ltb (first (bad n l) k) k) refl
       where
-        go : (b : Bool) → ltb (first (bad n l) k) k ≡ b → Of P (cond b (Refused (edge_refusal n l (first (bad n l) k))) Accepted)
+        go : (b : Bool) → ltb (first (bad n l) k) k ≡ b → Of P (cond b (Err (edge_refusal n l (first (bad n l) k))) accepted)
         go true e = record {
           fits = h;
           points = record {
@@ -129,10 +128,10 @@ module _ (count : ListName → ℕ) (bad : ℕ → ListName → ℕ → Bool) wh
         go false e = tt
 
     -- nothing found in a list: none of its edges is bad
-    none-at : refused_at n l (first (bad n l) k) k ≡ Accepted → k ≡ count l → (j : ℕ) → j < count l → bad n l j ≡ false
+    none-at : refused_at n l (first (bad n l) k) k ≡ accepted → k ≡ count l → (j : ℕ) → j < count l → bad n l j ≡ false
     none-at e q = go (ltb (first (bad n l) k) k) refl e
       where
-        go : (b : Bool) → ltb (first (bad n l) k) k ≡ b → cond b (Refused (edge_refusal n l (first (bad n l) k))) Accepted ≡ Accepted → (j : ℕ) → j < count l → bad n l j ≡ false
+        go : (b : Bool) → ltb (first (bad n l) k) k ≡ b → cond b (Err (edge_refusal n l (first (bad n l) k))) accepted ≡ accepted → (j : ℕ) → j < count l → bad n l j ≡ false
         go true w e = let z : ◌≡◌ {A = ℕ} 0 1 = cc in absurd (omega arith)
         go false w e = rw (sym q) (first-none (bad n l) k (ltb-false (first (bad n l) k) k w))
 
@@ -196,7 +195,7 @@ module _ (L E : EdgeList) (unlikely : ListName → ℕ → Bool) where
   each-lists =
       let P = PlaceRight count bad in
       record {
-        room = of-else P Accepted Accepted (of_none P) (of_none P);
+        room = of-else P accepted accepted (of_none P) (of_none P);
         lengths = of-else P (refused_if (lengths_differ L) why.lengths_differ) (refused_if (lengths_differ E) why.lengths_differ) (right-if count bad (lengths_differ L) why.lengths_differ refl) (right-if count bad (lengths_differ E) why.lengths_differ refl);
         rest = λ e.
             let b = both-accepted (refused_if (lengths_differ L) why.lengths_differ) (refused_if (lengths_differ E) why.lengths_differ) e in
@@ -208,10 +207,10 @@ module _ (L E : EdgeList) (unlikely : ListName → ℕ → Bool) where
               orientation = right-both count bad why.bad_orientation (length L.orientations) (length E.orientations) refl l.0 p.0;
               bit = right-both count bad why.bad_bit (length L.bits) (length E.bits) refl l.1 p.1;
               confidence = right-both count bad why.bad_confidence (length L.confidences) (length E.confidences) refl l.2 p.2;
-              likelihood = of-else P Accepted Accepted (of_none P) (of_none P);
-              transform = of-else P Accepted Accepted (of_none P) (of_none P);
-              table = of-else P Accepted Accepted (of_none P) (of_none P);
-              setting = of-else P Accepted Accepted (of_none P) (of_none P);
+              likelihood = of-else P accepted accepted (of_none P) (of_none P);
+              transform = of-else P accepted accepted (of_none P) (of_none P);
+              table = of-else P accepted accepted (of_none P) (of_none P);
+              setting = of-else P accepted accepted (of_none P) (of_none P);
             };
       }
 

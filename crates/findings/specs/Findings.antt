@@ -1,9 +1,8 @@
 -- What is found wrong with a call, kind by kind, and the refusal that comes of it. Document 01, 'Refusal numbers': "1 to 9 come first, lowest number over all lists", and C-11: "16
 -- orientation and 17 bit come between 4 and 5 .. logical list first". So the kind goes before the list: a bad coordinate of the physical list comes before a bad orientation of the logical one.
-use Rattle.std.specs.Prelude.{Bool, cond, List, [], ◌∷◌, ℕ, ltb, length, Float}
+use Rattle.std.specs.Prelude.{Bool, cond, List, [], ◌∷◌, ℕ, ltb, length, Float, Err, Ok}
 use Rattle.board.specs.Hits.{EdgeList, size}
-use Rattle.refusals.specs.declared.Admission.{Admission}
-use Rattle.refusals.specs.declared.Admission.TheVariants.{Accepted, Refused}
+use Rattle.refusals.specs.Admission.{Admission, accepted}
 use Rattle.refusals.specs.declared.ListName.{ListName}
 use Rattle.refusals.specs.declared.ListName.TheVariants as list
 use Rattle.refusals.specs.Numbers.{numbered, edge_refusal}
@@ -13,20 +12,20 @@ use Rattle.ranges.specs.Ranges.{first_bad_byte, first_bad_confidence}
 
 -- refused by a number where it applies
 abbrev pub refused_if : Bool → ℕ → Admission
-refused_if bad number = cond bad (Refused (numbered number)) Accepted
+refused_if bad number = cond bad (Err (numbered number)) accepted
 
 -- refused at position i of a list of n edges; where no edge is bad, the position is n
 abbrev pub refused_at : ℕ → ListName → ℕ → ℕ → Admission
-refused_at number l i n = cond (ltb i n) (Refused (edge_refusal number l i)) Accepted
+refused_at number l i n = cond (ltb i n) (Err (edge_refusal number l i)) accepted
 
 -- the first of two that is a refusal
 unfoldable pub or_else : Admission → Admission → Admission
-or_else Accepted b = b
-or_else (Refused r) b = Refused r
+or_else (Ok _) b = b
+or_else (Err r) b = Err r
 
 -- the first of several that is a refusal
 unfoldable pub first_of : List Admission → Admission
-first_of [] = Accepted
+first_of [] = accepted
 first_of (a ∷ xs) = or_else a (first_of xs)
 
 -- what is found, of each kind
@@ -72,32 +71,32 @@ joined f g = record {
 unfoldable pub room_findings : Bool → Findings
 room_findings short = record {
   room = refused_if short why.room_too_short;
-  lengths = Accepted;
-  size = Accepted;
-  coordinate = Accepted;
-  orientation = Accepted;
-  bit = Accepted;
-  confidence = Accepted;
-  likelihood = Accepted;
-  transform = Accepted;
-  table = Accepted;
-  setting = Accepted;
+  lengths = accepted;
+  size = accepted;
+  coordinate = accepted;
+  orientation = accepted;
+  bit = accepted;
+  confidence = accepted;
+  likelihood = accepted;
+  transform = accepted;
+  table = accepted;
+  setting = accepted;
 }
 
 -- in one list, which must have at least `least` edges: C-11: "let each refusal about an edge field carry the list and the position of the first bad edge of that kind"
 unfoldable pub list_findings : ℕ → ListName → EdgeList → Findings
 list_findings least l E = record {
-  room = Accepted;
+  room = accepted;
   lengths = refused_if (lengths_differ E) why.lengths_differ;
   size = refused_if (size_bad least (size E)) why.list_size;
   coordinate = refused_at why.bad_coordinate l (first_bad_coordinate E.rows E.cols) (size E);
   orientation = refused_at why.bad_orientation l (first_bad_byte 1 E.orientations) (length E.orientations);
   bit = refused_at why.bad_bit l (first_bad_byte 1 E.bits) (length E.bits);
   confidence = refused_at why.bad_confidence l (first_bad_confidence E.confidences) (length E.confidences);
-  likelihood = Accepted;
-  transform = Accepted;
-  table = Accepted;
-  setting = Accepted;
+  likelihood = accepted;
+  transform = accepted;
+  table = accepted;
+  setting = accepted;
 }
 
 -- the kinds of a list that are about an edge, in the order
@@ -110,30 +109,30 @@ fields_found l E =
 -- in the likelihoods of the physical list, of n edges: they are as many as its edges, and so not over 8,192; a match or a mismatch likelihood is one kind
 unfoldable pub likelihood_findings : ℕ → List Float → List Float → Findings
 likelihood_findings n ms us = record {
-  room = Accepted;
+  room = accepted;
   lengths = refused_if (likelihoods_differ n ms us) why.lengths_differ;
   size = refused_if (size_bad 0 (length ms)) why.list_size;
-  coordinate = Accepted;
-  orientation = Accepted;
-  bit = Accepted;
-  confidence = Accepted;
+  coordinate = accepted;
+  orientation = accepted;
+  bit = accepted;
+  confidence = accepted;
   likelihood = refused_at why.bad_likelihood list.Physical (first_bad_likelihood ms us) (length ms);
-  transform = Accepted;
-  table = Accepted;
-  setting = Accepted;
+  transform = accepted;
+  table = accepted;
+  setting = accepted;
 }
 
 -- in the transforms, the tables and the other settings
 unfoldable pub settings_findings : Bool → Bool → Bool → Findings
 settings_findings transforms tables rest = record {
-  room = Accepted;
-  lengths = Accepted;
-  size = Accepted;
-  coordinate = Accepted;
-  orientation = Accepted;
-  bit = Accepted;
-  confidence = Accepted;
-  likelihood = Accepted;
+  room = accepted;
+  lengths = accepted;
+  size = accepted;
+  coordinate = accepted;
+  orientation = accepted;
+  bit = accepted;
+  confidence = accepted;
+  likelihood = accepted;
   transform = refused_if transforms why.bad_transform;
   table = refused_if tables why.bad_table;
   setting = refused_if rest why.bad_setting;

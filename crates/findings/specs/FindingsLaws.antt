@@ -1,13 +1,12 @@
 -- Laws of what is found: the steps of the code that puts findings together, and that a call is accepted exactly when nothing is found.
-use Rattle.std.specs.Prelude.{◌≡◌, refl, Bool, true, false, cond, List, ℕ, ◌≤◌, ◌<◌, ltb, eqb, length, Float}
+use Rattle.std.specs.Prelude.{◌≡◌, refl, Bool, true, false, cond, List, ℕ, ◌≤◌, ◌<◌, ltb, eqb, length, Float, Err, Ok}
 use Rattle.std.proofs.Math.Path.{sym, ap}
 use Rattle.std.proofs.Common.{◌∙◌, arith, lt-ltb, le-ltb, ltb-false, eqb-true}
 use Rattle.std.proofs.lemmas.Bool.{not-false}
 use Rattle.laws.specs.Tests.{or-false, and-true}
 use Rattle.board.specs.Hits.{EdgeList, size}
 use Rattle.refusals.specs.declared.Refusal.{Refusal}
-use Rattle.refusals.specs.declared.Admission.{Admission}
-use Rattle.refusals.specs.declared.Admission.TheVariants.{Accepted, Refused}
+use Rattle.refusals.specs.Admission.{Admission, accepted}
 use Rattle.refusals.specs.declared.ListName.{ListName}
 use Rattle.refusals.specs.declared.ListName.TheVariants as list
 use Rattle.refusals.specs.Numbers.{numbered, edge_refusal}
@@ -17,63 +16,63 @@ use Rattle.ranges.specs.Ranges.{first_bad_byte, first_bad_confidence}
 use Rattle.findings.specs.Findings.{refused_if, refused_at, or_else, first_of, Findings, first_found, joined, room_findings, list_findings, fields_found, likelihood_findings, settings_findings}
 
 -- accepted is no refusal
-pub no-refusal : {A : Type 0} (r : Refusal) → Accepted ≡ Refused r → A
+pub no-refusal : {A : Type 0} (r : Refusal) → accepted ≡ Err r → A
 no-refusal r e = let z : ◌≡◌ {A = ℕ} 0 1 = cc in absurd (omega arith)
 
 -- ---- the first of two
-pub else-accepted : (a b : Admission) → a ≡ Accepted → b ≡ or_else a b
+pub else-accepted : (a b : Admission) → a ≡ accepted → b ≡ or_else a b
 unfolding or_else
 else-accepted a b e = ap (λ (x : Admission). or_else x b) (sym e)
 
-pub else-refused : (a b : Admission) (r : Refusal) → a ≡ Refused r → Refused r ≡ or_else a b
+pub else-refused : (a b : Admission) (r : Refusal) → a ≡ Err r → Err r ≡ or_else a b
 unfolding or_else
 else-refused a b r e = ap (λ (x : Admission). or_else x b) (sym e)
 
-pub else-none : (a : Admission) → or_else a Accepted ≡ a
+pub else-none : (a : Admission) → or_else a accepted ≡ a
 unfolding or_else
-else-none Accepted = refl
-else-none (Refused r) = refl
+else-none (Ok _) = refl
+else-none (Err r) = refl
 
-pub both-accepted : (a b : Admission) → or_else a b ≡ Accepted → (a ≡ Accepted) × (b ≡ Accepted)
+pub both-accepted : (a b : Admission) → or_else a b ≡ accepted → (a ≡ accepted) × (b ≡ accepted)
 unfolding or_else
-both-accepted Accepted b e = (refl, e)
-both-accepted (Refused r) b e = no-refusal r (sym e)
+both-accepted (Ok _) b e = (refl, e)
+both-accepted (Err r) b e = no-refusal r (sym e)
 
 -- ---- a position that is none of a bad edge, and one that is
-pub at_none : (number : ℕ) (l : ListName) (i n : ℕ) → n ≤ i → Accepted ≡ refused_at number l i n
+pub at_none : (number : ℕ) (l : ListName) (i n : ℕ) → n ≤ i → accepted ≡ refused_at number l i n
 at_none number l i n h = rw (le-ltb i n h)
 
-pub at_some : (number : ℕ) (l : ListName) (i n : ℕ) → i < n → Refused (edge_refusal number l i) ≡ refused_at number l i n
+pub at_some : (number : ℕ) (l : ListName) (i n : ℕ) → i < n → Err (edge_refusal number l i) ≡ refused_at number l i n
 at_some number l i n h = rw (lt-ltb i n h)
 
 -- ---- nothing found
-pub if-accepted : (b : Bool) (n : ℕ) → refused_if b n ≡ Accepted → b ≡ false
+pub if-accepted : (b : Bool) (n : ℕ) → refused_if b n ≡ accepted → b ≡ false
 if-accepted true n e = no-refusal _ (sym e)
 if-accepted false n e = refl
 
-pub at-accepted : (number : ℕ) (l : ListName) (i n : ℕ) → refused_at number l i n ≡ Accepted → ltb i n ≡ false
+pub at-accepted : (number : ℕ) (l : ListName) (i n : ℕ) → refused_at number l i n ≡ accepted → ltb i n ≡ false
 at-accepted number l i n e = go (ltb i n) e
   where
-    go : (b : Bool) → cond b (Refused (edge_refusal number l i)) Accepted ≡ Accepted → b ≡ false
+    go : (b : Bool) → cond b (Err (edge_refusal number l i)) accepted ≡ accepted → b ≡ false
     go true e = no-refusal _ (sym e)
     go false e = refl
 
 -- nothing of any kind
 pub record Clean (f : Findings) : Type 0 where
-  pub room : f.room ≡ Accepted
-  pub lengths : f.lengths ≡ Accepted
-  pub size : f.size ≡ Accepted
-  pub coordinate : f.coordinate ≡ Accepted
-  pub orientation : f.orientation ≡ Accepted
-  pub bit : f.bit ≡ Accepted
-  pub confidence : f.confidence ≡ Accepted
-  pub likelihood : f.likelihood ≡ Accepted
-  pub transform : f.transform ≡ Accepted
-  pub table : f.table ≡ Accepted
-  pub setting : f.setting ≡ Accepted
+  pub room : f.room ≡ accepted
+  pub lengths : f.lengths ≡ accepted
+  pub size : f.size ≡ accepted
+  pub coordinate : f.coordinate ≡ accepted
+  pub orientation : f.orientation ≡ accepted
+  pub bit : f.bit ≡ accepted
+  pub confidence : f.confidence ≡ accepted
+  pub likelihood : f.likelihood ≡ accepted
+  pub transform : f.transform ≡ accepted
+  pub table : f.table ≡ accepted
+  pub setting : f.setting ≡ accepted
 
 -- accepted exactly when nothing is found
-pub clean_of : (f : Findings) → first_found f ≡ Accepted → Clean f
+pub clean_of : (f : Findings) → first_found f ≡ accepted → Clean f
 unfolding first_found first_of
 clean_of f e =
     let a1 = both-accepted f.room _ e in
@@ -101,7 +100,7 @@ clean_of f e =
       setting = a11.0;
     }
 
-pub of-clean : (f : Findings) → Clean f → first_found f ≡ Accepted
+pub of-clean : (f : Findings) → Clean f → first_found f ≡ accepted
 unfolding first_found first_of or_else
 of-clean f k = rw (k.room, k.lengths, k.size, k.coordinate, k.orientation, k.bit, k.confidence, k.likelihood, k.transform, k.table, k.setting)
 
@@ -148,7 +147,7 @@ clean-parts f g k =
     )
 
 -- the two of them together
-pub neither : (a b : Admission) → a ≡ Accepted → b ≡ Accepted → or_else a b ≡ Accepted
+pub neither : (a b : Admission) → a ≡ accepted → b ≡ accepted → or_else a b ≡ accepted
 unfolding or_else
 neither a b p q = rw (p, q)
 
@@ -184,11 +183,11 @@ unfolding size_bad
 few-edges least n h = ltb-false 8192 n (or-false (ltb n least) (ltb 8192 n) h).1
 
 module _ (least : ℕ) (l : ListName) (E : EdgeList) where
-  pub list-lengths : lengths_differ E ≡ true → Refused (numbered why.lengths_differ) ≡ first_found (list_findings least l E)
+  pub list-lengths : lengths_differ E ≡ true → Err (numbered why.lengths_differ) ≡ first_found (list_findings least l E)
   unfolding first_found first_of or_else list_findings
   list-lengths h = sym (rw h)
 
-  pub list-size : lengths_differ E ≡ false → size_bad least (size E) ≡ true → Refused (numbered why.list_size) ≡ first_found (list_findings least l E)
+  pub list-size : lengths_differ E ≡ false → size_bad least (size E) ≡ true → Err (numbered why.list_size) ≡ first_found (list_findings least l E)
   unfolding first_found first_of or_else list_findings
   list-size d h = sym (rw (d, h))
 
@@ -204,11 +203,11 @@ unfolding fields_found list_findings
 fields-found l E i j k m p q r s = rw (p, q, r, s) refl
 
 module _ (n : ℕ) (ms us : List Float) where
-  pub likelihood-lengths : likelihoods_differ n ms us ≡ true → Refused (numbered why.lengths_differ) ≡ first_found (likelihood_findings n ms us)
+  pub likelihood-lengths : likelihoods_differ n ms us ≡ true → Err (numbered why.lengths_differ) ≡ first_found (likelihood_findings n ms us)
   unfolding first_found first_of or_else likelihood_findings
   likelihood-lengths h = sym (rw h)
 
-  pub likelihood-size : likelihoods_differ n ms us ≡ false → size_bad 0 (length ms) ≡ true → Refused (numbered why.list_size) ≡ first_found (likelihood_findings n ms us)
+  pub likelihood-size : likelihoods_differ n ms us ≡ false → size_bad 0 (length ms) ≡ true → Err (numbered why.list_size) ≡ first_found (likelihood_findings n ms us)
   unfolding first_found first_of or_else likelihood_findings
   likelihood-size d h = sym (rw (d, h))
 

@@ -1,12 +1,11 @@
 -- The first of two refusals, by rank, is what is found in two parts together: so that each part may be judged by itself, and the parts put together in any depth.
-use Rattle.std.specs.Prelude.{◌≡◌, Bool, true, false, cond, ◌&&◌, ◌⊎◌, List, [], ◌∷◌, ℕ, ◌<◌, ltb, length, Float}
+use Rattle.std.specs.Prelude.{◌≡◌, Bool, true, false, cond, ◌&&◌, ◌⊎◌, List, [], ◌∷◌, ℕ, ◌<◌, ltb, length, Float, Err, Ok}
 use Rattle.std.proofs.Math.Path.{refl}
 use Rattle.std.proofs.Common.{sym, ap, ◌∙◌, inl, inr, arith, lt-ltb, le-ltb, ltb-true}
 use Rattle.laws.specs.Tests.{and-true}
 use Rattle.board.specs.Hits.{EdgeList, size}
 use Rattle.refusals.specs.declared.Refusal.{Refusal}
-use Rattle.refusals.specs.declared.Admission.{Admission}
-use Rattle.refusals.specs.declared.Admission.TheVariants.{Accepted, Refused}
+use Rattle.refusals.specs.Admission.{Admission, accepted}
 use Rattle.refusals.specs.declared.ListName.{ListName}
 use Rattle.refusals.specs.declared.ListName.TheVariants as list
 use Rattle.refusals.specs.Numbers.{numbered, edge_refusal}
@@ -19,37 +18,37 @@ use Rattle.findings.specs.FindingsLaws.{no-refusal}
 
 -- accepted, or refused by the number k
 abbrev pub Kind : ℕ → Admission → Type 0
-Kind k Accepted = Unit
-Kind k (Refused r) = r.number ≡ k
+Kind k (Ok _) = Unit
+Kind k (Err r) = r.number ≡ k
 
 -- accepted, or refused later than by k
 abbrev Later : ℕ → Admission → Type 0
-Later k Accepted = Unit
-Later k (Refused r) = ranked k < ranked r.number
+Later k (Ok _) = Unit
+Later k (Err r) = ranked k < ranked r.number
 
 -- ---- one kind in two parts
 module _ (k : ℕ) where
-  left-first : (r : Refusal) (y : Admission) → r.number ≡ k → Later k y → earlier (Refused r) y ≡ Refused r
+  left-first : (r : Refusal) (y : Admission) → r.number ≡ k → Later k y → earlier (Err r) y ≡ Err r
   unfolding earlier
-  left-first r Accepted e h = refl
-  left-first r (Refused s) e h = let l : ranked r.number < ranked s.number = rw e h in rw (le-ltb (ranked s.number) (ranked r.number) (omega arith))
+  left-first r (Ok _) e h = refl
+  left-first r (Err s) e h = let l : ranked r.number < ranked s.number = rw e h in rw (le-ltb (ranked s.number) (ranked r.number) (omega arith))
 
-  right-first : (x : Admission) (s : Refusal) → s.number ≡ k → Later k x → earlier x (Refused s) ≡ Refused s
+  right-first : (x : Admission) (s : Refusal) → s.number ≡ k → Later k x → earlier x (Err s) ≡ Err s
   unfolding earlier
-  right-first Accepted s e h = refl
-  right-first (Refused r) s e h = let l : ranked s.number < ranked r.number = rw e h in rw (lt-ltb (ranked s.number) (ranked r.number) l)
+  right-first (Ok _) s e h = refl
+  right-first (Err r) s e h = let l : ranked s.number < ranked r.number = rw e h in rw (lt-ltb (ranked s.number) (ranked r.number) l)
 
   one-kind : (a b x y : Admission) → Kind k a → Kind k b → Later k x → Later k y → earlier (or_else a x) (or_else b y) ≡ or_else (or_else a b) (earlier x y)
   unfolding or_else earlier
-  one-kind Accepted Accepted x y p q g h = refl
-  one-kind Accepted (Refused s) x y p q g h = right-first x s q g
-  one-kind (Refused r) Accepted x y p q g h = left-first r y p h
-  one-kind (Refused r) (Refused s) x y p q g h = let e : ranked s.number ≡ ranked r.number = rw (p, q) refl in rw (le-ltb (ranked s.number) (ranked r.number) (omega arith))
+  one-kind (Ok _) (Ok _) x y p q g h = refl
+  one-kind (Ok _) (Err s) x y p q g h = right-first x s q g
+  one-kind (Err r) (Ok _) x y p q g h = left-first r y p h
+  one-kind (Err r) (Err s) x y p q g h = let e : ranked s.number ≡ ranked r.number = rw (p, q) refl in rw (le-ltb (ranked s.number) (ranked r.number) (omega arith))
 
   later-else : (j : ℕ) (a x : Admission) → Kind j a → ranked k < ranked j → Later k x → Later k (or_else a x)
   unfolding or_else
-  later-else j Accepted x p l h = h
-  later-else j (Refused r) x p l h = rw p l
+  later-else j (Ok _) x p l h = h
+  later-else j (Err r) x p l h = rw p l
 
 -- ---- all kinds, in an order of rising rank
 abbrev Kinds : List ℕ → List Admission → Type 0
@@ -118,14 +117,14 @@ if-kind false k = tt
 pub at-kind : (k : ℕ) (l : ListName) (i n : ℕ) → Kind k (refused_at k l i n)
 at-kind k l i n = go (ltb i n)
   where
-    go : (b : Bool) → Kind k (cond b (Refused (edge_refusal k l i)) Accepted)
+    go : (b : Bool) → Kind k (cond b (Err (edge_refusal k l i)) accepted)
     go true = refl
     go false = tt
 
 else-kind : (k : ℕ) (a b : Admission) → Kind k a → Kind k b → Kind k (or_else a b)
 unfolding or_else
-else-kind k Accepted b p q = q
-else-kind k (Refused r) b p q = p
+else-kind k (Ok _) b p q = q
+else-kind k (Err r) b p q = p
 
 paired-kinds : (ks : List ℕ) (xs ys : List Admission) → Kinds ks xs → Kinds ks ys → Kinds ks (paired xs ys)
 paired-kinds [] [] (b ∷ ys) p q = elim q [ ]
@@ -169,13 +168,13 @@ abbrev In : ℕ → List ℕ → Type 0
 In n [] = ⊥
 In n (k ∷ ks) = (n ≡ k) ⊎ In n ks
 
-of-kinds : (ks : List ℕ) (xs : List Admission) (r : Refusal) → Kinds ks xs → first_of xs ≡ Refused r → In r.number ks
+of-kinds : (ks : List ℕ) (xs : List Admission) (r : Refusal) → Kinds ks xs → first_of xs ≡ Err r → In r.number ks
 unfolding first_of or_else
 of-kinds [] (_ ∷ xs) r p e = elim p [ ]
 of-kinds (k ∷ ks) [] r p e = elim p [ ]
 of-kinds [] [] r p e = no-refusal r e
-of-kinds (k ∷ ks) (Accepted ∷ xs) r p e = inr (of-kinds ks xs r p.1 e)
-of-kinds (k ∷ ks) (Refused s ∷ xs) r p e = let z : s ≡ r = cc in inl (ap (λ (x : Refusal). x.number) (sym z) ∙ p.0)
+of-kinds (k ∷ ks) ((Ok _) ∷ xs) r p e = inr (of-kinds ks xs r p.1 e)
+of-kinds (k ∷ ks) (Err s ∷ xs) r p e = let z : s ≡ r = cc in inl (ap (λ (x : Refusal). x.number) (sym z) ∙ p.0)
 
 early-in : (n : ℕ) → In n order → why.Early n
 early-in n (inl e) = inl (omega arith, omega arith)
@@ -191,6 +190,6 @@ early-in n (inr (inr (inr (inr (inr (inr (inr (inr (inr (inl e)))))))))) = inl (
 early-in n (inr (inr (inr (inr (inr (inr (inr (inr (inr (inr (inr x11))))))))))) = elim x11 [ ]
 early-in n (inr (inr (inr (inr (inr (inr (inr (inr (inr (inr (inl e))))))))))) = inl (omega arith, omega arith)
 
-pub found_early : (f : Findings) (r : Refusal) → Sorted f → first_found f ≡ Refused r → why.Early r.number
+pub found_early : (f : Findings) (r : Refusal) → Sorted f → first_found f ≡ Err r → why.Early r.number
 unfolding first_found
 found_early f r p e = early-in r.number (of-kinds order (in_order f) r p e)

@@ -1,10 +1,8 @@
 -- C-11, where a refusal points to: "let each refusal about an edge field carry the list and the position of the first bad edge of that kind". What that means, without the code's search.
-use Rattle.std.specs.Prelude.{◌≡◌, Bool, true, false, cond, ◌||◌, List, [], ℕ, ◌<◌, eqb, Float}
-use Rattle.board.specs.Hits.{EdgeList, edges, size}
+use Rattle.std.specs.Prelude.{◌≡◌, Bool, true, false, cond, ◌||◌, List, [], ℕ, ◌<◌, eqb, Float, None, Option, Some}
+use Rattle.board.specs.Hits.{EdgeList, size, edges}
 use Rattle.refusals.specs.declared.Refusal.{Refusal}
 use Rattle.refusals.specs.declared.EdgePlace.{EdgePlace}
-use Rattle.refusals.specs.declared.Place.{Place}
-use Rattle.refusals.specs.declared.Place.TheVariants.{Nowhere, At}
 use Rattle.refusals.specs.declared.ListName.{ListName}
 use Rattle.refusals.specs.declared.ListName.TheVariants.{Logical, Physical, Only}
 use Rattle.refusals.specs.Numbers as why
@@ -17,9 +15,9 @@ abbrev pub about_edge : ℕ → Bool
 about_edge n = eqb n why.bad_coordinate || (eqb n why.bad_orientation || (eqb n why.bad_bit || (eqb n why.bad_confidence || eqb n why.bad_likelihood)))
 
 -- a refusal about an edge has a place, and every other has none
-abbrev pub PlaceFits : ℕ → Place → Type 0
-PlaceFits n Nowhere = about_edge n ≡ false
-PlaceFits n (At p) = about_edge n ≡ true
+abbrev pub PlaceFits : ℕ → Option EdgePlace → Type 0
+PlaceFits n None = about_edge n ≡ false
+PlaceFits n (Some p) = about_edge n ≡ true
 
 -- a call of two lists has no only one, and a call of one list nothing else
 abbrev pub no_edges : EdgeList
@@ -68,9 +66,9 @@ pub record FirstBad (count : ListName → ℕ) (bad : ListName → ℕ → Bool)
   pub logical_good : p.list ≡ Physical → (j : ℕ) → j < count Logical → bad Logical j ≡ false
 
 -- where a refusal by the number n points to
-abbrev pub Points : (ListName → ℕ) → (ℕ → ListName → ℕ → Bool) → ℕ → Place → Type 0
-Points count bad n Nowhere = Unit
-Points count bad n (At p) = FirstBad count (bad n) p
+abbrev pub Points : (ListName → ℕ) → (ℕ → ListName → ℕ → Bool) → ℕ → Option EdgePlace → Type 0
+Points count bad n None = Unit
+Points count bad n (Some p) = FirstBad count (bad n) p
 
 -- both together: what is promised of the place of a refusal
 pub record PlaceRight (count : ListName → ℕ) (bad : ℕ → ListName → ℕ → Bool) (r : Refusal) : Type 0 where

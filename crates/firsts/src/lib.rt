@@ -2,11 +2,13 @@
 #![tactic(auto)]
 
 ghost use Rattle.std.specs.Prelude.{◌≡◌, true, false, [], ◌*◌, ◌%◌, ◌≤◌, ◌<◌, length};
-ghost use Rattle.board.specs.Hits.{edges, tables};
 ghost use Rattle.classes.specs.Classes.{three_of, CountReady};
 ghost use Rattle.tops.specs.Tops.{short_tops};
 ghost use Rattle.firsts.specs.Firsts.{pick_of, most_of, first_col, first_key};
+ghost use Rattle.board.specs.Given.{board_of, edges_of};
 
+use board::list::Edges;
+use board::pattern::Tables;
 use classes::Three;
 use tops::larger;
 
@@ -31,27 +33,16 @@ fn most_of(x: Three) -> u32
 }
 
 // The first column of a row that has the wanted hits, or the number of columns. The hits of the row's three horizontal classes are given.
-fn first_col(
-    rows: &[i32],
-    cols: &[i32],
-    orientations: &[u8],
-    bits: &[u8],
-    t: u8,
-    h: &[u8],
-    v: &[u8],
-    row: usize,
-    across: Three,
-    wanted: u32,
-) -> usize
-    requires count_ready { CountReady (tables h.now v.now) (edges rows.now cols.now orientations.now bits.now []) t }
-    requires across_value { across ≡ three_of (tables h.now v.now) (edges rows.now cols.now orientations.now bits.now []) t true (row % length h.now) }
-    ensures { result ≡ first_col (tables h.now v.now) (edges rows.now cols.now orientations.now bits.now []) t wanted row }
+fn first_col(edges: Edges, t: u8, tables: Tables, row: usize, across: Three, wanted: u32) -> usize
+    requires count_ready { CountReady (board_of tables) (edges_of edges) t }
+    requires across_value { across ≡ three_of (board_of tables) (edges_of edges) t true (row % length tables.h.now) }
+    ensures { result ≡ first_col (board_of tables.entry) (edges_of edges.entry) t wanted row }
 {
-    let period = v.len();
+    let period = tables.v.len();
     let mut col: usize = 0;
     while col < 3 * period {
         let long = (col % period) as u32;
-        let down = classes::long_hits(rows, cols, orientations, bits, t, false, long, h, v);
+        let down = classes::long_hits(edges, t, false, long, tables);
         if pick(across, col % 3) + pick(down, row % 3) == wanted {
             return col;
         }
@@ -61,49 +52,29 @@ fn first_col(
 }
 
 // The same of any row: where its best classes together have fewer hits than wanted, no column is looked at.
-fn row_first(
-    rows: &[i32],
-    cols: &[i32],
-    orientations: &[u8],
-    bits: &[u8],
-    t: u8,
-    h: &[u8],
-    v: &[u8],
-    row: usize,
-    tops: Three,
-    wanted: u32,
-) -> usize
-    requires count_ready { CountReady (tables h.now v.now) (edges rows.now cols.now orientations.now bits.now []) t }
-    requires tops_value { tops ≡ short_tops (tables h.now v.now) (edges rows.now cols.now orientations.now bits.now []) t (length v.now) }
-    ensures { result ≡ first_col (tables h.now v.now) (edges rows.now cols.now orientations.now bits.now []) t wanted row }
+fn row_first(edges: Edges, t: u8, tables: Tables, row: usize, tops: Three, wanted: u32) -> usize
+    requires count_ready { CountReady (board_of tables) (edges_of edges) t }
+    requires tops_value { tops ≡ short_tops (board_of tables) (edges_of edges) t (length tables.v.now) }
+    ensures { result ≡ first_col (board_of tables.entry) (edges_of edges.entry) t wanted row }
 {
-    let long = (row % h.len()) as u32;
-    let across = classes::long_hits(rows, cols, orientations, bits, t, true, long, h, v);
+    let long = (row % tables.h.len()) as u32;
+    let across = classes::long_hits(edges, t, true, long, tables);
     if most_of(across) + pick(tops, row % 3) < wanted {
-        return 3 * v.len();
+        return 3 * tables.v.len();
     }
-    first_col(rows, cols, orientations, bits, t, h, v, row, across, wanted)
+    first_col(edges, t, tables, row, across, wanted)
 }
 
 // The row-major first origin with the wanted hits under the transform t, as its key: row · columns + column. Where there is none, the number of origins.
-pub fn first_key(
-    rows: &[i32],
-    cols: &[i32],
-    orientations: &[u8],
-    bits: &[u8],
-    t: u8,
-    h: &[u8],
-    v: &[u8],
-    wanted: u32,
-) -> usize
-    requires { CountReady (tables h.now v.now) (edges rows.now cols.now orientations.now bits.now []) t }
-    ensures { result ≡ first_key (tables h.now v.now) (edges rows.now cols.now orientations.now bits.now []) t wanted }
+pub fn first_key(edges: Edges, t: u8, tables: Tables, wanted: u32) -> usize
+    requires { CountReady (board_of tables) (edges_of edges) t }
+    ensures { result ≡ first_key (board_of tables.entry) (edges_of edges.entry) t wanted }
 {
-    let tops = tops::short_tops(rows, cols, orientations, bits, t, h, v);
-    let wide = 3 * v.len();
+    let tops = tops::short_tops(edges, t, tables);
+    let wide = 3 * tables.v.len();
     let mut row: usize = 0;
-    while row < 3 * h.len() {
-        let col = row_first(rows, cols, orientations, bits, t, h, v, row, tops, wanted);
+    while row < 3 * tables.h.len() {
+        let col = row_first(edges, t, tables, row, tops, wanted);
         if col < wide {
             return row * wide + col;
         }

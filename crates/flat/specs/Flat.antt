@@ -1,17 +1,14 @@
 -- The answers as structs of plain numbers. As asked of the boundary (docs/CONTRACTS.md): "On a refusal every other field is 0xFFFFFFFF or NaN: no square, no zeros, nothing of an earlier call." C-11 adds the place of a refusal.
-use Rattle.std.specs.Prelude.{cond, ℕ, ltb, Float}
+use Rattle.std.specs.Prelude.{cond, ℕ, ltb, Float, Err, None, Ok, Option, Some}
 use Rattle.std.specs.Float.{nan}
+use Rattle.refusals.specs.declared.EdgePlace.{EdgePlace}
 use Rattle.refusals.specs.declared.Refusal.{Refusal}
-use Rattle.refusals.specs.declared.Place.{Place}
-use Rattle.refusals.specs.declared.Place.TheVariants.{Nowhere, At}
 use Rattle.refusals.specs.declared.ListName.{ListName}
 use Rattle.refusals.specs.declared.ListName.TheVariants.{Logical, Physical, Only}
 use Rattle.answer.specs.declared.Decoded.{Decoded}
-use Rattle.answer.specs.declared.Answer.{Answer}
-use Rattle.answer.specs.declared.Answer.TheVariants.{Found, Refused}
+use Rattle.answer.specs.Answers.{Answer}
 use Rattle.answer.specs.declared.MatchStats.{MatchStats}
-use Rattle.answer.specs.declared.StatsAnswer.{StatsAnswer}
-use Rattle.answer.specs.declared.StatsAnswer.TheVariants as stats
+use Rattle.answer.specs.Answers.{StatsAnswer}
 use Rattle.flat.specs.declared.flat.FlatAnswer.{FlatAnswer}
 use Rattle.flat.specs.declared.flat_stats.FlatStats.{FlatStats}
 
@@ -29,14 +26,14 @@ list_number Logical = 1
 list_number Physical = 2
 list_number Only = 3
 
--- "At the C boundary the two new fields are SAMBUREXT_NOTHING where there is no place"
-abbrev pub flat_list : Place → ℕ
-flat_list Nowhere = nothing
-flat_list (At p) = list_number p.list
+-- "Some the C boundary the two new fields are SAMBUREXT_NOTHING where there is no place"
+abbrev pub flat_list : Option EdgePlace → ℕ
+flat_list None = nothing
+flat_list (Some p) = list_number p.list
 
-abbrev pub flat_position : Place → ℕ
-flat_position Nowhere = nothing
-flat_position (At p) = p.position
+abbrev pub flat_position : Option EdgePlace → ℕ
+flat_position None = nothing
+flat_position (Some p) = p.position
 
 -- a found answer: not refused, about no edge, and each field of the answer at its place
 abbrev pub flat_found : Decoded → FlatAnswer
@@ -88,8 +85,8 @@ flat_refused r = refused_with r.number (flat_list r.place) (flat_position r.plac
 
 -- the answer of hard decode
 abbrev pub flat : Answer → FlatAnswer
-flat (Found d) = flat_found d
-flat (Refused r) = flat_refused r
+flat (Ok d) = flat_found d
+flat (Err r) = flat_refused r
 
 -- counted statistics, and refused ones
 abbrev pub flat_counted : MatchStats → FlatStats
@@ -103,8 +100,8 @@ flat_uncounted r = uncounted_with r.number (flat_list r.place) (flat_position r.
 
 -- the answer of match statistics
 abbrev pub flat_stats : StatsAnswer → FlatStats
-flat_stats (stats.Counted s) = flat_counted s
-flat_stats (stats.Refused r) = flat_uncounted r
+flat_stats (Ok s) = flat_counted s
+flat_stats (Err r) = flat_uncounted r
 
 -- a transform number as a byte: above 7 it is 255
 unfoldable pub narrow : ℕ → ℕ

@@ -1,10 +1,9 @@
 -- The answer of soft decode as a struct of plain numbers. C-12: "separate places for the hard runner-up's hits and the soft second-best total, both always filled in a soft answer"; a refusal has none.
-use Rattle.std.specs.Prelude.{ℕ, Float}
+use Rattle.std.specs.Prelude.{ℕ, Float, Err, Ok}
 use Rattle.std.specs.Float.{nan}
 use Rattle.refusals.specs.declared.Refusal.{Refusal}
 use Rattle.answer.specs.declared.SoftDecoded.{SoftDecoded}
-use Rattle.answer.specs.declared.SoftAnswer.{SoftAnswer}
-use Rattle.answer.specs.declared.SoftAnswer.TheVariants.{Found, Refused}
+use Rattle.answer.specs.Answers.{SoftAnswer}
 use Rattle.flat.specs.declared.flat_soft.FlatSoft.{FlatSoft}
 use Rattle.flat.specs.Flat.{nothing, not_refused, flat_list, flat_position}
 
@@ -66,5 +65,5 @@ flat_soft_refused r = soft_refused_with r.number (flat_list r.place) (flat_posit
 
 -- the answer of soft decode
 abbrev pub flat_soft : SoftAnswer → FlatSoft
-flat_soft (Found d) = flat_soft_found d
-flat_soft (Refused r) = flat_soft_refused r
+flat_soft (Ok d) = flat_soft_found d
+flat_soft (Err r) = flat_soft_refused r

@@ -4,7 +4,7 @@ ghost use Rattle.std.specs.Float.{nan};
 ghost use Rattle.flat.specs.Flat.{flat, flat_found, flat_refused, list_number, flat_list, flat_position};
 
 use answer::{Answer, Decoded};
-use refusals::{ListName, Place, Refusal};
+use refusals::{EdgePlace, ListName, Refusal};
 
 // The place of a whole number in a refusal: 0xFFFFFFFF, which is no transform, no row and no column, and more than any count.
 pub const NOTHING: u32 = 4294967295;
@@ -61,12 +61,12 @@ fn list_number(list: ListName) -> u32
 }
 
 // The list that a refusal points to, by its number, or nothing.
-pub fn list_of(place: Place) -> u32
+pub fn list_of(place: Option<EdgePlace>) -> u32
     ensures { result ≡ flat_list place }
 {
     match place {
-        Place::Nowhere => NOTHING,
-        Place::At(edge) => {
+        None => NOTHING,
+        Some(edge) => {
             let list = edge.list;
             list_number(list)
         }
@@ -74,12 +74,12 @@ pub fn list_of(place: Place) -> u32
 }
 
 // The position that a refusal points to, from 0, or nothing.
-pub fn position_of(place: Place) -> u32
+pub fn position_of(place: Option<EdgePlace>) -> u32
     ensures { result ≡ flat_position place }
 {
     match place {
-        Place::Nowhere => NOTHING,
-        Place::At(edge) => edge.position,
+        None => NOTHING,
+        Some(edge) => edge.position,
     }
 }
 
@@ -146,7 +146,7 @@ pub fn flattened(answer: Answer) -> FlatAnswer
     ensures { result ≡ flat answer }
 {
     match answer {
-        Answer::Found(d) => found(d),
-        Answer::Refused(refusal) => refused(refusal),
+        Ok(d) => found(d),
+        Err(refusal) => refused(refusal),
     }
 }

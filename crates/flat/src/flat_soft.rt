@@ -106,7 +106,7 @@ pub fn flattened_soft(answer: SoftAnswer) -> FlatSoft
     ensures { result ≡ flat_soft answer }
 {
     match answer {
-        SoftAnswer::Found(d) => found(d),
-        SoftAnswer::Refused(refusal) => refused(refusal),
+        Ok(d) => found(d),
+        Err(refusal) => refused(refusal),
     }
 }

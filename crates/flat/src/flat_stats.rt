@@ -58,7 +58,7 @@ pub fn flattened_stats(answer: StatsAnswer) -> FlatStats
     ensures { result ≡ flat_stats answer }
 {
     match answer {
-        StatsAnswer::Counted(s) => counted(s),
-        StatsAnswer::Refused(refusal) => uncounted(refusal),
+        Ok(s) => counted(s),
+        Err(refusal) => uncounted(refusal),
     }
 }

@@ -1,10 +1,9 @@
 -- The answer of exact decode as a struct of plain numbers. C-15: the square, hits and edges, the weight of the hits and the list's total in units, the error rate, and the runner-up with its hits and its weight; a refusal has none.
-use Rattle.std.specs.Prelude.{ℕ, ◌-◌, Float}
+use Rattle.std.specs.Prelude.{ℕ, ◌-◌, Float, Err, Ok}
 use Rattle.std.specs.Float.{nan}
 use Rattle.refusals.specs.declared.Refusal.{Refusal}
 use Rattle.exact_answer.specs.declared.ExactDecoded.{ExactDecoded}
-use Rattle.exact_answer.specs.declared.ExactAnswer.{ExactAnswer}
-use Rattle.exact_answer.specs.declared.ExactAnswer.TheVariants.{Found, Refused}
+use Rattle.exact_answer.specs.Answers.{ExactAnswer}
 use Rattle.flat.specs.Flat.{nothing, not_refused, flat_list, flat_position}
 use Rattle.flat_exact.specs.declared.FlatExact.{FlatExact}
 
@@ -66,5 +65,5 @@ flat_exact_refused r = exact_refused_with r.number (flat_list r.place) (flat_pos
 
 -- the answer of exact decode
 abbrev pub flat_exact : ExactAnswer → FlatExact
-flat_exact (Found d) = flat_exact_found d
-flat_exact (Refused r) = flat_exact_refused r
+flat_exact (Ok d) = flat_exact_found d
+flat_exact (Err r) = flat_exact_refused r

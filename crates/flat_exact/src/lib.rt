@@ -109,7 +109,7 @@ pub fn flattened_exact(answer: ExactAnswer) -> FlatExact
     ensures { result ≡ flat_exact answer }
 {
     match answer {
-        ExactAnswer::Found(d) => found(d),
-        ExactAnswer::Refused(refusal) => refused(refusal),
+        Ok(d) => found(d),
+        Err(refusal) => refused(refusal),
     }
 }

@@ -1,9 +1,8 @@
 -- The answer of the engine without tables as a struct of plain numbers. C-16: the placing, its hits, and the runner-up with its hits; a refusal has none.
-use Rattle.std.specs.Prelude.{ℕ}
+use Rattle.std.specs.Prelude.{ℕ, Err, Ok}
 use Rattle.refusals.specs.declared.Refusal.{Refusal}
 use Rattle.locate_answer.specs.declared.Located.{Located}
-use Rattle.locate_answer.specs.declared.LocateAnswer.{LocateAnswer}
-use Rattle.locate_answer.specs.declared.LocateAnswer.TheVariants.{Found, Refused}
+use Rattle.locate_answer.specs.Answers.{LocateAnswer}
 use Rattle.flat.specs.Flat.{nothing, not_refused, flat_list, flat_position}
 use Rattle.flat_located.specs.declared.FlatLocated.{FlatLocated}
 
@@ -45,5 +44,5 @@ flat_located_refused r = located_refused_with r.number (flat_list r.place) (flat
 
 -- the answer of the engine without tables
 abbrev pub flat_located : LocateAnswer → FlatLocated
-flat_located (Found l) = flat_located_found l
-flat_located (Refused r) = flat_located_refused r
+flat_located (Ok l) = flat_located_found l
+flat_located (Err r) = flat_located_refused r

@@ -75,7 +75,7 @@ pub fn flattened_located(answer: LocateAnswer) -> FlatLocated
     ensures { result ≡ flat_located answer }
 {
     match answer {
-        LocateAnswer::Found(l) => found(l),
-        LocateAnswer::Refused(refusal) => refused(refusal),
+        Ok(l) => found(l),
+        Err(refusal) => refused(refusal),
     }
 }

@@ -1,13 +1,11 @@
 -- The answer of decode over a part as a struct of plain numbers. C-20: "its hits count as 0 and the answer says none is shown": then all that is said of a runner-up is 0xFFFFFFFF or 0xFFFFFFFFFFFFFFFF.
-use Rattle.std.specs.Prelude.{ℕ, ◌-◌, Float}
+use Rattle.std.specs.Prelude.{ℕ, ◌-◌, Float, Err, None, Ok, Some}
 use Rattle.std.specs.Float.{nan}
 use Rattle.refusals.specs.declared.Refusal.{Refusal}
 use Rattle.answer.specs.declared.Square.{Square}
-use Rattle.part_answer.specs.declared.PartRunnerUp.{PartRunnerUp}
-use Rattle.part_answer.specs.declared.PartRunnerUp.TheVariants.{NoneShown, Shown}
+use Rattle.part_answer.specs.Answers.{PartRunnerUp}
 use Rattle.part_answer.specs.declared.PartDecoded.{PartDecoded}
-use Rattle.part_answer.specs.declared.PartAnswer.{PartAnswer}
-use Rattle.part_answer.specs.declared.PartAnswer.TheVariants.{Found, Refused}
+use Rattle.part_answer.specs.Answers.{PartAnswer}
 use Rattle.flat.specs.Flat.{nothing, not_refused, flat_list, flat_position}
 use Rattle.flat_exact.specs.FlatExact.{no_weight}
 use Rattle.flat_part.specs.declared.FlatNext.{FlatNext}
@@ -26,7 +24,7 @@ next_with square hits weight margin = record {
 
 -- the runner-up of a square with so many hits: where none is shown, no field says a square and the hits of none are 0; else its own
 abbrev pub flat_next : ℕ → PartRunnerUp → FlatNext
-flat_next hits NoneShown = record {
+flat_next hits None = record {
   next_transform = nothing;
   next_row = nothing;
   next_col = nothing;
@@ -34,7 +32,7 @@ flat_next hits NoneShown = record {
   next_margin = hits;
   next_weight = no_weight;
 }
-flat_next hits (Shown square behind weight) = next_with square behind weight (hits - behind)
+flat_next hits (Some (square, behind, weight)) = next_with square behind weight (hits - behind)
 
 -- a found answer: not refused, about no edge, each field of the answer at its place, and what is said of its runner-up
 abbrev pub part_found_with : PartDecoded → FlatNext → FlatPart
@@ -89,5 +87,5 @@ flat_part_refused r = part_refused_with r.number (flat_list r.place) (flat_posit
 
 -- the answer of decode over a part
 abbrev pub flat_part : PartAnswer → FlatPart
-flat_part (Found d) = flat_part_found d
-flat_part (Refused r) = flat_part_refused r
+flat_part (Ok d) = flat_part_found d
+flat_part (Err r) = flat_part_refused r

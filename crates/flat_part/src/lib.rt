@@ -49,7 +49,7 @@ fn next_of(hits: u32, next: PartRunnerUp) -> FlatNext
     ensures { result ≡ flat_next hits next }
 {
     match next {
-        PartRunnerUp::NoneShown => FlatNext {
+        None => FlatNext {
             next_transform: NOTHING,
             next_row: NOTHING,
             next_col: NOTHING,
@@ -57,7 +57,7 @@ fn next_of(hits: u32, next: PartRunnerUp) -> FlatNext
             next_margin: hits,
             next_weight: NO_WEIGHT,
         },
-        PartRunnerUp::Shown(square, behind, weight) => {
+        Some((square, behind, weight)) => {
             let next_transform = square.transform as u32;
             let next_margin = flat_exact::ahead(hits, behind);
             FlatNext {
@@ -135,7 +135,7 @@ pub fn flattened_part(answer: PartAnswer) -> FlatPart
     ensures { result ≡ flat_part answer }
 {
     match answer {
-        PartAnswer::Found(d) => found(d),
-        PartAnswer::Refused(refusal) => refused(refusal),
+        Ok(d) => found(d),
+        Err(refusal) => refused(refusal),
     }
 }

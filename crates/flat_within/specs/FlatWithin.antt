@@ -1,9 +1,8 @@
 -- The answer of the test of one placing as a struct of plain numbers. C-18: yes or no, and how many edges were read; a refusal has neither.
-use Rattle.std.specs.Prelude.{cond, ℕ}
+use Rattle.std.specs.Prelude.{cond, ℕ, Err, Ok}
 use Rattle.refusals.specs.declared.Refusal.{Refusal}
 use Rattle.within_answer.specs.declared.LimitTest.{LimitTest}
-use Rattle.within_answer.specs.declared.WithinAnswer.{WithinAnswer}
-use Rattle.within_answer.specs.declared.WithinAnswer.TheVariants.{Judged, Refused}
+use Rattle.within_answer.specs.Answers.{WithinAnswer}
 use Rattle.flat.specs.Flat.{nothing, not_refused, flat_list, flat_position}
 use Rattle.flat_within.specs.declared.FlatWithin.{FlatWithin}
 
@@ -23,5 +22,5 @@ flat_unjudged r = unjudged_with r.number (flat_list r.place) (flat_position r.pl
 
 -- the answer of the test
 abbrev pub flat_within : WithinAnswer → FlatWithin
-flat_within (Judged j) = flat_judged j
-flat_within (Refused r) = flat_unjudged r
+flat_within (Ok j) = flat_judged j
+flat_within (Err r) = flat_unjudged r

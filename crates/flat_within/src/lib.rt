@@ -63,7 +63,7 @@ pub fn flattened_within(answer: WithinAnswer) -> FlatWithin
     ensures { result ≡ flat_within answer }
 {
     match answer {
-        WithinAnswer::Judged(test) => judged(test),
-        WithinAnswer::Refused(refusal) => refused(refusal),
+        Ok(test) => judged(test),
+        Err(refusal) => refused(refusal),
     }
 }

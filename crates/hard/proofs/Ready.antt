@@ -1,5 +1,5 @@
 -- What the selections of an accepted call ask, what their winners are known for, and the room that they leave: for hard and for soft decode.
-use Rattle.std.specs.Prelude.{◌≡◌, List, ℕ, ◌≤◌, ◌<◌, length, Float}
+use Rattle.std.specs.Prelude.{◌≡◌, List, ℕ, ◌≤◌, ◌<◌, length, Float, Ok}
 use Rattle.std.proofs.Common.{sym, ap, ◌∙◌, le_trans, le_of_eq}
 use Rattle.std.specs.Float.{nan}
 use Rattle.laws.specs.Words.{one_f, cleared}
@@ -11,8 +11,7 @@ use Rattle.admission.specs.Calls.{HardCall}
 use Rattle.admission.specs.Accepted.{TransformsOk, HardAccepted}
 use Rattle.scan.specs.declared.scan.Candidate.{Candidate}
 use Rattle.scan.specs.declared.scan.RunnerUp.{RunnerUp}
-use Rattle.hard.specs.declared.select.Selection.{Selection}
-use Rattle.hard.specs.declared.select.Selection.TheVariants as sel
+use Rattle.hard.specs.Kinds.{Selection}
 use Rattle.hard.specs.Select.{selection, SelectReady, SelectDone}
 use Rattle.hard.specs.SelectLaws.{select-beyond}
 use Rattle.hard.proofs.SelectTheorems.{selected-in-range}
@@ -36,11 +35,11 @@ module _ (call : HardCall) (c : List ℕ) (w : List Float) (A : HardAccepted cal
   ready-physical c' w' e d = ready call.board call.physical call.transforms c' w' A.physical A.some_physical A.board A.transforms (le_trans A.room.0 (le_of_eq (sym e))) (le_trans A.room.1 (le_of_eq (sym d)))
 
   -- ---- what the winners are known for
-  pub logical-winner : (r : Selection) (x : Candidate) (runner : RunnerUp) → r ≡ selection call.board call.logical call.transforms call.error_limit → r ≡ sel.Selected x runner → (x.placing.listed < length call.transforms) × (x.hits ≤ size call.logical) × (runner.hits ≤ size call.logical)
+  pub logical-winner : (r : Selection) (x : Candidate) (runner : RunnerUp) → r ≡ selection call.board call.logical call.transforms call.error_limit → r ≡ Ok (x, runner) → (x.placing.listed < length call.transforms) × (x.hits ≤ size call.logical) × (runner.hits ≤ size call.logical)
   logical-winner r x runner e k =
       let i = selected-in-range call.board call.logical call.transforms call.error_limit A.board A.logical A.transforms.few x runner (sym e ∙ k) in (i.listed, i.hits, i.runner_up_hits)
 
-  pub physical-winner : (r : Selection) (x : Candidate) (runner : RunnerUp) → r ≡ selection call.board call.physical call.transforms one_f → r ≡ sel.Selected x runner → x.placing.listed < length call.transforms
+  pub physical-winner : (r : Selection) (x : Candidate) (runner : RunnerUp) → r ≡ selection call.board call.physical call.transforms one_f → r ≡ Ok (x, runner) → x.placing.listed < length call.transforms
   physical-winner r x runner e k = (selected-in-range call.board call.physical call.transforms one_f A.board A.physical A.transforms.few x runner (sym e ∙ k)).listed
 
   -- ---- the rooms

@@ -3,7 +3,7 @@
 use Rattle.std.proofs.Math.Path.{◌≡◌, refl, ap, subst}
 use Rattle.std.proofs.Common.{sym, ◌∙◌, arith}
 use Rattle.std.proofs.Math.Bool.{true, false}
-use Rattle.std.specs.Prelude.{List, ℕ, ◌+◌, ◌*◌, ◌≤◌, ◌<◌, Float}
+use Rattle.std.specs.Prelude.{List, ℕ, ◌+◌, ◌*◌, ◌≤◌, ◌<◌, Float, None, Ok, Some}
 use Rattle.std.proofs.Math.Logic.{⊎_elim}
 use Rattle.std.proofs.Math.ListN.{get_or, length}
 use Rattle.std.specs.Float.{nan}
@@ -23,6 +23,7 @@ use Rattle.tables.specs.TablesTheorems.{counts-few, weights-bounded}
 use Rattle.best.specs.CellTables.{CellTables, Period, TablesOk, w_at}
 use Rattle.best.specs.Lex.{lex_of}
 use Rattle.grid.specs.BoardGrid.{grid, period-h, period-v}
+use Rattle.scan.specs.Pairs.{some-first}
 use Rattle.scan.specs.Scan.{chosen, chosen_by}
 use Rattle.direct.specs.Direct.{origin_candidate}
 use Rattle.folding.specs.Transform.{selected}
@@ -34,11 +35,8 @@ use Rattle.hard.specs.SelectLaws.{tables-ok}
 use Rattle.hard.proofs.SelectTheorems.{selected-chosen}
 use Rattle.scan.specs.declared.scan.Candidate.{Candidate}
 use Rattle.scan.specs.declared.scan.RunnerUp.{RunnerUp}
-use Rattle.scan.specs.declared.scan.Kept.{Kept}
-use Rattle.scan.specs.declared.scan.Kept.TheVariants.{Nobody, One}
-use Rattle.scan.specs.declared.scan.Choice.{Choice}
-use Rattle.scan.specs.declared.scan.Choice.TheVariants.{Chosen}
-use Rattle.hard.specs.declared.select.Selection.TheVariants.{Selected}
+use Rattle.scan.specs.Kinds.{Kept}
+use Rattle.scan.specs.Kinds.{Choice}
 
 -- the candidate c weighs what the cells h and v of the tables at list position p weigh together
 pub record Weighed (L M : ℕ) (confidence : Float) (tab : ℕ → CellTables) (n : ℕ) (c : Candidate) : Type 0 where
@@ -78,13 +76,13 @@ module _ (L M edges : ℕ) (confidence limit : Float) (ts : ℕ → ℕ) (tab : 
       o.1
 
   -- so does the winner
-  chosen-weighed : (x : Choice) → choice L M edges confidence limit ts tab n ≡ x → (c : Candidate) (r : RunnerUp) → x ≡ Chosen c r → Weighed L M confidence tab n c
+  chosen-weighed : (x : Choice) → choice L M edges confidence limit ts tab n ≡ x → (c : Candidate) (r : RunnerUp) → x ≡ Some (c, r) → Weighed L M confidence tab n c
   unfolding chosen
   chosen-weighed x e c r k = go (selected L M edges confidence limit ts tab n).best (kept-most L M edges confidence limit ts tab n) (e ∙ k)
     where
-      go : (o : Kept) → MostOf (Listed L M edges confidence limit ts tab n) o → chosen_by (selected L M edges confidence limit ts tab n) o ≡ Chosen c r → Weighed L M confidence tab n c
-      go Nobody m q = let z : ◌≡◌ {A = ℕ} 0 1 = cc in absurd (omega arith)
-      go (One d) m q = let z : d ≡ c = cc in subst (λ (y : Candidate). Weighed L M confidence tab n y) z (offer-weighed m.0.0 d m.0.1 m.0.2)
+      go : (o : Kept) → MostOf (Listed L M edges confidence limit ts tab n) o → chosen_by (selected L M edges confidence limit ts tab n) o ≡ Some (c, r) → Weighed L M confidence tab n c
+      go None m q = let z : ◌≡◌ {A = ℕ} 0 1 = cc in absurd (omega arith)
+      go (Some d) m q = let z : d ≡ c = some-first q in subst (λ (y : Candidate). Weighed L M confidence tab n y) z (offer-weighed m.0.0 d m.0.1 m.0.2)
 
 -- ---- on a board
 module _ (B : Board) (E : EdgeList) (board : BoardOk B) (list : ListOk E) where
@@ -122,7 +120,7 @@ module _ (B : Board) (E : EdgeList) (board : BoardOk B) (list : ListOk E) where
         (pair-bounded _ _ (by-shares u.q u.small) (λ i l. u.each i (omega arith))) u.reaches)
 
   -- THE WINNER'S FIGURES ARE FINITE: its weight is at most the number of edges, and its score at most twice that
-  pub winner-within : (ts : List ℕ) (limit : Float) (w : Candidate) (r : RunnerUp) → selection B E ts limit ≡ Selected w r → Within w.weight (size E) × Within w.score (2 * size E)
+  pub winner-within : (ts : List ℕ) (limit : Float) (w : Candidate) (r : RunnerUp) → selection B E ts limit ≡ Ok (w, r) → Within w.weight (size E) × Within w.score (2 * size E)
   unfolding scan_of
   winner-within ts limit w r e =
       let c = selected-chosen B E ts limit w r e in

@@ -8,3 +8,4 @@ pub mod Select
 pub mod SelectLaws
 pub mod SummedLaws
 pub mod WinnerLaws
+pub mod Kinds

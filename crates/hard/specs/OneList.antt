@@ -1,5 +1,5 @@
 -- Selection and then the gate on one list, in terms of placings: a list position with the key of an origin. The theorem that these are about is in OneListLaws.
-use Rattle.std.specs.Prelude.{◌≡◌, true, false, cond, ℕ, ◌+◌, ◌*◌, ◌≤◌, ◌<◌, Float}
+use Rattle.std.specs.Prelude.{◌≡◌, true, false, cond, ℕ, ◌+◌, ◌*◌, ◌≤◌, ◌<◌, Float, None, Some}
 use Rattle.laws.specs.Words.{origins}
 use Rattle.best.specs.CellTables.{CellTables}
 use Rattle.figures.specs.Gate.{passed}
@@ -9,8 +9,7 @@ use Rattle.folding.specs.Transform.{selected}
 use Rattle.hard.specs.Placings.{Outcome, none-within-limit, not-far-ahead, found, SomeWithin, Sole, MostOther}
 use Rattle.scan.specs.declared.scan.Candidate.{Candidate}
 use Rattle.scan.specs.declared.scan.RunnerUp.{RunnerUp}
-use Rattle.scan.specs.declared.scan.Choice.{Choice}
-use Rattle.scan.specs.declared.scan.Choice.TheVariants.{Nothing, Chosen}
+use Rattle.scan.specs.Kinds.{Choice}
 
 -- the hits of the origin with the key k at list position p, by that position's tables
 abbrev pub hits_of : ℕ → ℕ → (ℕ → CellTables) → ℕ → ℕ → ℕ
@@ -22,8 +21,8 @@ key_at M row col = row * (3 * M) + col
 
 -- what a choice comes to with the gate
 abbrev pub outcome_of : ℕ → ℕ → Choice → Outcome
-outcome_of M edges Nothing = none-within-limit
-outcome_of M edges (Chosen c r) = cond (passed edges c.hits r.hits) (found c.placing.listed (key_at M c.placing.row c.placing.col) c.hits r.hits) not-far-ahead
+outcome_of M edges None = none-within-limit
+outcome_of M edges (Some (c, r)) = cond (passed edges c.hits r.hits) (found c.placing.listed (key_at M c.placing.row c.placing.col) c.hits r.hits) not-far-ahead
 
 -- how many origins there are: 3 L rows of 3 M columns
 abbrev pub origin_number : ℕ → ℕ → ℕ
@@ -37,7 +36,7 @@ module _ (L M edges : ℕ) (confidence limit : Float) (ts : ℕ → ℕ) (tab : 
 
   -- a placing is chosen, and the gate refuses it
   abbrev pub Stopped : Type 0
-  Stopped = (c : Candidate) × (r : RunnerUp) × (choice ≡ Chosen c r) × (passed edges c.hits r.hits ≡ false)
+  Stopped = (c : Candidate) × (r : RunnerUp) × (choice ≡ Some (c, r)) × (passed edges c.hits r.hits ≡ false)
 
   -- some placing is within the limit, but none is ahead of every other by more than its own misses
   abbrev pub Unclear : Type 0
@@ -45,7 +44,7 @@ module _ (L M edges : ℕ) (confidence limit : Float) (ts : ℕ → ℕ) (tab : 
 
   -- the placing (p, k) is chosen and passes the gate
   abbrev pub Passes : ℕ → ℕ → Type 0
-  Passes p k = (c : Candidate) × (r : RunnerUp) × (choice ≡ Chosen c r) × (passed edges c.hits r.hits ≡ true) × (c.placing.listed ≡ p) × (key_at M c.placing.row c.placing.col ≡ k)
+  Passes p k = (c : Candidate) × (r : RunnerUp) × (choice ≡ Some (c, r)) × (passed edges c.hits r.hits ≡ true) × (c.placing.listed ≡ p) × (key_at M c.placing.row c.placing.col ≡ k)
 
   -- what is reported where the winner c with the runner-up r passes: the winner alone is ahead of every other placing, its hits are those of its placing, the
   -- runner-up's hits are the most that another placing has, and the runner-up's transform, row and column name such a placing

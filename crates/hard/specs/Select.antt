@@ -1,5 +1,5 @@
 -- Document 01, 'Hard selection': one list, its tables built for each transform in the list's order, and what the selection comes to.
-use Rattle.std.specs.Prelude.{◌≡◌, Bool, true, false, List, ℕ, zero, suc, ◌≤◌, ◌<◌, get_or, length, Float}
+use Rattle.std.specs.Prelude.{◌≡◌, Bool, true, false, List, ℕ, zero, suc, ◌≤◌, ◌<◌, get_or, length, Float, Err, None, Ok, Some}
 use Rattle.refusals.specs.Numbers.{numbered}
 use Rattle.refusals.specs.Numbers as why
 use Rattle.board.specs.Hits.{EdgeList, Board, size}
@@ -13,10 +13,8 @@ use Rattle.best.specs.CellTables.{CellTables, cells}
 use Rattle.scan.specs.Scan.{chosen}
 use Rattle.folding.specs.Transform.{selected}
 use Rattle.scan.specs.declared.scan.HardScan.{HardScan}
-use Rattle.scan.specs.declared.scan.Choice.{Choice}
-use Rattle.scan.specs.declared.scan.Choice.TheVariants.{Nothing, Chosen}
-use Rattle.hard.specs.declared.select.Selection.{Selection}
-use Rattle.hard.specs.declared.select.Selection.TheVariants.{Refused, Selected}
+use Rattle.scan.specs.Kinds.{Choice}
+use Rattle.hard.specs.Kinds.{Selection}
 
 -- the four tables of the transform t
 unfoldable pub tables_of : Board → EdgeList → ℕ → CellTables
@@ -29,11 +27,11 @@ scan_of B E ts limit n =
 
 -- refused where no transform offered a candidate
 abbrev pub of_choice : Choice → Selection
-of_choice Nothing = Refused (numbered why.none_within_limit)
-of_choice (Chosen winner runner-up) = Selected winner runner-up
+of_choice None = Err (numbered why.none_within_limit)
+of_choice (Some (winner, runner-up)) = Ok (winner, runner-up)
 
 abbrev pub or_refused : Bool → Choice → Selection
-or_refused true c = Refused (numbered why.no_confidence)
+or_refused true c = Err (numbered why.no_confidence)
 or_refused false c = of_choice c
 
 -- the selection on one list: refused without confidence, then without a candidate, else the winner with its runner-up

@@ -1,5 +1,5 @@
 -- Laws of the selection on one list: the room after each transform, and the scan one transform further.
-use Rattle.std.specs.Prelude.{◌≡◌, refl, Float}
+use Rattle.std.specs.Prelude.{◌≡◌, refl, Float, Err}
 use Rattle.std.proofs.Math.Path.{sym, ap}
 use Rattle.std.proofs.Common.{subst, ◌∙◌, arith}
 use Rattle.std.proofs.Math.Bool.{true, false}
@@ -24,10 +24,9 @@ use Rattle.scan.specs.Scan.{SoundScan, empty_scan, chosen}
 use Rattle.folding.specs.Transform.{fold_transform, selected}
 use Rattle.folding.specs.TransformLaws.{selected-none, selected-more, selected-count}
 use Rattle.scan.specs.declared.scan.HardScan.{HardScan}
-use Rattle.scan.specs.declared.scan.Choice.{Choice}
+use Rattle.scan.specs.Kinds.{Choice}
 use Rattle.folding.proofs.KeptLaws.{selected-sound}
-use Rattle.hard.specs.declared.select.Selection.{Selection}
-use Rattle.hard.specs.declared.select.Selection.TheVariants.{Refused}
+use Rattle.hard.specs.Kinds.{Selection}
 use Rattle.refusals.specs.Numbers.{numbered}
 use Rattle.refusals.specs.Numbers as why
 use Rattle.figures.specs.Figures.{total_confidence, no_confidence}
@@ -138,7 +137,7 @@ module _ (B : Board) (E : EdgeList) (ts : List ℕ) (confidence limit : Float) (
 -- ---- the two ends of a selection
 module _ (B : Board) (E : EdgeList) (ts : List ℕ) (limit : Float) (c : List ℕ) (w : List Float) where
   -- no confidence: refused, and the room is as it was
-  pub select-refused : eq (total_confidence E) zero_f ≡ true → SelectDone B E ts limit c c w w (Refused (numbered why.no_confidence))
+  pub select-refused : eq (total_confidence E) zero_f ≡ true → SelectDone B E ts limit c c w w (Err (numbered why.no_confidence))
   unfolding selection no_confidence built_to Rooms
   select-refused h = record { answer = rw h; rooms = rw h (refl, refl) }
 

@@ -1,6 +1,6 @@
 -- The kept candidate and its runner-up, as statements about every placing: the winner has the most hits of those within the limit, the runner-up's hits are the
 -- most that another placing has, and the gate is passed exactly when the winner is ahead of every other placing by more than its own misses.
-use Rattle.std.specs.Prelude.{◌≡◌, refl, Bool, true, false, List, ◌⊎◌, ℕ, ◌-◌, ◌*◌, ◌/◌, ◌%◌, ◌≤◌, ◌<◌, Float, get_or}
+use Rattle.std.specs.Prelude.{◌≡◌, refl, Bool, true, false, List, ◌⊎◌, ℕ, ◌-◌, ◌*◌, ◌/◌, ◌%◌, ◌≤◌, ◌<◌, Float, get_or, None, Some}
 use Rattle.std.proofs.Common.{sym, ap₂, subst, ◌∙◌, inl, inr, mod-lt, div-lt_iff_lt-mul, div-add-mod', arith, ltb-true, lt-ltb}
 use Rattle.std.proofs.Math.Path.{ap}
 use Rattle.std.proofs.Math.Logic.{⊎_elim}
@@ -23,10 +23,8 @@ use Rattle.best.specs.declared.lex.LexMax.{LexMax}
 use Rattle.scan.specs.declared.scan.TransformSummary.{TransformSummary}
 use Rattle.scan.specs.declared.scan.Candidate.{Candidate}
 use Rattle.scan.specs.declared.scan.RunnerUp.{RunnerUp}
-use Rattle.scan.specs.declared.scan.Kept.{Kept}
-use Rattle.scan.specs.declared.scan.Kept.TheVariants.{Nobody, One}
-use Rattle.scan.specs.declared.scan.Choice.{Choice}
-use Rattle.scan.specs.declared.scan.Choice.TheVariants.{Nothing, Chosen}
+use Rattle.scan.specs.Kinds.{Kept}
+use Rattle.scan.specs.Kinds.{Choice}
 use Rattle.folding.specs.declared.transform.Ranked.{Ranked}
 
 -- n list positions with the transforms ts and the tables tab, of a list of `edges` edges
@@ -232,8 +230,8 @@ module _ (L M edges : ℕ) (confidence limit : Float) (ts : ℕ → ℕ) (tab : 
 
     -- ---- what the choice is
     abbrev pub Chose : Choice → Type 0
-    Chose Nothing = NoneWithin n none edges limit hit
-    Chose (Chosen c r) = Winner c.placing.listed c × (r ≡ runner_up_of ss c.placing.listed n)
+    Chose None = NoneWithin n none edges limit hit
+    Chose (Some (c, r)) = Winner c.placing.listed c × (r ≡ runner_up_of ss c.placing.listed n)
 
     -- no position's best hits are within the limit, so no placing is
     nobody : ((c : Candidate) → Listed L M edges confidence limit ts tab n c → ⊥) → NoneWithin n none edges limit hit
@@ -246,7 +244,7 @@ module _ (L M edges : ℕ) (confidence limit : Float) (ts : ℕ → ℕ) (tab : 
     is-chosen = go (selected L M edges confidence limit ts tab n).best (kept-most L M edges confidence limit ts tab n)
       where
         go : (o : Kept) → MostOf (Listed L M edges confidence limit ts tab n) o → Chose (chosen_by (selected L M edges confidence limit ts tab n) o)
-        go Nobody h = nobody h
-        go (One c) h =
+        go None h = nobody h
+        go (Some c) h =
             let W = winner h.0.0 c h.0.1 h.0.2 h.1 in
             (subst (λ (w : ℕ). Winner w c) (sym W.listed) W, ap (runner_up_of ss c.placing.listed) (selected-count L M edges confidence limit ts tab n))

@@ -1,20 +1,18 @@
 // Hard selection on one list: the tables of each transform in turn, folded into the scan, and what it comes to.
 ghost use Rattle.std.specs.Prelude.{◌≡◌, ◌*◌, ◌+◌, ◌<◌, length};
-ghost use Rattle.board.specs.Hits.{edges, tables};
 ghost use Rattle.folding.specs.Transform.{fold_transform};
 ghost use Rattle.hard.specs.Select.{SelectReady, SelectDone};
 ghost use Rattle.hard.specs.SelectLaws.{room_cells, RoomReady, ScanDone};
+ghost use Rattle.board.specs.Given.{board_of, list_of};
 
+use board::list::List;
+use board::pattern::Tables;
 use laws::Periods;
-use refusals::{Place, Refusal};
-use scan::scan::{Asked, Candidate, Choice, HardScan, RunnerUp};
+use refusals::Refusal;
+use scan::scan::{Asked, Candidate, HardScan, RunnerUp};
 
 // What a selection comes to: refused (no confidence, nothing within the limit), or the winner with its runner-up.
-#[derive(Clone, Copy)]
-pub enum Selection {
-    Refused(Refusal),
-    Selected(Candidate, RunnerUp),
-}
+pub type Selection = Result<(Candidate, RunnerUp), Refusal>;
 
 // One transform's tables, where they were built in the room, folded into the scan.
 fn fold_room<'a>(
@@ -44,28 +42,23 @@ fn fold_room<'a>(
 }
 
 // The scan of a list over all its transforms, in order: the tables are built anew for each.
-fn scan_transforms<'a>(
-    rows: &[i32],
-    cols: &[i32],
-    orientations: &[u8],
-    bits: &[u8],
-    confidences: &[f32],
+fn scan_transforms(
+    list: List,
     transforms: &[u8],
-    h: &'a [u8],
-    v: &'a [u8],
+    tables: Tables,
     confidence: f32,
     error_limit: f32,
     counts: &mut [u32],
     weights: &mut [f32],
 ) -> HardScan
-    requires { SelectReady (tables h.now v.now) (edges rows.now cols.now orientations.now bits.now confidences.now) transforms.now counts.old weights.old }
-    ensures { ScanDone (tables h.now v.now) (edges rows.now cols.now orientations.now bits.now confidences.now) transforms.now confidence error_limit (length transforms.now) counts.old counts.new weights.old weights.new result }
+    requires { SelectReady (board_of tables) (list_of list) transforms.now counts.old weights.old }
+    ensures { ScanDone (board_of tables.entry) (list_of list.entry) transforms.now confidence error_limit (length transforms.now) counts.old counts.new weights.old weights.new result }
 {
     let periods = Periods {
-        h: h.len(),
-        v: v.len(),
+        h: tables.h.len(),
+        v: tables.v.len(),
     };
-    let edges = rows.len() as u32;
+    let edges = list.edges.rows.len() as u32;
     let asked = Asked {
         edges,
         confidence,
@@ -74,18 +67,7 @@ fn scan_transforms<'a>(
     let mut scan = scan::record::empty();
     for i in 0..transforms.len() {
         let t = transforms[i];
-        tables::build::build_tables(
-            rows,
-            cols,
-            orientations,
-            bits,
-            confidences,
-            t,
-            h,
-            v,
-            counts,
-            weights,
-        );
+        tables::build::build_tables(list, t, tables, counts, weights);
         let number = transforms[i];
         scan = fold_room(scan, counts, weights, periods, number, asked);
     }
@@ -93,48 +75,38 @@ fn scan_transforms<'a>(
 }
 
 // The selection on one list.
-pub fn select<'a>(
-    rows: &[i32],
-    cols: &[i32],
-    orientations: &[u8],
-    bits: &[u8],
-    confidences: &[f32],
+pub fn select(
+    list: List,
     transforms: &[u8],
-    h: &'a [u8],
-    v: &'a [u8],
+    tables: Tables,
     error_limit: f32,
     counts: &mut [u32],
     weights: &mut [f32],
 ) -> Selection
-    requires { SelectReady (tables h.now v.now) (edges rows.now cols.now orientations.now bits.now confidences.now) transforms.now counts.old weights.old }
-    ensures { SelectDone (tables h.now v.now) (edges rows.now cols.now orientations.now bits.now confidences.now) transforms.now error_limit counts.old counts.new weights.old weights.new result }
+    requires { SelectReady (board_of tables) (list_of list) transforms.now counts.old weights.old }
+    ensures { SelectDone (board_of tables.entry) (list_of list.entry) transforms.now error_limit counts.old counts.new weights.old weights.new result }
 {
-    let confidence = figures::total_confidence(confidences);
+    let confidence = figures::total_confidence(list.confidences);
     if confidence == 0.0 {
-        return Selection::Refused(Refusal {
+        return Err(Refusal {
             number: refusals::NO_CONFIDENCE,
-            place: Place::Nowhere,
+            place: None,
         });
     }
     let scan = scan_transforms(
-        rows,
-        cols,
-        orientations,
-        bits,
-        confidences,
+        list,
         transforms,
-        h,
-        v,
+        tables,
         confidence,
         error_limit,
         counts,
         weights,
     );
     match scan::record::finish(scan) {
-        Choice::Nothing => Selection::Refused(Refusal {
+        None => Err(Refusal {
             number: refusals::NONE_WITHIN_LIMIT,
-            place: Place::Nowhere,
+            place: None,
         }),
-        Choice::Chosen { winner, runner_up } => Selection::Selected(winner, runner_up),
+        Some((winner, runner_up)) => Ok((winner, runner_up)),
     }
 }

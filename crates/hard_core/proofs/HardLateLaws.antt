@@ -4,6 +4,7 @@ use Rattle.std.proofs.Math.Path.{sym}
 use Rattle.std.proofs.Common.{ap, ◌∙◌}
 use Rattle.std.proofs.Math.ListN.{get_or}
 use borrow.Author.Tests.{eq-eqb, eqb-true}
+use Rattle.scan.specs.Pairs.{ok-first}
 use Rattle.laws.specs.Tests.{and-true, clash, not_so}
 use Rattle.laws.specs.Words.{one_f}
 use Rattle.board.specs.Hits.{size, hits_at}
@@ -11,7 +12,6 @@ use Rattle.admission.specs.Calls.{HardCall}
 use Rattle.admission.specs.Accepted.{HardAccepted}
 use Rattle.figures.specs.Figures.{no_confidence}
 use Rattle.hard.specs.RateLaws.{never-over-one}
-use Rattle.hard.specs.declared.select.Selection.TheVariants.{Selected}
 use Rattle.scan.specs.declared.scan.Candidate.{Candidate}
 use Rattle.verdict.specs.Verdict.{agreed}
 use Rattle.demand.specs.Demand.{AgreesPhysical}
@@ -57,7 +57,7 @@ module _ (call : HardCall) (m n : ℕ) (A : HardAccepted call m n) where
 
   -- one list has one winner
   same-winner : (w : Candidate) (a : Agrees w) (p : PhysicalWin) → a.winner ≡ p.winner
-  same-winner w a p = let e : Selected a.winner a.runner ≡ Selected p.winner p.runner-up = sym a.chosen ∙ p.selected in cc
+  same-winner w a p = ok-first (sym a.chosen ∙ p.selected)
 
   abbrev kept : LogicalWin → LogicalKept call
   kept w = record { winner = w.winner; runner-up = w.runner-up; chosen = w.selected }

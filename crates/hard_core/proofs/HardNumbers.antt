@@ -1,6 +1,6 @@
 -- WHAT NUMBERS THERE ARE, HARD. An accepted hard call is refused by 10, 11, 12 or 13 or by none, each exactly when document 01 says, in its order: "Hard then: 10 logical, 11,
 -- 10 physical, 12, 13."
-use Rattle.std.specs.Prelude.{◌≡◌, Bool, true, false, cond, ◌⊎◌, ℕ, ◌≤◌, ◌<◌, get_or, length}
+use Rattle.std.specs.Prelude.{◌≡◌, Bool, true, false, cond, ◌⊎◌, ℕ, ◌≤◌, ◌<◌, get_or, length, Err, None, Ok}
 use Rattle.std.proofs.Math.Path.{refl, ap}
 use Rattle.std.proofs.Common.{sym, subst, ◌∙◌, ⊎_elim, arith}
 use Rattle.std.proofs.Math.Logic.{inl, inr}
@@ -13,16 +13,13 @@ use Rattle.admission.specs.Accepted.{HardAccepted}
 use Rattle.figures.specs.Figures.{no_confidence}
 use Rattle.figures.specs.Gate.{passed}
 use Rattle.refusals.specs.declared.Refusal.{Refusal}
-use Rattle.refusals.specs.declared.Place.TheVariants.{Nowhere}
 use Rattle.refusals.specs.Numbers.{numbered}
 use Rattle.refusals.specs.Numbers as why
 use Rattle.hard.specs.RateLaws.{never-over-one}
 use Rattle.hard.specs.Select.{selection}
-use Rattle.hard.specs.declared.select.Selection.{Selection}
-use Rattle.hard.specs.declared.select.Selection.TheVariants as sel
+use Rattle.hard.specs.Kinds.{Selection}
 use Rattle.answer.specs.declared.Decoded.{Decoded}
-use Rattle.answer.specs.declared.Answer.{Answer}
-use Rattle.answer.specs.declared.Answer.TheVariants.{Found, Refused}
+use Rattle.answer.specs.Answers.{Answer}
 use Rattle.verdict.specs.Verdict.{refused_by, agreed, decoded_of, judged}
 use Rattle.verdict.specs.Answers.{answers, numbers_apart, found-not}
 use Rattle.demand.specs.Demand.{OnBoard, Same}
@@ -60,7 +57,7 @@ module _ (call : HardCall) (m n : ℕ) (A : HardAccepted call m n) where
     no_physical_confidence : no_confidence call.logical ≡ false → LogicalWithin → no_confidence call.physical ≡ true → HardEnd (refused_by why.no_confidence)
     winners_differ : (w : LogicalWinner) (p : PhysicalWinner) → ListsAgree w p ≡ false → HardEnd (refused_by why.lists_disagree)
     none_leads : (w : LogicalWinner) (p : PhysicalWinner) → ListsAgree w p ≡ true → NoneLeads call.board call.logical call.transforms call.error_limit → HardEnd (refused_by why.not_far_ahead)
-    found : (w : LogicalWinner) (p : PhysicalWinner) → ListsAgree w p ≡ true → passed (size call.logical) w.winner.hits w.runner-up.hits ≡ true → (d : Decoded) → HardEnd (Found d)
+    found : (w : LogicalWinner) (p : PhysicalWinner) → ListsAgree w p ≡ true → passed (size call.logical) w.winner.hits w.runner-up.hits ≡ true → (d : Decoded) → HardEnd (Ok d)
 
   -- ---- every accepted call ends in one of them
   abbrev L-few : length call.transforms ≤ 8
@@ -84,12 +81,12 @@ module _ (call : HardCall) (m n : ℕ) (A : HardAccepted call m n) where
       s = get_or call.transforms p.winner.placing.listed 0
 
       by-gate : (b : Bool) → passed (size call.logical) w.winner.hits w.runner-up.hits ≡ b → ListsAgree w p ≡ true
-          → HardEnd (cond b (Found (decoded_of t w.winner w.runner-up (size call.logical))) (refused_by why.not_far_ahead))
+          → HardEnd (cond b (Ok (decoded_of t w.winner w.runner-up (size call.logical))) (refused_by why.not_far_ahead))
       by-gate true g a = found w p a g (decoded_of t w.winner w.runner-up (size call.logical))
       by-gate false g a = none_leads w p a (⊎_elim (λ h. clash h g) (λ h. h) told.2)
 
       by-agreed : (b : Bool) → ListsAgree w p ≡ b
-          → HardEnd (cond b (cond (passed (size call.logical) w.winner.hits w.runner-up.hits) (Found (decoded_of t w.winner w.runner-up (size call.logical))) (refused_by why.not_far_ahead)) (refused_by why.lists_disagree))
+          → HardEnd (cond b (cond (passed (size call.logical) w.winner.hits w.runner-up.hits) (Ok (decoded_of t w.winner w.runner-up (size call.logical))) (refused_by why.not_far_ahead)) (refused_by why.lists_disagree))
       by-agreed true a = by-gate (passed (size call.logical) w.winner.hits w.runner-up.hits) refl a
       by-agreed false a = winners_differ w p a
 
@@ -98,14 +95,14 @@ module _ (call : HardCall) (m n : ℕ) (A : HardAccepted call m n) where
       by-judged = by-agreed (ListsAgree w p) refl
 
     by-physical : (y : Selection) → selection call.board call.physical call.transforms one_f ≡ y → PhysicalEnded y → HardEnd (after_physical call.logical call.transforms w.winner w.runner-up y)
-    by-physical (sel.Refused r) e (inl h) = subst (λ (z : Refusal). HardEnd (Refused z)) (sym h.0) (no_physical_confidence told.0 told.1 h.1)
-    by-physical (sel.Refused r) e (inr h) = absurd (physical-within h.2)
-    by-physical (sel.Selected x o) e h = by-judged (record { winner = x; runner-up = o; selected = e })
+    by-physical (Err r) e (inl h) = subst (λ (z : Refusal). HardEnd (Err z)) (sym h.0) (no_physical_confidence told.0 told.1 h.1)
+    by-physical (Err r) e (inr h) = absurd (physical-within h.2)
+    by-physical (Ok (x, o)) e h = by-judged (record { winner = x; runner-up = o; selected = e })
 
   by-logical : (x : Selection) → selection call.board call.logical call.transforms call.error_limit ≡ x → LogicalEnded x → HardEnd (after_logical call x)
-  by-logical (sel.Refused r) e (inl h) = subst (λ (z : Refusal). HardEnd (Refused z)) (sym h.0) (no_logical_confidence h.1)
-  by-logical (sel.Refused r) e (inr h) = subst (λ (z : Refusal). HardEnd (Refused z)) (sym h.0) (none_within h.1 h.2)
-  by-logical (sel.Selected x r) e h =
+  by-logical (Err r) e (inl h) = subst (λ (z : Refusal). HardEnd (Err z)) (sym h.0) (no_logical_confidence h.1)
+  by-logical (Err r) e (inr h) = subst (λ (z : Refusal). HardEnd (Err z)) (sym h.0) (none_within h.1 h.2)
+  by-logical (Ok (x, r)) e h =
       by-physical (record { winner = x; runner-up = r; selected = e }) (selection call.board call.physical call.transforms one_f) refl
       (ended call.board call.physical call.transforms one_f A.board A.physical L-few)
 
@@ -115,13 +112,13 @@ module _ (call : HardCall) (m n : ℕ) (A : HardAccepted call m n) where
   hard-ends = by-logical (selection call.board call.logical call.transforms call.error_limit) refl (ended call.board call.logical call.transforms call.error_limit A.board A.logical L-few)
 
   -- refused late means 10 to 13, and about no edge
-  pub hard-late : (r : Refusal) → hard_core call ≡ Refused r → (why.no_confidence ≤ r.number) × (r.number ≤ why.not_far_ahead) × (r.place ≡ Nowhere)
+  pub hard-late : (r : Refusal) → hard_core call ≡ Err r → (why.no_confidence ≤ r.number) × (r.number ≤ why.not_far_ahead) × (r.place ≡ None)
   hard-late r e = go (hard_core call) hard-ends e
     where
-      numbers : (n : ℕ) → why.no_confidence ≤ n → n ≤ why.not_far_ahead → refused_by n ≡ Refused r → (why.no_confidence ≤ r.number) × (r.number ≤ why.not_far_ahead) × (r.place ≡ Nowhere)
+      numbers : (n : ℕ) → why.no_confidence ≤ n → n ≤ why.not_far_ahead → refused_by n ≡ Err r → (why.no_confidence ≤ r.number) × (r.number ≤ why.not_far_ahead) × (r.place ≡ None)
       numbers n h k q = let z : numbered n ≡ r = cc in let y : n ≡ r.number = ap (λ (x : Refusal). x.number) z in (omega arith, omega arith, sym (ap (λ (x : Refusal). x.place) z))
 
-      go : (a : Answer) → HardEnd a → a ≡ Refused r → (why.no_confidence ≤ r.number) × (r.number ≤ why.not_far_ahead) × (r.place ≡ Nowhere)
+      go : (a : Answer) → HardEnd a → a ≡ Err r → (why.no_confidence ≤ r.number) × (r.number ≤ why.not_far_ahead) × (r.place ≡ None)
       go a (no_logical_confidence h) q = numbers why.no_confidence (omega arith) (omega arith) q
       go a (none_within h k) q = numbers why.none_within_limit (omega arith) (omega arith) q
       go a (no_physical_confidence h k l) q = numbers why.no_confidence (omega arith) (omega arith) q

@@ -1,5 +1,5 @@
 -- A found hard answer is in range.
-use Rattle.std.specs.Prelude.{◌≡◌, ℕ, ◌*◌, ◌≤◌, length, get_or}
+use Rattle.std.specs.Prelude.{◌≡◌, ℕ, ◌*◌, ◌≤◌, length, get_or, Err, Ok}
 use Rattle.std.proofs.Math.Path.{refl}
 use Rattle.std.proofs.Common.{subst}
 use native.Mathlib.Omega.{arith}
@@ -10,13 +10,11 @@ use Rattle.board.proofs.HitsLaws.{hits-le}
 use Rattle.admission.specs.Calls.{HardCall}
 use Rattle.admission.specs.Accepted.{HardAccepted}
 use Rattle.answer.specs.declared.Decoded.{Decoded}
-use Rattle.answer.specs.declared.Answer.TheVariants.{Found}
 use Rattle.figures.specs.Figures.{rate_of, mean_of}
 use Rattle.figures.proofs.RangeLaws.{rate-within, mean-within}
 use Rattle.scan.specs.declared.scan.Candidate.{Candidate}
 use Rattle.scan.specs.declared.scan.RunnerUp.{RunnerUp}
-use Rattle.hard.specs.declared.select.Selection.{Selection}
-use Rattle.hard.specs.declared.select.Selection.TheVariants as sel
+use Rattle.hard.specs.Kinds.{Selection}
 use Rattle.hard.specs.Select.{selection}
 use Rattle.hard.proofs.SelectTheorems.{selected-in-range}
 use Rattle.hard.proofs.WeighedLaws.{winner-within}
@@ -33,7 +31,7 @@ Found-floats d = FloatsFinite d.weighted_score d.error_rate d.mean_confidence d.
 
 module _ (call : HardCall) (m n : ℕ) (A : HardAccepted call m n) (d : Decoded) where
   -- the floats that a winner and its runner-up give
-  module _ (x : Candidate) (r : RunnerUp) (e : selection call.board call.logical call.transforms call.error_limit ≡ sel.Selected x r) where
+  module _ (x : Candidate) (r : RunnerUp) (e : selection call.board call.logical call.transforms call.error_limit ≡ Ok (x, r)) where
     hits-in : (x.hits ≤ size call.logical) × (r.hits ≤ size call.logical)
     hits-in = let i = selected-in-range call.board call.logical call.transforms call.error_limit A.board A.logical A.transforms.few x r e in (i.hits, i.runner_up_hits)
 
@@ -51,21 +49,21 @@ module _ (call : HardCall) (m n : ℕ) (A : HardAccepted call m n) (d : Decoded)
           omega arith,
         )
 
-    by-physical : (q : Selection) → after_physical call.logical call.transforms x r q ≡ Found d → Found-floats d
-    by-physical (sel.Refused k) h = absurd (never_both answers d k h)
-    by-physical (sel.Selected y o) h =
+    by-physical : (q : Selection) → after_physical call.logical call.transforms x r q ≡ Ok d → Found-floats d
+    by-physical (Err k) h = absurd (never_both answers d k h)
+    by-physical (Ok (y, o)) h =
         let t = get_or call.transforms x.placing.listed 0 in
         subst Found-floats (judged-is t x r (get_or call.transforms y.placing.listed 0) y (size call.logical) d h) (floats t)
 
-  by-logical : (q : Selection) → selection call.board call.logical call.transforms call.error_limit ≡ q → after_logical call q ≡ Found d → Found-floats d
-  by-logical (sel.Refused k) e h = absurd (never_both answers d k h)
-  by-logical (sel.Selected x r) e h = by-physical x r e (selection call.board call.physical call.transforms one_f) h
+  by-logical : (q : Selection) → selection call.board call.logical call.transforms call.error_limit ≡ q → after_logical call q ≡ Ok d → Found-floats d
+  by-logical (Err k) e h = absurd (never_both answers d k h)
+  by-logical (Ok (x, r)) e h = by-physical x r e (selection call.board call.physical call.transforms one_f) h
 
-  hard-floats : hard_core call ≡ Found d → Found-floats d
+  hard-floats : hard_core call ≡ Ok d → Found-floats d
   unfolding hard_core
   hard-floats h = by-logical (selection call.board call.logical call.transforms call.error_limit) refl h
 
-pub hard-in-range : (call : HardCall) (m n : ℕ) (A : HardAccepted call m n) (d : Decoded) → hard_core call ≡ Found d → AnswerInRange (length call.board.h) d
+pub hard-in-range : (call : HardCall) (m n : ℕ) (A : HardAccepted call m n) (d : Decoded) → hard_core call ≡ Ok d → AnswerInRange (length call.board.h) d
 hard-in-range call m n A d e =
     let a = hard-sound call m n A d e in
     let P = a.square in

@@ -2,7 +2,7 @@
 use Rattle.std.specs.Prelude.{◌≡◌, true, false, ◌⊎◌}
 use Rattle.admission.specs.Calls.{HardCall}
 use Rattle.figures.specs.Figures.{no_confidence}
-use Rattle.answer.specs.declared.Answer.{Answer}
+use Rattle.answer.specs.Answers.{Answer}
 use Rattle.verdict.specs.Verdict.{refused_by}
 use Rattle.demand.specs.Demand.{AgreesPhysical}
 use Rattle.demand.specs.Late.{Exactly, LogicalKept}

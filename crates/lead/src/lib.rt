@@ -2,10 +2,12 @@
 #![tactic(auto)]
 
 ghost use Rattle.std.specs.Prelude.{◌≡◌, [], ◌-◌, length};
-ghost use Rattle.board.specs.Hits.{edges, tables};
 ghost use Rattle.classes.specs.Classes.{CountReady};
 ghost use Rattle.lead.specs.Lead.{peak_of, started, merged, lead_after, peaks, LeadReady};
+ghost use Rattle.board.specs.Given.{board_of, edges_of};
 
+use board::list::Edges;
+use board::pattern::Tables;
 use laws::Periods;
 use tops::larger;
 
@@ -28,25 +30,17 @@ pub struct Lead {
 }
 
 // What one transform comes to: its best classes make its best origin, and the second-best class of one side with the best of the other makes the best of the others.
-fn peak_of(
-    rows: &[i32],
-    cols: &[i32],
-    orientations: &[u8],
-    bits: &[u8],
-    t: u8,
-    h: &[u8],
-    v: &[u8],
-) -> Peak
-    requires { CountReady (tables h.now v.now) (edges rows.now cols.now orientations.now bits.now []) t }
-    ensures { result ≡ peak_of (tables h.now v.now) (edges rows.now cols.now orientations.now bits.now []) t }
+fn peak_of(edges: Edges, t: u8, tables: Tables) -> Peak
+    requires { CountReady (board_of tables) (edges_of edges) t }
+    ensures { result ≡ peak_of (board_of tables.entry) (edges_of edges.entry) t }
 {
     let periods = Periods {
-        h: h.len(),
-        v: v.len(),
+        h: tables.h.len(),
+        v: tables.v.len(),
     };
-    let a = tops::side_top(rows, cols, orientations, bits, t, true, h, v);
-    let b = tops::side_top(rows, cols, orientations, bits, t, false, h, v);
-    let cell = b.at % 3 * v.len() + b.at / 3;
+    let a = tops::side_top(edges, t, true, tables);
+    let b = tops::side_top(edges, t, false, tables);
+    let cell = b.at % 3 * tables.v.len() + b.at / 3;
     let key = grid::origin::key_of(a.at, cell, periods);
     let next = larger(a.next + b.best, a.best + b.next);
     Peak {
@@ -104,22 +98,14 @@ fn merge(lead: Lead, p: usize, peak: Peak) -> Lead
 }
 
 // The lead over all transforms of the list.
-pub fn lead_of(
-    rows: &[i32],
-    cols: &[i32],
-    orientations: &[u8],
-    bits: &[u8],
-    transforms: &[u8],
-    h: &[u8],
-    v: &[u8],
-) -> Lead
-    requires { LeadReady (tables h.now v.now) (edges rows.now cols.now orientations.now bits.now []) transforms.now }
-    ensures { result ≡ lead_after (peaks (tables h.now v.now) (edges rows.now cols.now orientations.now bits.now []) transforms.now) (length transforms.now - 1) }
+pub fn lead_of(edges: Edges, transforms: &[u8], tables: Tables) -> Lead
+    requires { LeadReady (board_of tables) (edges_of edges) transforms.now }
+    ensures { result ≡ lead_after (peaks (board_of tables.entry) (edges_of edges.entry) transforms.now) (length transforms.now - 1) }
 {
-    let mut lead = start(peak_of(rows, cols, orientations, bits, transforms[0], h, v));
+    let mut lead = start(peak_of(edges, transforms[0], tables));
     let mut p: usize = 1;
     while p < transforms.len() {
-        let peak = peak_of(rows, cols, orientations, bits, transforms[p], h, v);
+        let peak = peak_of(edges, transforms[p], tables);
         lead = merge(lead, p, peak);
         p += 1;
     }

@@ -6,6 +6,13 @@ ghost use Rattle.std.specs.Prelude.{◌≡◌, true, ◌<◌, ◌≤◌, ◌^◌
 ghost use Rattle.likelihood.specs.Likelihood.{acceptable, dequantised, Quantised};
 ghost use Rattle.likelihood.specs.Steps.{rounded, Magnitude, Pattern};
 
+// The two likelihoods of each edge of a list, a column for each: that the board shows the edge's bit there, and that it does not.
+#[derive(Clone, Copy)]
+pub struct Likelihoods<'a> {
+    pub matches: &'a [f32],
+    pub mismatches: &'a [f32],
+}
+
 // An f32 with the exponent field e is its 24 digits times 2^(e - 150). Counted in units of 2^-24 that
 // is its digits times 2^(e - 126).
 const POINT: u32 = 126;

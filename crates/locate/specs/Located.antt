@@ -1,12 +1,11 @@
 -- THE MEANING of the engine without tables (C-16): one list judged by the hits of every placing, counted edge by edge, and nothing else. A placing is a list position p with the key k of an
 -- origin, row · columns + column; so keys are in order of row and column.
-use Rattle.std.specs.Prelude.{◌≡◌, ◌⊎◌, true, false, List, ℕ, ◌*◌, ◌/◌, ◌%◌, ◌≤◌, ◌<◌, get_or, length, Float}
+use Rattle.std.specs.Prelude.{◌≡◌, ◌⊎◌, true, false, List, ℕ, ◌*◌, ◌/◌, ◌%◌, ◌≤◌, ◌<◌, get_or, length, Float, Err, Ok}
 use Rattle.board.specs.Hits.{EdgeList, Board, size}
 use Rattle.board.specs.Sides.{period_of}
 use Rattle.answer.specs.declared.Square.{Square}
 use Rattle.refusals.specs.declared.Refusal.{Refusal}
-use Rattle.refusals.specs.declared.Admission.{Admission}
-use Rattle.refusals.specs.declared.Admission.TheVariants as admission
+use Rattle.refusals.specs.Admission.{Admission}
 use Rattle.refusals.specs.Numbers.{numbered}
 use Rattle.refusals.specs.Numbers as why
 use Rattle.figures.specs.Figures.{no_confidence}
@@ -14,8 +13,7 @@ use Rattle.hard.specs.Placings.{NoneWithin, SomeWithin, Sole}
 use Rattle.hard.specs.OneList.{origin_number}
 use Rattle.hard.proofs.SelectTheorems.{hits_at_key}
 use Rattle.locate_answer.specs.declared.Located.{Located}
-use Rattle.locate_answer.specs.declared.LocateAnswer.{LocateAnswer}
-use Rattle.locate_answer.specs.declared.LocateAnswer.TheVariants.{Found, Refused}
+use Rattle.locate_answer.specs.Answers.{LocateAnswer}
 use Rattle.locate_admission.specs.LocateAdmission.{locate_admission}
 
 -- "the first by list position, row and column among the others with most hits": (q, j) with r hits, of n list positions and the keys below `none`, where (p, k) is the winner
@@ -56,13 +54,13 @@ module _ (B : Board) (E : EdgeList) (ts : List ℕ) (limit : Float) where
 
   -- an accepted call: 10 where document 01's total confidence is 0, else by hits alone
   abbrev pub LocatedAs : LocateAnswer → Type 0
-  LocatedAs (Refused r) = ((no_confidence E ≡ true) × (r ≡ numbered why.no_confidence)) ⊎ ((no_confidence E ≡ false) × RefusedAs r)
-  LocatedAs (Found l) = (no_confidence E ≡ false) × FoundAs l
+  LocatedAs (Err r) = ((no_confidence E ≡ true) × (r ≡ numbered why.no_confidence)) ⊎ ((no_confidence E ≡ false) × RefusedAs r)
+  LocatedAs (Ok l) = (no_confidence E ≡ false) × FoundAs l
 
   -- by the early refusals: handed on, or accepted
   abbrev pub AfterChecks : Admission → LocateAnswer → Type 0
-  AfterChecks (admission.Refused r) a = a ≡ Refused r
-  AfterChecks admission.Accepted a = LocatedAs a
+  AfterChecks (Err r) a = a ≡ Err r
+  AfterChecks (Ok _) a = LocatedAs a
 
   -- what a call did, for all inputs
   pub record LocateDone (a : LocateAnswer) : Type 0 where

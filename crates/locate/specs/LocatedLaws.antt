@@ -1,5 +1,5 @@
 -- What the lead and the first origin with the runner-up's hits come to: the answer is the one that the meaning asks for.
-use Rattle.std.specs.Prelude.{◌≡◌, refl, ◌⊎◌, Bool, true, false, List, ℕ, ◌+◌, ◌*◌, ◌-◌, ◌/◌, ◌%◌, ◌≤◌, ◌<◌, get_or, length, Float}
+use Rattle.std.specs.Prelude.{◌≡◌, refl, ◌⊎◌, Bool, true, false, List, ℕ, ◌+◌, ◌*◌, ◌-◌, ◌/◌, ◌%◌, ◌≤◌, ◌<◌, get_or, length, Float, Err, Ok}
 use Rattle.std.proofs.Math.Path.{sym}
 use Rattle.std.proofs.Common.{ap, ap₂, subst, ◌∙◌, inl, inr, arith}
 use Rattle.std.proofs.Math.Logic.{⊎_elim}
@@ -13,12 +13,10 @@ use Rattle.board.proofs.HitsLaws.{hits-le}
 use Rattle.classes.specs.ClassesLaws.{hits-bare}
 use Rattle.answer.specs.declared.Square.{Square}
 use Rattle.refusals.specs.declared.Refusal.{Refusal}
-use Rattle.refusals.specs.declared.Admission.{Admission}
-use Rattle.refusals.specs.declared.Admission.TheVariants as admission
+use Rattle.refusals.specs.Admission.{Admission, accepted}
 use Rattle.refusals.specs.Numbers.{numbered}
 use Rattle.refusals.specs.Numbers as why
-use Rattle.locate_answer.specs.declared.LocateAnswer.{LocateAnswer}
-use Rattle.locate_answer.specs.declared.LocateAnswer.TheVariants.{Found, Refused}
+use Rattle.locate_answer.specs.Answers.{LocateAnswer}
 use Rattle.locate_admission.specs.LocateAdmission.{locate_admission}
 use Rattle.figures.specs.Gate.{passed}
 use Rattle.figures.specs.Figures.{no_confidence}
@@ -144,17 +142,17 @@ module _ (B : Board) (E : EdgeList) (ts : List ℕ) (S : Lead) (A : Leading (len
     pub best-few : S.best ≤ size E
     best-few = best-le (length ts) (origins_of B) (size E) limit (hits_at_key B E ts) S A few bound
 
-    pub answers-11 : (r : LocateAnswer) → over_limit (size E) limit S.best ≡ true → r ≡ Refused (numbered why.none_within_limit) → LocatedAs B E ts limit r
+    pub answers-11 : (r : LocateAnswer) → over_limit (size E) limit S.best ≡ true → r ≡ Err (numbered why.none_within_limit) → LocatedAs B E ts limit r
     answers-11 r o e = subst (LocatedAs B E ts limit) (sym e) (inr (told, inl (refl, none_within (length ts) (origins_of B) (size E) limit (hits_at_key B E ts) S A few bound o)))
 
     module _ (o : over_limit (size E) limit S.best ≡ false) where
-      pub answers-13 : (r : LocateAnswer) → passed (size E) S.best S.next ≡ false → r ≡ Refused (numbered why.not_far_ahead) → LocatedAs B E ts limit r
+      pub answers-13 : (r : LocateAnswer) → passed (size E) S.best S.next ≡ false → r ≡ Err (numbered why.not_far_ahead) → LocatedAs B E ts limit r
       answers-13 r g e =
           subst (LocatedAs B E ts limit) (sym e)
           (inr (told, inr (refl, some-within (length ts) (origins_of B) (size E) limit (hits_at_key B E ts) S A few bound o, none_ahead (length ts) (origins_of B) (size E) limit (hits_at_key B E ts) S A few bound g)))
 
       pub answers-found : (k : ℕ) (a b : Square) → passed (size E) S.best S.next ≡ true → k ≡ first_key B (bare E) (get_or ts S.from 0) S.next
-          → a ≡ square_at B ts S.listed S.key → b ≡ square_at B ts S.from k → LocatedAs B E ts limit (Found (record { square = a; hits = S.best; runner_up = b; runner_up_hits = S.next }))
+          → a ≡ square_at B ts S.listed S.key → b ≡ square_at B ts S.from k → LocatedAs B E ts limit (Ok (record { square = a; hits = S.best; runner_up = b; runner_up_hits = S.next }))
       answers-found k a b g is x y = (
         told,
         record {
@@ -170,13 +168,13 @@ module _ (B : Board) (E : EdgeList) (ts : List ℕ) (S : Lead) (A : Leading (len
         },
       )
 
-pub answers-10 : (B : Board) (E : EdgeList) (ts : List ℕ) (limit : Float) (r : LocateAnswer) → no_confidence E ≡ true → r ≡ Refused (numbered why.no_confidence) → LocatedAs B E ts limit r
+pub answers-10 : (B : Board) (E : EdgeList) (ts : List ℕ) (limit : Float) (r : LocateAnswer) → no_confidence E ≡ true → r ≡ Err (numbered why.no_confidence) → LocatedAs B E ts limit r
 answers-10 B E ts limit r h e = subst (LocatedAs B E ts limit) (sym e) (inl (h, refl))
 
 -- ---- the two ends of a call
 module _ (B : Board) (E : EdgeList) (ts : List ℕ) (limit : Float) (a : Admission) (e : a ≡ locate_admission E ts B limit) where
-  pub done_refused : (r : Refusal) (x : LocateAnswer) → a ≡ admission.Refused r → x ≡ Refused r → LocateDone B E ts limit x
+  pub done_refused : (r : Refusal) (x : LocateAnswer) → a ≡ Err r → x ≡ Err r → LocateDone B E ts limit x
   done_refused r x n k = record { done = rw (sym e ∙ n) k }
 
-  pub done-accepted : (x : LocateAnswer) → a ≡ admission.Accepted → LocatedAs B E ts limit x → LocateDone B E ts limit x
+  pub done-accepted : (x : LocateAnswer) → a ≡ accepted → LocatedAs B E ts limit x → LocateDone B E ts limit x
   done-accepted x n k = record { done = rw (sym e ∙ n) k }

@@ -1,17 +1,15 @@
 -- Any two answers that the meaning allows are equal.
-use Rattle.std.specs.Prelude.{◌≡◌, ◌⊎◌, List, ℕ, ◌≤◌, ◌<◌, length, Float}
+use Rattle.std.specs.Prelude.{◌≡◌, ◌⊎◌, List, ℕ, ◌≤◌, ◌<◌, length, Float, Err, Ok}
 use Rattle.std.proofs.Common.{sym, ap, ap₂, ◌∙◌, inl, inr, arith}
 use Rattle.laws.specs.Tests.{clash}
 use Rattle.board.specs.Hits.{EdgeList, Board, size}
 use Rattle.refusals.specs.declared.Refusal.{Refusal}
-use Rattle.refusals.specs.declared.Admission.{Admission}
-use Rattle.refusals.specs.declared.Admission.TheVariants as admission
+use Rattle.refusals.specs.Admission.{Admission}
 use Rattle.hard.specs.Placings.{MostOther, Sole}
 use Rattle.hard.specs.PlacingsLaws.{sole-only}
 use Rattle.hard.proofs.SelectTheorems.{hits_at_key}
 use Rattle.locate_answer.specs.declared.Located.{Located}
-use Rattle.locate_answer.specs.declared.LocateAnswer.{LocateAnswer}
-use Rattle.locate_answer.specs.declared.LocateAnswer.TheVariants.{Found, Refused}
+use Rattle.locate_answer.specs.Answers.{LocateAnswer}
 use Rattle.locate_admission.specs.LocateAdmission.{locate_admission}
 use Rattle.locate.specs.Located.{FirstOther, origins_of, square_at, FoundAs, RefusedAs, LocatedAs, AfterChecks, LocateDone}
 
@@ -56,20 +54,20 @@ module _ (B : Board) (E : EdgeList) (ts : List ℕ) (limit : Float) where
   never_both r p k (inr a) Z = a.2 p k Z
 
   pub located-unique : (a b : LocateAnswer) → LocatedAs B E ts limit a → LocatedAs B E ts limit b → a ≡ b
-  located-unique (Refused r) (Refused s) (inl a) (inl b) = ap Refused (a.1 ∙ sym b.1)
-  located-unique (Refused r) (Refused s) (inl a) (inr b) = clash a.0 b.0
-  located-unique (Refused r) (Refused s) (inr a) (inl b) = clash b.0 a.0
-  located-unique (Refused r) (Refused s) (inr a) (inr b) = ap Refused (refused-one r s a.1 b.1)
-  located-unique (Refused r) (Found m) (inl a) b = clash a.0 b.0
-  located-unique (Refused r) (Found m) (inr a) b = absurd (never_both r b.1.listed b.1.key a.1 b.1.sole)
-  located-unique (Found l) (Refused s) a (inl b) = clash b.0 a.0
-  located-unique (Found l) (Refused s) a (inr b) = absurd (never_both s a.1.listed a.1.key b.1 a.1.sole)
-  located-unique (Found l) (Found m) a b = ap Found (found-one l m a.1 b.1)
+  located-unique (Err r) (Err s) (inl a) (inl b) = ap Err (a.1 ∙ sym b.1)
+  located-unique (Err r) (Err s) (inl a) (inr b) = clash a.0 b.0
+  located-unique (Err r) (Err s) (inr a) (inl b) = clash b.0 a.0
+  located-unique (Err r) (Err s) (inr a) (inr b) = ap Err (refused-one r s a.1 b.1)
+  located-unique (Err r) (Ok m) (inl a) b = clash a.0 b.0
+  located-unique (Err r) (Ok m) (inr a) b = absurd (never_both r b.1.listed b.1.key a.1 b.1.sole)
+  located-unique (Ok l) (Err s) a (inl b) = clash b.0 a.0
+  located-unique (Ok l) (Err s) a (inr b) = absurd (never_both s a.1.listed a.1.key b.1 a.1.sole)
+  located-unique (Ok l) (Ok m) a b = ap Ok (found-one l m a.1 b.1)
 
   -- ANY TWO ANSWERS THAT THE CONTRACT OF `locate` ALLOWS ARE EQUAL
   pub locate-unique : (a b : LocateAnswer) → LocateDone B E ts limit a → LocateDone B E ts limit b → a ≡ b
   locate-unique a b X Y = go (locate_admission E ts B limit) X.done Y.done
     where
       go : (x : Admission) → AfterChecks B E ts limit x a → AfterChecks B E ts limit x b → a ≡ b
-      go (admission.Refused r) d e = d ∙ sym e
-      go admission.Accepted d e = located-unique a b d e
+      go (Err r) d e = d ∙ sym e
+      go (Ok _) d e = located-unique a b d e

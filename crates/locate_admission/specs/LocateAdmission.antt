@@ -3,7 +3,7 @@ use Rattle.std.specs.Prelude.{◌≡◌, not, true, List, ℕ, ◌<◌, length, 
 use Rattle.laws.specs.Words.{one_f}
 use Rattle.board.specs.Hits.{EdgeList, Board, size}
 use Rattle.board.specs.Domain.{ListOk, BoardOk}
-use Rattle.refusals.specs.declared.Admission.{Admission}
+use Rattle.refusals.specs.Admission.{Admission}
 use Rattle.refusals.specs.declared.ListName.TheVariants as list
 use Rattle.ranges.specs.Ranges.{in_range, transforms_bad}
 use Rattle.findings.specs.Findings.{Findings, first_found, joined, list_findings, settings_findings}

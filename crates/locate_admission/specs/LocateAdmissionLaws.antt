@@ -1,10 +1,9 @@
 -- The first of the parts, by rank, is the earliest of all that is found; a call that is accepted is as `LocateAccepted` says; a refused one is so by one of the early numbers.
-use Rattle.std.specs.Prelude.{◌≡◌, not, List, ℕ, Float}
+use Rattle.std.specs.Prelude.{◌≡◌, not, List, ℕ, Float, Err}
 use borrow.Author.Tests.{not-false}
 use Rattle.laws.specs.Words.{one_f}
 use Rattle.board.specs.Hits.{EdgeList, Board, size}
 use Rattle.refusals.specs.declared.Refusal.{Refusal}
-use Rattle.refusals.specs.declared.Admission.TheVariants.{Accepted, Refused}
 use Rattle.refusals.specs.declared.ListName.TheVariants as list
 use Rattle.refusals.specs.Numbers as why
 use Rattle.refusals.specs.Order.{earlier}
@@ -15,13 +14,14 @@ use Rattle.findings.specs.Joined.{sorted-joined, first-joined, found_early, sort
 use Rattle.admission.specs.Refusals.{tables_bad}
 use Rattle.admission.specs.Accepted.{list-tests, list-ok, size_ok, transforms-ok, board-ok, vertical-length}
 use Rattle.locate_admission.specs.LocateAdmission.{locate_settings, locate_admission, LocateAccepted}
+use Rattle.refusals.specs.Admission.{accepted}
 
 module _ (E : EdgeList) (ts : List ℕ) (B : Board) (limit : Float) where
   pub locate-parts : earlier (first_found (list_findings 1 list.Only E)) (first_found (locate_settings ts B limit)) ≡ locate_admission E ts B limit
   unfolding locate_admission
   locate-parts = first-joined (list_findings 1 list.Only E) (locate_settings ts B limit) (sorted-list 1 list.Only E) (sorted-settings (transforms_bad ts) (tables_bad B) (not (in_range one_f limit)))
 
-  pub locate-accepted : locate_admission E ts B limit ≡ Accepted → LocateAccepted E ts B limit
+  pub locate-accepted : locate_admission E ts B limit ≡ accepted → LocateAccepted E ts B limit
   unfolding locate_admission settings_findings
   locate-accepted h =
       let k = clean-parts (list_findings 1 list.Only E) (locate_settings ts B limit) (clean_of _ h) in
@@ -37,7 +37,7 @@ module _ (E : EdgeList) (ts : List ℕ) (B : Board) (limit : Float) where
       }
 
   -- refused early means by one of 2 to 9, 16 and 17
-  pub locate-early : (r : Refusal) → locate_admission E ts B limit ≡ Refused r → why.Early r.number
+  pub locate-early : (r : Refusal) → locate_admission E ts B limit ≡ Err r → why.Early r.number
   unfolding locate_admission
   locate-early r =
       found_early (joined (list_findings 1 list.Only E) (locate_settings ts B limit)) r

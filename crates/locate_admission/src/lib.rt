@@ -2,41 +2,30 @@
 #![tactic(auto)]
 
 ghost use Rattle.std.specs.Prelude.{◌≡◌};
-ghost use Rattle.board.specs.Hits.{edges, tables};
 ghost use Rattle.locate_admission.specs.LocateAdmission.{locate_admission};
+ghost use Rattle.board.specs.Given.{board_of, list_of};
 
 use admission::refusal::tables_bad;
+use board::list::List;
+use board::pattern::Tables;
 use findings::{list_admission, settings_admission};
 use refusals::{Admission, ListName, first_of};
 
 // The early refusals of a call with one list, which may not be empty, its transforms, the pattern tables and the error limit.
 pub fn locate_admission(
-    rows: &[i32],
-    cols: &[i32],
-    orientations: &[u8],
-    bits: &[u8],
-    confidences: &[f32],
+    list: List,
     transforms: &[u8],
-    h: &[u8],
-    v: &[u8],
+    tables: Tables,
     error_limit: f32,
 ) -> Admission
     ensures { result ≡ locate_admission
-        (edges rows.now cols.now orientations.now bits.now confidences.now)
-        transforms.now (tables h.now v.now) error_limit }
+        (list_of list.entry)
+        transforms.now (board_of tables.entry) error_limit }
 {
-    let list = list_admission(
-        1,
-        ListName::Only,
-        rows,
-        cols,
-        orientations,
-        bits,
-        confidences,
-    );
+    let list = list_admission(1, ListName::Only, list);
     let settings = settings_admission(
         ranges::transforms_bad(transforms),
-        tables_bad(h, v),
+        tables_bad(tables),
         !ranges::in_range(error_limit, 1.0f32),
     );
     first_of(list, settings)

@@ -14,8 +14,4 @@ pub struct Located {
 }
 
 // The answer of the engine without tables.
-#[derive(Clone, Copy)]
-pub enum LocateAnswer {
-    Found(Located),
-    Refused(Refusal),
-}
+pub type LocateAnswer = Result<Located, Refusal>;

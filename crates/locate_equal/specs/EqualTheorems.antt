@@ -1,5 +1,5 @@
 -- THE EQUALITY OF THE TWO ENGINES (C-16), for all inputs and any room that is long enough: one list by hits alone stands between them.
-use Rattle.std.specs.Prelude.{◌≡◌, refl, Bool, true, false, List, ℕ, ◌*◌, ◌≤◌, ◌<◌, get_or, length, Float}
+use Rattle.std.specs.Prelude.{◌≡◌, refl, Bool, true, false, List, ℕ, ◌*◌, ◌≤◌, ◌<◌, get_or, length, Float, Err, Ok}
 use Rattle.std.proofs.Common.{sym, ap, ap₂, ◌∙◌, inl, inr}
 use Rattle.std.proofs.Math.Arith.{digits_div, digits_mod}
 use Rattle.laws.specs.Tests.{clash}
@@ -8,8 +8,7 @@ use Rattle.board.specs.Hits.{EdgeList, Board, size}
 use Rattle.board.specs.Sides.{period_of}
 use Rattle.board.specs.Domain.{ListOk, BoardOk}
 use Rattle.refusals.specs.declared.Refusal.{Refusal}
-use Rattle.refusals.specs.declared.Admission.{Admission}
-use Rattle.refusals.specs.declared.Admission.TheVariants as admission
+use Rattle.refusals.specs.Admission.{Admission, accepted}
 use Rattle.findings.specs.FindingsLaws.{no-refusal}
 use Rattle.figures.specs.Gate.{passed}
 use Rattle.figures.specs.Figures.{no_confidence}
@@ -17,21 +16,18 @@ use Rattle.admission.specs.Calls.{hard_call}
 use Rattle.admission.specs.Accepted.{hard-accepted}
 use Rattle.scan.specs.declared.scan.Candidate.{Candidate}
 use Rattle.scan.specs.declared.scan.RunnerUp.{RunnerUp}
-use Rattle.hard.specs.declared.select.Selection.{Selection}
-use Rattle.hard.specs.declared.select.Selection.TheVariants as sel
+use Rattle.hard.specs.Kinds.{Selection}
 use Rattle.hard.specs.Placings.{Sole, MostOther}
 use Rattle.hard.specs.PlacingsLaws.{sole-only, most-other-one}
 use Rattle.hard.specs.OneList.{key_at}
 use Rattle.hard.proofs.Ready.{ready-logical}
 use Rattle.hard.specs.Select.{selection}
 use Rattle.hard.proofs.SelectTheorems.{hits_at_key, refuses-10, selected-in-range}
-use Rattle.decide.specs.declared.Outcome.{Outcome}
-use Rattle.decide.specs.declared.Outcome.TheVariants as tables
+use Rattle.decide.specs.Kinds.{Outcome}
 use Rattle.decide.specs.Decide.{when_passed, gated}
 use Rattle.decide.proofs.DecideTheorems.{RightOutcome, decided-by-hits}
 use Rattle.locate_answer.specs.declared.Located.{Located}
-use Rattle.locate_answer.specs.declared.LocateAnswer.{LocateAnswer}
-use Rattle.locate_answer.specs.declared.LocateAnswer.TheVariants.{Found, Refused}
+use Rattle.locate_answer.specs.Answers.{LocateAnswer}
 use Rattle.locate_admission.specs.LocateAdmission.{locate_admission}
 use Rattle.locate.specs.Located.{origins_of, square_at, FoundAs, LocatedAs, AfterChecks, LocateDone}
 use Rattle.locate.specs.LocatedTheorems.{refused-one, most_other, never_both}
@@ -52,7 +48,7 @@ module _ (B : Board) (E : EdgeList) (ts : List ℕ) (limit : Float) where
         → SoleAt w.placing.listed (key_at M w.placing.row w.placing.col)
         → w.hits ≡ hits_at_key B E ts w.placing.listed (key_at M w.placing.row w.placing.col)
         → MostOther (length ts) (origins_of B) (size E) limit (hits_at_key B E ts) w.placing.listed (key_at M w.placing.row w.placing.col) runner.hits
-        → FoundAs B E ts limit l → Same ts (tables.Decided w runner) (Found l)
+        → FoundAs B E ts limit l → Same ts (Ok (w, runner)) (Ok l)
     found-same w runner l c Z h O X =
         let k = key_at M w.placing.row w.placing.col in
         let o = sole-only (length ts) (origins_of B) (size E) limit (hits_at_key B E ts) X.listed X.key w.placing.listed k X.sole Z in
@@ -69,21 +65,21 @@ module _ (B : Board) (E : EdgeList) (ts : List ℕ) (limit : Float) where
 
     -- an outcome that is right, and whose winner stands in a column of the board
     abbrev InBoard : Outcome → Type 0
-    InBoard (tables.Refused r) = Unit {0}
-    InBoard (tables.Decided w runner) = w.placing.col < 3 * M
+    InBoard (Err r) = Unit {0}
+    InBoard (Ok (w, runner)) = w.placing.col < 3 * M
 
     right-same : (x : Outcome) → RightOutcome B E ts limit x → InBoard x → (a : LocateAnswer) → LocatedAs B E ts limit a → Same ts x a
-    right-same (tables.Refused r) R c (Refused s) (inl a) = clash a.0 some
-    right-same (tables.Refused r) R c (Refused s) (inr a) = ap Refused (refused-one B E ts limit s r a.1 R)
-    right-same (tables.Refused r) R c (Found l) a = absurd (never_both B E ts limit r a.1.listed a.1.key R a.1.sole)
-    right-same (tables.Decided w runner) R c (Refused s) (inl a) = clash a.0 some
-    right-same (tables.Decided w runner) R c (Refused s) (inr a) = absurd (never_both B E ts limit s w.placing.listed (key_at M w.placing.row w.placing.col) a.1 R.0)
-    right-same (tables.Decided w runner) R c (Found l) a = found-same w runner l c R.0 R.1 R.2 a.1
+    right-same (Err r) R c (Err s) (inl a) = clash a.0 some
+    right-same (Err r) R c (Err s) (inr a) = ap Err (refused-one B E ts limit s r a.1 R)
+    right-same (Err r) R c (Ok l) a = absurd (never_both B E ts limit r a.1.listed a.1.key R a.1.sole)
+    right-same (Ok (w, runner)) R c (Err s) (inl a) = clash a.0 some
+    right-same (Ok (w, runner)) R c (Err s) (inr a) = absurd (never_both B E ts limit s w.placing.listed (key_at M w.placing.row w.placing.col) a.1 R.0)
+    right-same (Ok (w, runner)) R c (Ok l) a = found-same w runner l c R.0 R.1 R.2 a.1
 
   module _ (board : BoardOk B) (list : ListOk E) (few : length ts ≤ 8) where
     in-board : (some : no_confidence E ≡ false) (x : Selection) → selection B E ts limit ≡ x → InBoard some (gated (size E) x)
-    in-board some (sel.Refused r) e = tt
-    in-board some (sel.Selected w runner) e = go (passed (size E) w.hits runner.hits)
+    in-board some (Err r) e = tt
+    in-board some (Ok (w, runner)) e = go (passed (size E) w.hits runner.hits)
       where
         go : (b : Bool) → InBoard some (when_passed b w runner)
         go true = (selected-in-range B E ts limit board list few w runner e).col
@@ -91,9 +87,9 @@ module _ (B : Board) (E : EdgeList) (ts : List ℕ) (limit : Float) where
 
     -- without confidence both refuse with 10
     ten-same : no_confidence E ≡ true → (a : LocateAnswer) → LocatedAs B E ts limit a → Same ts (gated (size E) (selection B E ts limit)) a
-    ten-same h (Refused s) (inl a) = rw ((refuses-10 B E ts limit).1 h) (ap Refused a.1)
-    ten-same h (Refused s) (inr a) = clash h a.0
-    ten-same h (Found l) a = clash h a.0
+    ten-same h (Err s) (inl a) = rw ((refuses-10 B E ts limit).1 h) (ap Err a.1)
+    ten-same h (Err s) (inr a) = clash h a.0
+    ten-same h (Ok l) a = clash h a.0
 
     -- ---- ON AN ACCEPTED LIST BOTH ENGINES ANSWER THE SAME
     pub located-same : (a : LocateAnswer) → LocatedAs B E ts limit a → Same ts (gated (size E) (selection B E ts limit)) a
@@ -110,13 +106,13 @@ module _ (B : Board) (E : EdgeList) (ts : List ℕ) (limit : Float) where
     ready = λ c w enough e. ready-logical (hard_call E E ts B limit) c w (hard-accepted (hard_call E E ts B limit) (length c) (length w) e);
     late = λ c w enough e c' w' r X.
         let A = hard-accepted (hard_call E E ts B limit) (length c) (length w) e in
-        rw X.answer (located-same A.board A.logical A.transforms.few a (accepted (locate_admission E ts B limit) D.done (sym (early-same E ts B limit (length c) (length w) enough) ∙ e)));
+        rw X.answer (located-same A.board A.logical A.transforms.few a (was-accepted (locate_admission E ts B limit) D.done (sym (early-same E ts B limit (length c) (length w) enough) ∙ e)));
   }
     where
-      refused : (y : Admission) → AfterChecks B E ts limit y a → (x : Refusal) → relabelled y ≡ admission.Refused x → (r : Refusal) × (a ≡ Refused r) × (x ≡ as_logical r)
-      refused admission.Accepted d x e = no-refusal x e
-      refused (admission.Refused r) d x e = (r, d, let z : as_logical r ≡ x = cc in sym z)
+      refused : (y : Admission) → AfterChecks B E ts limit y a → (x : Refusal) → relabelled y ≡ Err x → (r : Refusal) × (a ≡ Err r) × (x ≡ as_logical r)
+      refused (Ok _) d x e = no-refusal x e
+      refused (Err r) d x e = (r, d, let z : as_logical r ≡ x = cc in sym z)
 
-      accepted : (y : Admission) → AfterChecks B E ts limit y a → relabelled y ≡ admission.Accepted → LocatedAs B E ts limit a
-      accepted admission.Accepted d e = d
-      accepted (admission.Refused r) d e = no-refusal (as_logical r) (sym e)
+      was-accepted : (y : Admission) → AfterChecks B E ts limit y a → relabelled y ≡ accepted → LocatedAs B E ts limit a
+      was-accepted (Ok _) d e = d
+      was-accepted (Err r) d e = no-refusal (as_logical r) (sym e)

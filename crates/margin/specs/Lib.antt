@@ -1,2 +1,3 @@
 pub mod Margin
 pub mod Choice
+pub mod Kinds

@@ -12,11 +12,7 @@ pub struct SoftCandidate {
 }
 
 // First or second place: free, or held by a candidate.
-#[derive(Clone, Copy)]
-pub enum Slot {
-    Free,
-    Held(SoftCandidate),
-}
+pub type Slot = Option<SoftCandidate>;
 
 // First and second place, and the number of transforms so far.
 #[derive(Clone, Copy)]
@@ -27,14 +23,7 @@ pub struct SoftScan {
 }
 
 // What a list of transforms comes to before the margin: no two candidates, or the best and the second.
-#[derive(Clone, Copy)]
-pub enum SoftChoice {
-    Nothing,
-    Chosen {
-        first: SoftCandidate,
-        second: SoftCandidate,
-    },
-}
+pub type SoftChoice = Option<(SoftCandidate, SoftCandidate)>;
 
 // What the scan comes to: both candidates, once there was a transform.
 pub fn finish(scan: SoftScan) -> SoftChoice
@@ -43,10 +32,10 @@ pub fn finish(scan: SoftScan) -> SoftChoice
     let a = scan.first;
     let b = scan.second;
     match a {
-        Slot::Free => SoftChoice::Nothing,
-        Slot::Held(first) => match b {
-            Slot::Free => SoftChoice::Nothing,
-            Slot::Held(second) => SoftChoice::Chosen { first, second },
+        None => None,
+        Some(first) => match b {
+            None => None,
+            Some(second) => Some((first, second)),
         },
     }
 }

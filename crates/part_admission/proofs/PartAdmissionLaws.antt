@@ -1,5 +1,5 @@
 -- The first of the parts, by rank, is the earliest of all that is found; what is taken on, hard decode takes on too; a refused call is so by one of the early numbers, and its place is right.
-use Rattle.std.specs.Prelude.{◌≡◌, refl, Bool, false, not, ◌||◌, ℕ, eqb, length}
+use Rattle.std.specs.Prelude.{◌≡◌, refl, Bool, false, not, ◌||◌, ℕ, eqb, length, Err}
 use Rattle.std.proofs.Common.{sym, ◌∙◌}
 use Rattle.std.proofs.Math.Path.{ap, ap₂}
 use borrow.Author.Tests.{eq-eqb, eqb-true, not-false}
@@ -7,8 +7,7 @@ use Rattle.laws.specs.Tests.{or-false}
 use Rattle.laws.specs.Words.{one_f}
 use Rattle.board.specs.Hits.{Board}
 use Rattle.refusals.specs.declared.Refusal.{Refusal}
-use Rattle.refusals.specs.declared.Admission.{Admission}
-use Rattle.refusals.specs.declared.Admission.TheVariants.{Accepted, Refused}
+use Rattle.refusals.specs.Admission.{Admission, accepted}
 use Rattle.refusals.specs.declared.ListName.TheVariants as list
 use Rattle.refusals.specs.Numbers as why
 use Rattle.refusals.specs.Order.{earlier}
@@ -96,14 +95,14 @@ module _ (call : HardCall) (part : Part) (m n : ℕ) where
       ∙ first-joined (room_findings (room_short 167 m n)) (joined (both_lists call) (part_settings call part)) (sorted-room (room_short 167 m n)) sorted_rest
 
   -- refused early means by one of 1 to 9, 16 and 17
-  pub part-early : (r : Refusal) → part_admission call part m n ≡ Refused r → why.Early r.number
+  pub part-early : (r : Refusal) → part_admission call part m n ≡ Err r → why.Early r.number
   unfolding part_admission
   part-early r =
       found_early (joined (room_findings (room_short 167 m n)) (joined (both_lists call) (part_settings call part))) r
       (sorted-joined (room_findings (room_short 167 m n)) (joined (both_lists call) (part_settings call part)) (sorted-room (room_short 167 m n)) sorted_rest)
 
   -- WHERE A REFUSAL POINTS TO: as hard decode's
-  pub part-place : (r : Refusal) → part_admission call part m n ≡ Refused r → PlaceRight (hard_count call) (hard_bad call) r
+  pub part-place : (r : Refusal) → part_admission call part m n ≡ Err r → PlaceRight (hard_count call) (hard_bad call) r
   unfolding part_admission
   part-place r h =
       let P = PlaceRight (hard_count call) (hard_bad call) in
@@ -112,7 +111,7 @@ module _ (call : HardCall) (part : Part) (m n : ℕ) where
       (each-settings (hard_count call) (hard_bad call) (transforms_bad call.transforms) (flat_tables_bad call.board) (part_settings_bad call.error_limit part))))) h
 
   -- ---- a call that is taken on
-  module _ (h : part_admission call part m n ≡ Accepted) where
+  module _ (h : part_admission call part m n ≡ accepted) where
     found : Clean (room_findings (room_short 167 m n)) × Clean (both_lists call) × Clean (part_settings call part)
     unfolding part_admission
     found =
@@ -137,7 +136,7 @@ module _ (call : HardCall) (part : Part) (m n : ℕ) where
     transforms-good = if-accepted (transforms_bad call.transforms) why.bad_transform found.2.transform
 
     -- hard decode takes it on, with the same room
-    pub part-hard : hard_admission call m n ≡ Accepted
+    pub part-hard : hard_admission call m n ≡ accepted
     unfolding hard_admission
     part-hard =
         let s = settings_findings (transforms_bad call.transforms) (tables_bad call.board) (not (in_range one_f call.error_limit)) in

@@ -1,6 +1,6 @@
 -- WHAT IS ASKED IS WHAT IS CHECKED, of a call over a part: no early refusal exactly when it meets all conditions of PartDomain.antt, and else the number of the first that it does not meet.
 -- The check is hard decode's of the same call on a flat board, or on one whose vertical table is empty where the tables given are none of a flat board; and then the part's.
-use Rattle.std.specs.Prelude.{◌≡◌, refl, Bool, true, false, not, ◌||◌, ℕ, ◌%◌, ◌≤◌, eqb, length, replicate}
+use Rattle.std.specs.Prelude.{◌≡◌, refl, Bool, true, false, not, ◌||◌, ℕ, ◌%◌, ◌≤◌, eqb, length, replicate, Err, Ok}
 use Rattle.std.proofs.Common.{sym, ◌∙◌, inl, arith, ne_eqb, eqb-true, le-ltb}
 use Rattle.std.proofs.Math.Path.{ap, subst}
 use mathlib.Core.List.{List, [], ◌∷◌, ◌++◌}
@@ -10,8 +10,7 @@ use Rattle.std.proofs.lemmas.Bool.{eqb-false}
 use Rattle.laws.specs.Words.{one_f}
 use Rattle.board.specs.Hits.{Board}
 use Rattle.refusals.specs.declared.Refusal.{Refusal}
-use Rattle.refusals.specs.declared.Admission.{Admission}
-use Rattle.refusals.specs.declared.Admission.TheVariants.{Accepted, Refused}
+use Rattle.refusals.specs.Admission.{Admission, accepted}
 use Rattle.ranges.specs.Ranges.{in_range, transforms_bad, patterns_bad, horizontal_bad, vertical_bad}
 use Rattle.findings.specs.Findings.{refused_if, or_else, first_of, Findings, first_found, joined, room_findings, list_findings, settings_findings}
 use Rattle.findings.specs.FindingsLaws.{no-refusal, else-none}
@@ -32,12 +31,12 @@ use Rattle.part_admission.specs.PartDomain.{part_early}
 -- what is judged one by one, and then one more
 judges-more : (rows : List Condition) (a b : Admission) {n : ℕ} {fact : Type 0} → Judges rows a → Judged b n fact → Judges (rows ++ ((n, fact) ∷ [])) (or_else a b)
 unfolding or_else AllMet FirstFails
-judges-more rows Accepted b {n} {fact} j k = record {
+judges-more rows (Ok _) b {n} {fact} j k = record {
   met = λ e. met-both rows ((n, fact) ∷ []) (j.met refl) (k.holds e, tt);
   accepted = λ m. k.accepted (met-parts rows ((n, fact) ∷ []) m).1.0;
   refused = λ r e. fails-late rows ((n, fact) ∷ []) r.number (j.met refl) (inl ((λ h. no-refusal r (sym (k.accepted h) ∙ e)), sym (k.number r e)));
 }
-judges-more rows (Refused x) b {n} {fact} j k = record {
+judges-more rows (Err x) b {n} {fact} j k = record {
   met = λ e. no-refusal x (sym e);
   accepted = λ m. no-refusal x (sym (j.accepted (met-parts rows ((n, fact) ∷ []) m).0));
   refused = λ r e. fails-early rows ((n, fact) ∷ []) r.number (j.refused r e);
@@ -50,8 +49,8 @@ judges-reworded rows others a w j = record { met = λ e. w.met (j.met e); accept
 -- the last kind, with one more finding of it
 else-more : (a b c : Admission) → or_else a (or_else b c) ≡ or_else (or_else a b) c
 unfolding or_else
-else-more Accepted b c = refl
-else-more (Refused r) b c = refl
+else-more (Ok _) b c = refl
+else-more (Err r) b c = refl
 
 either-if : (p q : Bool) (n : ℕ) → refused_if (p || q) n ≡ or_else (refused_if p n) (refused_if q n)
 unfolding or_else
@@ -184,9 +183,9 @@ module _ (call : HardCall) (part : Part) (m n : ℕ) where
   all-judged = judged-on (other call.board).0 (other call.board).1
 
   -- accepted exactly when all conditions are met
-  pub part-domain : (part_admission call part m n ≡ Accepted → AllMet (part_early call part m n)) × (AllMet (part_early call part m n) → part_admission call part m n ≡ Accepted)
+  pub part-domain : (part_admission call part m n ≡ accepted → AllMet (part_early call part m n)) × (AllMet (part_early call part m n) → part_admission call part m n ≡ accepted)
   part-domain = (all-judged.met, all-judged.accepted)
 
   -- and else refused by the number of the first that is not
-  pub part-first : (r : Refusal) → part_admission call part m n ≡ Refused r → FirstFails (part_early call part m n) r.number
+  pub part-first : (r : Refusal) → part_admission call part m n ≡ Err r → FirstFails (part_early call part m n) r.number
   part-first = all-judged.refused

@@ -2,7 +2,7 @@
 use Rattle.std.specs.Prelude.{◌≡◌, Bool, not, ◌||◌, ℕ, length, Float}
 use Rattle.laws.specs.Words.{one_f}
 use Rattle.board.specs.Hits.{Board}
-use Rattle.refusals.specs.declared.Admission.{Admission}
+use Rattle.refusals.specs.Admission.{Admission}
 use Rattle.ranges.specs.Ranges.{in_range, transforms_bad, vertical_bad}
 use Rattle.findings.specs.Findings.{Findings, first_found, joined, room_findings, settings_findings}
 use Rattle.admission.specs.Calls.{HardCall}

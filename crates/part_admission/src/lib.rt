@@ -2,11 +2,13 @@
 #![tactic(auto)]
 
 ghost use Rattle.std.specs.Prelude.{◌≡◌};
-ghost use Rattle.board.specs.Hits.{edges, tables};
-ghost use Rattle.admission.specs.Calls.{hard_call};
 ghost use Rattle.part_admission.specs.PartAdmission.{flat_tables_bad, part_settings_bad, part_admission};
+ghost use Rattle.admission.specs.CallsGiven.{hard_call_of};
+ghost use Rattle.board.specs.Given.{board_of};
 
+use admission::call::HardCall;
 use admission::refusal::room_short;
+use board::pattern::Tables;
 use findings::{list_admission, refused_if, settings_admission};
 use part::Part;
 use refusals::{Admission, ListName, first_of};
@@ -15,10 +17,10 @@ use refusals::{Admission, ListName, first_of};
 const FLAT_LENGTH: usize = 167;
 
 // Whether one of the two pattern tables is none of a flat board, where both have 167 entries.
-fn flat_tables_bad(h: &[u8], v: &[u8]) -> bool
-    ensures { result ≡ flat_tables_bad (tables h.now v.now) }
+fn flat_tables_bad(tables: Tables) -> bool
+    ensures { result ≡ flat_tables_bad (board_of tables.entry) }
 {
-    ranges::vertical_bad(h) || ranges::vertical_bad(v)
+    ranges::vertical_bad(tables.h) || ranges::vertical_bad(tables.v)
 }
 
 // Whether the error limit is no number from 0 to 1, or the part's start or size is out of range.
@@ -32,57 +34,20 @@ fn settings_bad(error_limit: f32, part: Part) -> bool
 }
 
 // The early refusals of a call over a part: the first over both lists, or accepted. The last two are the lengths of the lent room.
-pub fn part_admission(
-    lrows: &[i32],
-    lcols: &[i32],
-    lorientations: &[u8],
-    lbits: &[u8],
-    lconfidences: &[f32],
-    prows: &[i32],
-    pcols: &[i32],
-    porientations: &[u8],
-    pbits: &[u8],
-    pconfidences: &[f32],
-    transforms: &[u8],
-    h: &[u8],
-    v: &[u8],
-    error_limit: f32,
-    part: Part,
-    counts: usize,
-    units: usize,
-) -> Admission
+pub fn part_admission(call: HardCall, part: Part, counts: usize, units: usize) -> Admission
     ensures { result ≡ part_admission
-        (hard_call
-        (edges lrows.now lcols.now lorientations.now lbits.now lconfidences.now)
-        (edges prows.now pcols.now porientations.now pbits.now pconfidences.now)
-        transforms.now (tables h.now v.now) error_limit) part counts units }
+        (hard_call_of call.entry) part counts units }
 {
     let room = refused_if(
         room_short(FLAT_LENGTH, counts, units),
         refusals::ROOM_TOO_SHORT,
     );
-    let logical = list_admission(
-        1,
-        ListName::Logical,
-        lrows,
-        lcols,
-        lorientations,
-        lbits,
-        lconfidences,
-    );
-    let physical = list_admission(
-        1,
-        ListName::Physical,
-        prows,
-        pcols,
-        porientations,
-        pbits,
-        pconfidences,
-    );
+    let logical = list_admission(1, ListName::Logical, call.logical);
+    let physical = list_admission(1, ListName::Physical, call.physical);
     let settings = settings_admission(
-        ranges::transforms_bad(transforms),
-        flat_tables_bad(h, v),
-        settings_bad(error_limit, part),
+        ranges::transforms_bad(call.transforms),
+        flat_tables_bad(call.tables),
+        settings_bad(call.error_limit, part),
     );
     first_of(room, first_of(first_of(logical, physical), settings))
 }

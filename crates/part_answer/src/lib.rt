@@ -5,11 +5,7 @@ use answer::Square;
 use refusals::Refusal;
 
 // The best competitor with its hits and its weight. None is shown where the part has one origin and one transform was listed: then there is no other placing.
-#[derive(Clone, Copy)]
-pub enum PartRunnerUp {
-    NoneShown,
-    Shown(Square, u32, u64),
-}
+pub type PartRunnerUp = Option<(Square, u32, u64)>;
 
 // What a found answer holds: the square of the part that the camera faces, how many of the logical list's edges are hits there, their weight in units and what all edges of that list weigh
 // together, the share of misses, and the best competitor of the part, where there is one.
@@ -25,8 +21,4 @@ pub struct PartDecoded {
 }
 
 // The answer of decode over a part.
-#[derive(Clone, Copy)]
-pub enum PartAnswer {
-    Found(PartDecoded),
-    Refused(Refusal),
-}
+pub type PartAnswer = Result<PartDecoded, Refusal>;

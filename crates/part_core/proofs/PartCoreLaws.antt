@@ -1,5 +1,5 @@
 -- Laws of an accepted call over a part: the ways in which it ends, and that its promise determines the result.
-use Rattle.std.specs.Prelude.{◌≡◌, ℕ, ◌≤◌, get_or, length}
+use Rattle.std.specs.Prelude.{◌≡◌, ℕ, ◌≤◌, get_or, length, Err, Ok}
 use Rattle.std.proofs.Math.Path.{refl, sym, ap, subst}
 use Rattle.std.proofs.Common.{ap₂, ◌∙◌, le_trans, le_of_eq}
 use mathlib.Core.List.{List}
@@ -14,14 +14,12 @@ use Rattle.exact_scan.specs.declared.kept.ExactWinner.{ExactWinner}
 use Rattle.exact_core.specs.ExactCore.{total_units}
 use Rattle.exact_core.specs.ExactReady.{ready-logical, ready-physical}
 use Rattle.part.specs.declared.Part.{Part}
-use Rattle.part_select.specs.declared.kept.PartNext.{PartNext}
-use Rattle.part_select.specs.declared.kept.PartSelection.{PartSelection}
-use Rattle.part_select.specs.declared.kept.PartSelection.TheVariants as sel
+use Rattle.part_select.specs.Kinds.{PartNext}
+use Rattle.part_select.specs.Kinds.{PartSelection}
 use Rattle.part_select.specs.Select.{part_selection, PartDone}
 use Rattle.part_select.proofs.SelectLaws.{part-beyond, part-unique}
-use Rattle.part_answer.specs.declared.PartRunnerUp.{PartRunnerUp}
-use Rattle.part_answer.specs.declared.PartAnswer.{PartAnswer}
-use Rattle.part_answer.specs.declared.PartAnswer.TheVariants.{Refused}
+use Rattle.part_answer.specs.Answers.{PartRunnerUp}
+use Rattle.part_answer.specs.Answers.{PartAnswer}
 use Rattle.part_verdict.specs.PartVerdict.{part_judged}
 use Rattle.part_core.specs.PartCore.{shown_beside, judged_part, part_after_physical, part_after_logical, part_core, PhysicalLeft, PartCoreRoom, PartCoreDone}
 
@@ -41,7 +39,7 @@ module _ (call : HardCall) (part : Part) (m n : ℕ) (A : HardAccepted call m n)
     still-room = le_trans room (le_of_eq (sym first.len))
 
     -- the logical list was refused
-    pub core-refused : (x : Refusal) → r ≡ sel.Refused x → PartCoreDone call part u v (Refused x)
+    pub core-refused : (x : Refusal) → r ≡ Err x → PartCoreDone call part u v (Err x)
     unfolding part_core PhysicalLeft
     core-refused x k = record {
       answer = ap (part_after_logical call part) (sym k ∙ D.answer);
@@ -49,7 +47,7 @@ module _ (call : HardCall) (part : Part) (m n : ℕ) (A : HardAccepted call m n)
       units = first;
     }
 
-    module _ (w : ExactWinner) (next : PartNext) (k : r ≡ sel.Selected w next) (v' : List ℕ) (q : PartSelection) (F : PartDone call.board call.physical call.transforms part one_f v v' q) where
+    module _ (w : ExactWinner) (next : PartNext) (k : r ≡ Ok (w, next)) (v' : List ℕ) (q : PartSelection) (F : PartDone call.board call.physical call.transforms part one_f v v' q) where
       both : SameBeyond 0 (tables_room call.board) u v'
       both = beyond-trans 0 (tables_room call.board) u v v' first (part-beyond call.board call.physical call.transforms part one_f v (ready-physical call m n A v still-room) v' q F)
 
@@ -62,21 +60,21 @@ module _ (call : HardCall) (part : Part) (m n : ℕ) (A : HardAccepted call m n)
       core-answer = ap (part_after_physical call.logical call.transforms w next) F.answer ∙ ap (part_after_logical call part) (sym k ∙ D.answer)
 
       -- the physical list was refused
-      pub core-physical-refused : (x : Refusal) → q ≡ sel.Refused x → PartCoreDone call part u v' (Refused x)
+      pub core-physical-refused : (x : Refusal) → q ≡ Err x → PartCoreDone call part u v' (Err x)
       core-physical-refused x g = record { answer = ap (part_after_physical call.logical call.transforms w next) (sym g) ∙ core-answer; room = core-room; units = both }
 
       -- both lists have a winner
-      pub core-judged : (p : ExactWinner) (other : PartNext) (a : PartAnswer) → q ≡ sel.Selected p other → a ≡ judged_part (size call.logical) (total_units call.logical) call.transforms w next p → PartCoreDone call part u v' a
+      pub core-judged : (p : ExactWinner) (other : PartNext) (a : PartAnswer) → q ≡ Ok (p, other) → a ≡ judged_part (size call.logical) (total_units call.logical) call.transforms w next p → PartCoreDone call part u v' a
       core-judged p other a g e = record { answer = e ∙ ap (part_after_physical call.logical call.transforms w next) (sym g) ∙ core-answer; room = core-room; units = both }
 
 -- ---- any two results that the core's promise allows are equal, and so are the rooms
 module _ (call : HardCall) (part : Part) where
   physical-same : (s : PartSelection) (m n c d : List ℕ) → m ≡ n → PhysicalLeft s call m c → PhysicalLeft s call n d → c ≡ d
   unfolding PhysicalLeft
-  physical-same (sel.Refused x) m n c d e f g = f ∙ e ∙ sym g
-  physical-same (sel.Selected w next) m n c d e f g =
+  physical-same (Err x) m n c d e f g = f ∙ e ∙ sym g
+  physical-same (Ok (w, next)) m n c d e f g =
       let s = part_selection call.board call.physical call.transforms part one_f in
-      let h : PhysicalLeft (sel.Selected w next) call m d = subst (λ (k : List ℕ). PhysicalLeft (sel.Selected w next) call k d) (sym e) g in
+      let h : PhysicalLeft (Ok (w, next)) call m d = subst (λ (k : List ℕ). PhysicalLeft (Ok (w, next)) call k d) (sym e) g in
       (part-unique call.board call.physical call.transforms part one_f m c d s s (record { answer = refl; room = f }) (record { answer = refl; room = h })).1
 
   pub part-core-unique : (u u' v' : List ℕ) (r s : PartAnswer) → PartCoreDone call part u u' r → PartCoreDone call part u v' s → (r ≡ s) × (u' ≡ v')

@@ -1,5 +1,5 @@
 -- What the selections of an accepted call over a part ask, and what their winners are known for.
-use Rattle.std.specs.Prelude.{◌≡◌, List, ℕ, ◌≤◌, ◌<◌, get_or, length, Float}
+use Rattle.std.specs.Prelude.{◌≡◌, List, ℕ, ◌≤◌, ◌<◌, get_or, length, Float, None, Ok, Some}
 use Rattle.std.proofs.Common.{arith}
 use Rattle.laws.specs.Words.{one_f}
 use Rattle.board.specs.Hits.{size}
@@ -13,16 +13,14 @@ use Rattle.exact.specs.SelectLaws.{list-units}
 use Rattle.exact_core.specs.ExactReady.{ready-logical, ready-physical}
 use Rattle.part.specs.declared.Part.{Part}
 use Rattle.part.specs.Part.{PartOk}
-use Rattle.part_select.specs.declared.kept.PartNext.{PartNext}
-use Rattle.part_select.specs.declared.kept.PartNext.TheVariants.{NoneShown, Shown}
-use Rattle.part_select.specs.declared.kept.PartSelection.TheVariants as sel
+use Rattle.part_select.specs.Kinds.{PartNext}
 use Rattle.part_select.specs.Select.{part_selection, PartSelectReady}
 use Rattle.part_select.proofs.PartTheorems.{PartSelected, part-winner}
 
 -- a runner-up that is shown stands in the list of transforms
 abbrev pub NextListed : List ℕ → PartNext → Type 0
-NextListed ts NoneShown = Unit {0}
-NextListed ts (Shown r) = r.placing.listed < length ts
+NextListed ts None = Unit {0}
+NextListed ts (Some r) = r.placing.listed < length ts
 
 -- what judging the winners asks: confidences that can be added up, no more hits than edges, and placings that stand in the list of transforms
 pub record PartJudgeReady (edges : ℕ) (confidences : List Float) (ts : List ℕ) (w : ExactWinner) (next : PartNext) (p : ExactWinner) : Type 0 where
@@ -42,21 +40,21 @@ module _ (call : HardCall) (part : Part) (m n : ℕ) (A : HardAccepted call m n)
   physical-asks u r = record { flat = record { ready = ready-physical call m n A u r; h = flat; v = A.vertical }; range = ok }
 
   -- what the winners are known for
-  pub logical-won : (w : ExactWinner) (next : PartNext) → part_selection call.board call.logical call.transforms part call.error_limit ≡ sel.Selected w next
+  pub logical-won : (w : ExactWinner) (next : PartNext) → part_selection call.board call.logical call.transforms part call.error_limit ≡ Ok (w, next)
       → PartSelected call.board call.logical call.transforms A.board A.logical flat A.vertical part ok call.error_limit w next
   logical-won w next e = part-winner call.board call.logical call.transforms A.board A.logical flat A.vertical part ok call.error_limit w next e
 
-  pub physical-won : (p : ExactWinner) (other : PartNext) → part_selection call.board call.physical call.transforms part one_f ≡ sel.Selected p other
+  pub physical-won : (p : ExactWinner) (other : PartNext) → part_selection call.board call.physical call.transforms part one_f ≡ Ok (p, other)
       → PartSelected call.board call.physical call.transforms A.board A.physical flat A.vertical part ok one_f p other
   physical-won p other e = part-winner call.board call.physical call.transforms A.board A.physical flat A.vertical part ok one_f p other e
 
   next-listed : (w : ExactWinner) (next : PartNext) → PartSelected call.board call.logical call.transforms A.board A.logical flat A.vertical part ok call.error_limit w next → NextListed call.transforms next
-  next-listed w NoneShown S = tt
-  next-listed w (Shown r) S = S.shown.0.on_part.0
+  next-listed w None S = tt
+  next-listed w (Some r) S = S.shown.0.on_part.0
 
   -- what judging asks
-  pub judge-asks : (w : ExactWinner) (next : PartNext) → part_selection call.board call.logical call.transforms part call.error_limit ≡ sel.Selected w next → (p : ExactWinner) (other : PartNext)
-      → part_selection call.board call.physical call.transforms part one_f ≡ sel.Selected p other → PartJudgeReady (size call.logical) call.logical.confidences call.transforms w next p
+  pub judge-asks : (w : ExactWinner) (next : PartNext) → part_selection call.board call.logical call.transforms part call.error_limit ≡ Ok (w, next) → (p : ExactWinner) (other : PartNext)
+      → part_selection call.board call.physical call.transforms part one_f ≡ Ok (p, other) → PartJudgeReady (size call.logical) call.logical.confidences call.transforms w next p
   judge-asks w next e p other f =
       let S = logical-won w next e in
       record {

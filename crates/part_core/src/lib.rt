@@ -2,20 +2,20 @@
 #![tactic(auto)]
 
 ghost use Rattle.std.specs.Prelude.{◌≡◌, length};
-ghost use Rattle.board.specs.Hits.{edges, tables};
-ghost use Rattle.admission.specs.Calls.{hard_call};
 ghost use Rattle.admission.specs.Accepted.{HardAccepted};
 ghost use Rattle.exact.specs.Select.{units_to};
 ghost use Rattle.part.specs.Part.{PartOk};
 ghost use Rattle.part_core.specs.PartCore.{shown_beside, judged_part, PartCoreDone};
 ghost use Rattle.part_core.specs.PartReady.{NextListed, PartJudgeReady};
+ghost use Rattle.admission.specs.CallsGiven.{hard_call_of};
 
+use admission::call::HardCall;
 use answer::Square;
 use exact::select::unit_sum;
 use exact_scan::kept::ExactWinner;
 use part::Part;
 use part_answer::{PartAnswer, PartRunnerUp};
-use part_select::kept::{PartNext, PartSelection};
+use part_select::kept::PartNext;
 use part_select::select::select_part;
 use part_verdict::judge_part;
 
@@ -25,15 +25,15 @@ fn shown_beside(transforms: &[u8], next: PartNext) -> PartRunnerUp
     ensures { result ≡ shown_beside transforms.now next }
 {
     match next {
-        PartNext::NoneShown => PartRunnerUp::NoneShown,
-        PartNext::Shown(other) => {
+        None => None,
+        Some(other) => {
             let at = other.placing.listed;
             let square = Square {
                 transform: transforms[at],
                 row: other.placing.row,
                 col: other.placing.col,
             };
-            PartRunnerUp::Shown(square, other.hits, other.weight)
+            Some((square, other.hits, other.weight))
         }
     }
 }
@@ -67,77 +67,36 @@ fn judge_winners(
 }
 
 // What an accepted call over a part answers: the logical list with the limit, the physical list with limit 1, both over the part, then both judged. The room is left as it was used.
-pub fn part_core<'a>(
-    lrows: &[i32],
-    lcols: &[i32],
-    lorientations: &[u8],
-    lbits: &[u8],
-    lconfidences: &[f32],
-    prows: &[i32],
-    pcols: &[i32],
-    porientations: &[u8],
-    pbits: &[u8],
-    pconfidences: &[f32],
-    transforms: &[u8],
-    h: &'a [u8],
-    v: &'a [u8],
-    error_limit: f32,
-    part: Part,
-    units: &mut [u64],
-) -> PartAnswer
+pub fn part_core(call: HardCall, part: Part, units: &mut [u64]) -> PartAnswer
     requires hard_accepted { HardAccepted
-        (hard_call
-        (edges lrows.now lcols.now lorientations.now lbits.now lconfidences.now)
-        (edges prows.now pcols.now porientations.now pbits.now pconfidences.now)
-        transforms.now (tables h.now v.now) error_limit) (length units.old) (length units.old) }
-    requires h_len { (length h.now ≡ 167) × PartOk part }
+        (hard_call_of call) (length units.old) (length units.old) }
+    requires h_len { (length call.tables.h.now ≡ 167) × PartOk part }
     ensures { PartCoreDone
-        (hard_call
-        (edges lrows.now lcols.now lorientations.now lbits.now lconfidences.now)
-        (edges prows.now pcols.now porientations.now pbits.now pconfidences.now)
-        transforms.now (tables h.now v.now) error_limit) part
+        (hard_call_of call.entry) part
         units.old units.new result }
 {
-    let logical = select_part(
-        lrows,
-        lcols,
-        lorientations,
-        lbits,
-        lconfidences,
-        transforms,
-        h,
-        v,
+    let (w, next) = select_part(
+        call.logical,
+        call.transforms,
+        call.tables,
         part,
-        error_limit,
+        call.error_limit,
         units,
-    );
-    match logical {
-        PartSelection::Refused(refusal) => PartAnswer::Refused(refusal),
-        PartSelection::Selected(w, next) => {
-            let physical = select_part(
-                prows,
-                pcols,
-                porientations,
-                pbits,
-                pconfidences,
-                transforms,
-                h,
-                v,
-                part,
-                1.0,
-                units,
-            );
-            match physical {
-                PartSelection::Refused(refusal) => PartAnswer::Refused(refusal),
-                PartSelection::Selected(p, _) => judge_winners(
-                    lrows,
-                    lconfidences,
-                    transforms,
-                    w,
-                    next,
-                    p,
-                ),
-            }
-        }
-    }
+    )?;
+    let (p, _) = select_part(
+        call.physical,
+        call.transforms,
+        call.tables,
+        part,
+        1.0,
+        units,
+    )?;
+    judge_winners(
+        call.logical.edges.rows,
+        call.logical.confidences,
+        call.transforms,
+        w,
+        next,
+        p,
+    )
 }

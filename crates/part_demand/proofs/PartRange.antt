@@ -1,5 +1,5 @@
 -- A found answer over a part is in range.
-use Rattle.std.specs.Prelude.{◌≡◌, List, ℕ, ◌^◌, ◌≤◌, ◌<◌, length, get_or}
+use Rattle.std.specs.Prelude.{◌≡◌, List, ℕ, ◌^◌, ◌≤◌, ◌<◌, length, get_or, None, Ok, Some}
 use Rattle.std.proofs.Common.{sym, subst, arith}
 use Rattle.laws.specs.Words.{Finite}
 use Rattle.laws.specs.WithinLaws.{within-finite}
@@ -17,18 +17,16 @@ use Rattle.exact_demand.proofs.ExactRange.{weight-total, total-few}
 use Rattle.part.specs.declared.Part.{Part}
 use Rattle.part.specs.Part.{OnPart, PartOk}
 use Rattle.part.specs.PartLaws.{side-below}
-use Rattle.part_answer.specs.declared.PartRunnerUp.{PartRunnerUp}
-use Rattle.part_answer.specs.declared.PartRunnerUp.TheVariants.{NoneShown, Shown}
+use Rattle.part_answer.specs.Answers.{PartRunnerUp}
 use Rattle.part_answer.specs.declared.PartDecoded.{PartDecoded}
-use Rattle.part_answer.specs.declared.PartAnswer.TheVariants.{Found}
 use Rattle.part_core.specs.PartCore.{part_core}
 use Rattle.part_demand.specs.PartDemand.{Beside, PartAnswered}
 use Rattle.part_demand.proofs.PartTheorems.{part_sound}
 
 -- a runner-up that is shown, beside a winner with so many hits of a list that weighs `total`: its square on the board, fewer hits, and a weight of at most the total
 abbrev pub BesideInRange : ℕ → ℕ → PartRunnerUp → Type 0
-BesideInRange best total NoneShown = Unit {0}
-BesideInRange best total (Shown square hits weight) = SquareInRange 167 square × (hits < best) × (weight ≤ total)
+BesideInRange best total None = Unit {0}
+BesideInRange best total (Some (square, hits, weight)) = SquareInRange 167 square × (hits < best) × (weight ≤ total)
 
 -- a found answer over a part: the square on the flat board, some hits of at most 8,192 edges; a weight of at most the total, and the total from 1 to 2^37
 pub record PartInRange (d : PartDecoded) : Type 0 where
@@ -53,8 +51,8 @@ part-square-in-range ts part P s k o n = record {
 module _ (call : HardCall) (part : Part) (m n : ℕ) (A : HardAccepted call m n) (flat : length call.board.h ≡ 167) (ok : PartOk part) where
   -- what is shown beside a winner is in range
   beside-in-range : (d : PartDecoded) (a : PartAnswered call part d) (x : PartRunnerUp) → Beside call.board call.logical call.transforms part a.square x → BesideInRange d.hits d.total x
-  beside-in-range d a NoneShown b = tt
-  beside-in-range d a (Shown s k w) b = (
+  beside-in-range d a None b = tt
+  beside-in-range d a (Some (s, k, w)) b = (
     part-square-in-range call.transforms part b.0 s A.transforms b.1.on_part b.2,
     omega (arith, a.hits, b.3, a.leads.ahead b.0 b.1.on_part b.1.other),
     omega (arith, a.total, b.4, weight-total call.logical A.logical call.board (get_or call.transforms b.0.listed 0) b.0.row b.0.col),
@@ -62,10 +60,10 @@ module _ (call : HardCall) (part : Part) (m n : ℕ) (A : HardAccepted call m n)
 
   -- the placing that leads has some hits: it beats the runner-up's, or 0
   leader-hits : (d : PartDecoded) (a : PartAnswered call part d) (x : PartRunnerUp) → Beside call.board call.logical call.transforms part a.square x → 0 < d.hits
-  leader-hits d a NoneShown b = omega (arith, a.hits, a.leads.alone b)
-  leader-hits d a (Shown s k w) b = omega (arith, a.hits, a.leads.ahead b.0 b.1.on_part b.1.other)
+  leader-hits d a None b = omega (arith, a.hits, a.leads.alone b)
+  leader-hits d a (Some (s, k, w)) b = omega (arith, a.hits, a.leads.ahead b.0 b.1.on_part b.1.other)
 
-  pub part-in-range : (d : PartDecoded) → part_core call part ≡ Found d → PartInRange d
+  pub part-in-range : (d : PartDecoded) → part_core call part ≡ Ok d → PartInRange d
   part-in-range d e =
       let s = part_sound call part m n A flat ok d e in
       let a = s.1 in

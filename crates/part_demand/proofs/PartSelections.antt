@@ -1,5 +1,5 @@
 -- What a selection over a part comes to on one list, in words of placings: no units, no placing of the part within the limit, or a winner; and what its gate says of who leads.
-use Rattle.std.specs.Prelude.{◌≡◌, Bool, List, ℕ, ◌+◌, ◌-◌, ◌%◌, ◌≤◌, ◌<◌, get_or, length, Float}
+use Rattle.std.specs.Prelude.{◌≡◌, Bool, List, ℕ, ◌+◌, ◌-◌, ◌%◌, ◌≤◌, ◌<◌, get_or, length, Float, Err, None, Ok, Some}
 use Rattle.std.proofs.Math.Path.{refl}
 use Rattle.std.proofs.Common.{sym, ◌∙◌, arith}
 use Rattle.std.proofs.Math.Bool.{true, false, cond}
@@ -25,10 +25,8 @@ use Rattle.part.specs.Part.{InSide, OnPart, PartOk}
 use Rattle.part_scan.specs.declared.kept.Offer.{Offer}
 use Rattle.part_scan.specs.declared.kept.PartKept.{PartKept}
 use Rattle.part_scan.specs.declared.kept.PartKept.TheVariants.{Nobody, One, Two}
-use Rattle.part_select.specs.declared.kept.PartNext.{PartNext}
-use Rattle.part_select.specs.declared.kept.PartNext.TheVariants.{NoneShown, Shown}
-use Rattle.part_select.specs.declared.kept.PartSelection.{PartSelection}
-use Rattle.part_select.specs.declared.kept.PartSelection.TheVariants.{Refused, Selected}
+use Rattle.part_select.specs.Kinds.{PartNext}
+use Rattle.part_select.specs.Kinds.{PartSelection}
 use Rattle.part_select.specs.Select.{winner_of, finished_with, part_finished, part_scan, part_selection}
 use Rattle.part_select.specs.PartWinner.{IsPartWinner}
 use Rattle.part_select.proofs.PartTheorems.{start-on, one-origin, PartSelected, part-11}
@@ -80,9 +78,9 @@ one-placing-only ts part ok o = one-origin ts part ok (omega (arith, o.transform
 module _ (B : Board) (E : EdgeList) (ts : List ℕ) (board : BoardOk B) (list : ListOk E) (h : period_of B true ≡ 167) (v : period_of B false ≡ 167) (part : Part) (ok : PartOk part) (limit : Float) (some : 0 < length ts) where
   -- the three ways in which a selection ends
   pub data PartSelectionEnd : PartSelection → Type 0 where
-    no-units : total_units E ≡ 0 → PartSelectionEnd (Refused (numbered why.no_confidence))
-    none_within : 0 < total_units E → NoneOfPartWithin B E ts part limit → PartSelectionEnd (Refused (numbered why.none_within_limit))
-    selected : 0 < total_units E → (w : ExactWinner) (next : PartNext) → part_selection B E ts part limit ≡ Selected w next → PartSelectionEnd (Selected w next)
+    no-units : total_units E ≡ 0 → PartSelectionEnd (Err (numbered why.no_confidence))
+    none_within : 0 < total_units E → NoneOfPartWithin B E ts part limit → PartSelectionEnd (Err (numbered why.none_within_limit))
+    selected : 0 < total_units E → (w : ExactWinner) (next : PartNext) → part_selection B E ts part limit ≡ Ok (w, next) → PartSelectionEnd (Ok (w, next))
 
   some-units : no_units E ≡ false → 0 < total_units E
   unfolding no_units
@@ -92,35 +90,35 @@ module _ (B : Board) (E : EdgeList) (ts : List ℕ) (board : BoardOk B) (list : 
   unfolding finished_with
   with-end k c next e = go (over_limit (size E) limit (hits_of c.value)) e
     where
-      go : (b : Bool) → part_selection B E ts part limit ≡ cond b (Refused (numbered why.none_within_limit)) (Selected (winner_of c) next) → PartSelectionEnd (cond b (Refused (numbered why.none_within_limit)) (Selected (winner_of c) next))
+      go : (b : Bool) → part_selection B E ts part limit ≡ cond {A = PartSelection} b (Err (numbered why.none_within_limit)) (Ok ((winner_of c), next)) → PartSelectionEnd (cond {A = PartSelection} b (Err (numbered why.none_within_limit)) (Ok ((winner_of c), next)))
       go true d = none_within (some-units k) (part-11 B E ts board list h v part ok limit some k d)
       go false d = selected (some-units k) (winner_of c) next d
 
   kept-end : no_units E ≡ false → (K : PartKept) → part_selection B E ts part limit ≡ part_finished (size E) limit K → PartSelectionEnd (part_finished (size E) limit K)
   kept-end k Nobody e = none_within (some-units k) (part-11 B E ts board list h v part ok limit some k e)
-  kept-end k (One c) e = with-end k c NoneShown e
-  kept-end k (Two c r) e = with-end k c (Shown (winner_of r)) e
+  kept-end k (One c) e = with-end k c None e
+  kept-end k (Two c r) e = with-end k c (Some (winner_of r)) e
 
   -- HOW A SELECTION OVER A PART ENDS
   pub part-ended : PartSelectionEnd (part_selection B E ts part limit)
   unfolding part_selection no_units
   part-ended = go (no_units E) refl refl
     where
-      go : (b : Bool) → no_units E ≡ b → part_selection B E ts part limit ≡ cond b (Refused (numbered why.no_confidence)) (part_finished (size E) limit (part_scan B E ts part))
-          → PartSelectionEnd (cond b (Refused (numbered why.no_confidence)) (part_finished (size E) limit (part_scan B E ts part)))
+      go : (b : Bool) → no_units E ≡ b → part_selection B E ts part limit ≡ cond b (Err (numbered why.no_confidence)) (part_finished (size E) limit (part_scan B E ts part))
+          → PartSelectionEnd (cond {A = PartSelection} b (Err (numbered why.no_confidence)) (part_finished (size E) limit (part_scan B E ts part)))
       go true k e = no-units (eqb-true (total_units E) 0 k)
       go false k e = kept-end k (part_scan B E ts part) e
 
   -- ---- the gate
   -- where the winner passes it, the winner leads
   pub gate-leads-part : (w : ExactWinner) (next : PartNext) → PartSelected B E ts board list h v part ok limit w next → passed (size E) w.hits (hits_shown (shown_beside ts next)) ≡ true → PartLeads B E ts part limit w.placing
-  gate-leads-part w NoneShown S g = record {
+  gate-leads-part w None S g = record {
     on_part = S.winner.on_part;
     within = S.within;
     ahead = λ Q o n. absurd (n (S.shown Q o));
     alone = λ z. omega (arith, ltb-true (size E - w.hits) (w.hits - 0) g, S.told.hits);
   }
-  gate-leads-part w (Shown r) S g = record {
+  gate-leads-part w (Some r) S g = record {
     on_part = S.winner.on_part;
     within = S.within;
     ahead = λ Q o n. omega (arith, ltb-true (size E - w.hits) (w.hits - r.hits) g, S.told.hits, S.shown.1.hits, S.shown.0.no_third Q o n);
@@ -129,11 +127,11 @@ module _ (B : Board) (E : EdgeList) (ts : List ℕ) (board : BoardOk B) (list : 
 
   -- where it does not, no placing of the part leads
   pub gate-none-part : (w : ExactWinner) (next : PartNext) → PartSelected B E ts board list h v part ok limit w next → passed (size E) w.hits (hits_shown (shown_beside ts next)) ≡ false → NoneOfPartLeads B E ts part limit
-  gate-none-part w NoneShown S g Q l =
+  gate-none-part w None S g Q l =
       let s = leads-wins-part B E ts part limit Q w.placing l S.winner in
       let e : hits_at B E ts Q ≡ hits_at B E ts w.placing = λ i. hits B E (get_or ts (s.0 i) 0) (s.1 i) (s.2 i) in
       omega (arith, l.alone (one-placing ts part ok some w.placing S.shown), e, S.told.hits, ltb-false (size E - w.hits) (w.hits - 0) g)
-  gate-none-part w (Shown r) S g Q l =
+  gate-none-part w (Some r) S g Q l =
       let s = leads-wins-part B E ts part limit Q w.placing l S.winner in
       let e : hits_at B E ts Q ≡ hits_at B E ts w.placing = λ i. hits B E (get_or ts (s.0 i) 0) (s.1 i) (s.2 i) in
       let a = l.ahead r.placing S.shown.0.on_part (λ t. S.shown.0.other (t.0 ∙ s.0, t.1 ∙ s.1, t.2 ∙ s.2)) in

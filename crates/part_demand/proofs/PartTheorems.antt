@@ -1,12 +1,11 @@
 -- DEMAND 3 OVER A PART. For accepted inputs with a unit sum above 0 of each list, decode over a part answers exactly when one placing of the part leads on the logical list and agrees with the
 -- winner of the physical list over the part; it gives that placing, and the runner-up over the part, or none in the one case in which there is none. Hits and weights are counted edge by edge.
-use Rattle.std.specs.Prelude.{◌≡◌, refl, List, ℕ, ◌≤◌, ◌<◌, get_or, length, Float}
+use Rattle.std.specs.Prelude.{◌≡◌, refl, List, ℕ, ◌≤◌, ◌<◌, get_or, length, Float, Err, None, Ok}
 use Rattle.std.proofs.Common.{sym, ap, subst, ◌∙◌, arith}
 use Rattle.laws.specs.Tests.{clash}
 use Rattle.board.specs.declared.edge.Placing.{Placing}
 use Rattle.board.specs.Hits.{EdgeList, Board}
 use Rattle.refusals.specs.declared.Refusal.{Refusal}
-use Rattle.refusals.specs.declared.Place.TheVariants.{Nowhere}
 use Rattle.refusals.specs.Numbers.{numbered}
 use Rattle.refusals.specs.Numbers as why
 use Rattle.admission.specs.Calls.{HardCall}
@@ -21,8 +20,7 @@ use Rattle.part.specs.Part.{PartOk}
 use Rattle.part_select.specs.PartWinner.{IsPartWinner}
 use Rattle.part_select.proofs.PartTheorems.{part-winner-once}
 use Rattle.part_answer.specs.declared.PartDecoded.{PartDecoded}
-use Rattle.part_answer.specs.declared.PartAnswer.{PartAnswer}
-use Rattle.part_answer.specs.declared.PartAnswer.TheVariants.{Found, Refused}
+use Rattle.part_answer.specs.Answers.{PartAnswer}
 use Rattle.part_verdict.specs.PartVerdict.{part_refused_by}
 use Rattle.part_core.specs.PartCore.{part_core}
 use Rattle.part_demand.specs.PartDemand.{PartLeads, PartWins, PartAnswered}
@@ -52,10 +50,10 @@ leader-wins B E ts part limit Q P l w =
 
 module _ (call : HardCall) (part : Part) (m n : ℕ) (A : HardAccepted call m n) (flat : length call.board.h ≡ 167) (ok : PartOk part) where
   -- FOUND MEANS TRUE, and the logical list has units and a winner over the part
-  pub part_sound : (d : PartDecoded) → part_core call part ≡ Found d → BothWinPart call part × PartAnswered call part d
+  pub part_sound : (d : PartDecoded) → part_core call part ≡ Ok d → BothWinPart call part × PartAnswered call part d
   part_sound d e = go (part_core call part) (part-ends call part m n A flat ok) e
     where
-      go : (a : PartAnswer) → PartEnd call part a → a ≡ Found d → BothWinPart call part × PartAnswered call part d
+      go : (a : PartAnswer) → PartEnd call part a → a ≡ Ok d → BothWinPart call part × PartAnswered call part d
       go a (no_logical_units z) q = absurd (never_both part-answers d (numbered why.no_confidence) q)
       go a (none-within-limit u h) q = absurd (never_both part-answers d (numbered why.none_within_limit) q)
       go a (no_physical_units u P h z) q = absurd (never_both part-answers d (numbered why.no_confidence) q)
@@ -65,13 +63,13 @@ module _ (call : HardCall) (part : Part) (m n : ℕ) (A : HardAccepted call m n)
 
   -- A TRUE SQUARE IS FOUND
   pub part-complete : 0 < total_units call.logical → 0 < total_units call.physical → (Q : Placing) → PartLeads call.board call.logical call.transforms part call.error_limit Q
-      → PartWins call.board call.physical call.transforms part Q → (d : PartDecoded) × (part_core call part ≡ Found d)
+      → PartWins call.board call.physical call.transforms part Q → (d : PartDecoded) × (part_core call part ≡ Ok d)
   part-complete u v Q l x = go (part_core call part) (part-ends call part m n A flat ok) refl
     where
       leader : (b : BothWinPart call part) → PartWins call.board call.logical call.transforms part Q
       leader b = leader-wins call.board call.logical call.transforms part call.error_limit Q b.logical l b.logical_wins
 
-      go : (a : PartAnswer) → PartEnd call part a → part_core call part ≡ a → (d : PartDecoded) × (part_core call part ≡ Found d)
+      go : (a : PartAnswer) → PartEnd call part a → part_core call part ≡ a → (d : PartDecoded) × (part_core call part ≡ Ok d)
       go a (no_logical_units z) q = absurd (omega (arith, u, z))
       go a (none-within-limit k h) q = clash (h Q l.on_part) l.within
       go a (no_physical_units k P h z) q = absurd (omega (arith, v, z))
@@ -80,13 +78,13 @@ module _ (call : HardCall) (part : Part) (m n : ℕ) (A : HardAccepted call m n)
       go a (found b h d y) q = (d, q)
 
   -- refused late means 10 to 13, and about no edge
-  pub part-late : (r : Refusal) → part_core call part ≡ Refused r → (why.no_confidence ≤ r.number) × (r.number ≤ why.not_far_ahead) × (r.place ≡ Nowhere)
+  pub part-late : (r : Refusal) → part_core call part ≡ Err r → (why.no_confidence ≤ r.number) × (r.number ≤ why.not_far_ahead) × (r.place ≡ None)
   part-late r e = go (part_core call part) (part-ends call part m n A flat ok) e
     where
-      numbers : (k : ℕ) → why.no_confidence ≤ k → k ≤ why.not_far_ahead → part_refused_by k ≡ Refused r → (why.no_confidence ≤ r.number) × (r.number ≤ why.not_far_ahead) × (r.place ≡ Nowhere)
+      numbers : (k : ℕ) → why.no_confidence ≤ k → k ≤ why.not_far_ahead → part_refused_by k ≡ Err r → (why.no_confidence ≤ r.number) × (r.number ≤ why.not_far_ahead) × (r.place ≡ None)
       numbers k h l q = let z = part-answers.once (numbered k) r q in let y : k ≡ r.number = ap (λ (x : Refusal). x.number) z in (omega arith, omega arith, sym (ap (λ (x : Refusal). x.place) z))
 
-      go : (a : PartAnswer) → PartEnd call part a → a ≡ Refused r → (why.no_confidence ≤ r.number) × (r.number ≤ why.not_far_ahead) × (r.place ≡ Nowhere)
+      go : (a : PartAnswer) → PartEnd call part a → a ≡ Err r → (why.no_confidence ≤ r.number) × (r.number ≤ why.not_far_ahead) × (r.place ≡ None)
       go a (no_logical_units z) q = numbers why.no_confidence (omega arith) (omega arith) q
       go a (none-within-limit u h) q = numbers why.none_within_limit (omega arith) (omega arith) q
       go a (no_physical_units u P h z) q = numbers why.no_confidence (omega arith) (omega arith) q

@@ -1,6 +1,6 @@
 -- What customers are promised of a found answer over a part (request C-20: "Demand 3 reads with the rectangle's origins, and in that one case with a lead over 0 hits and no runner-up"): by hits and
 -- weights, edge by edge. No selection and no table occurs.
-use Rattle.std.specs.Prelude.{◌≡◌, true, false, List, ℕ, ◌+◌, ◌-◌, ◌<◌, length, Float}
+use Rattle.std.specs.Prelude.{◌≡◌, true, false, List, ℕ, ◌+◌, ◌-◌, ◌<◌, length, Float, None, Some}
 use Rattle.board.specs.declared.edge.Placing.{Placing}
 use Rattle.board.specs.Hits.{EdgeList, Board, size, hits_at}
 use Rattle.scan.specs.Scan.{over_limit}
@@ -13,8 +13,7 @@ use Rattle.exact_core.specs.ExactCore.{total_units}
 use Rattle.part.specs.declared.Part.{Part}
 use Rattle.part.specs.Part.{OnPart}
 use Rattle.part_select.specs.PartWinner.{IsPartWinner, IsPartNext}
-use Rattle.part_answer.specs.declared.PartRunnerUp.{PartRunnerUp}
-use Rattle.part_answer.specs.declared.PartRunnerUp.TheVariants.{NoneShown, Shown}
+use Rattle.part_answer.specs.Answers.{PartRunnerUp}
 use Rattle.part_answer.specs.declared.PartDecoded.{PartDecoded}
 
 -- "that one case": "one origin and one transform", so that the part has one placing
@@ -50,8 +49,8 @@ pub record PartWins (B : Board) (E : EdgeList) (ts : List ℕ) (part : Part) (P 
 
 -- what is shown beside the placing P: none in that one case, and else "a runner-up that is another placing" of the part "with hits no third exceeds", the earliest of those, with its hits and weight
 abbrev pub Beside : Board → EdgeList → List ℕ → Part → Placing → PartRunnerUp → Type 0
-Beside B E ts part P NoneShown = OnePlacing ts part
-Beside B E ts part P (Shown square hits weight) = (Q : Placing) × IsPartNext B E ts part P Q × Names ts Q square × (hits ≡ hits_at B E ts Q) × (weight ≡ weight_at B E ts Q)
+Beside B E ts part P None = OnePlacing ts part
+Beside B E ts part P (Some (square, hits, weight)) = (Q : Placing) × IsPartNext B E ts part P Q × Names ts Q square × (hits ≡ hits_at B E ts Q) × (weight ≡ weight_at B E ts Q)
 
 -- "one placing of the logical list" leads over the part "and agrees with the winner of the physical list" over the part; the answer gives that placing and what is shown beside it; hits, weights
 -- and rate are those of the placings and of the list, edge by edge

@@ -1,8 +1,9 @@
 -- C-20, one list, in terms of placings: what is selected is the winner over the part (`part-winner`), there is only one (`part-winner-once`), what is shown beside it is the
 -- runner-up, and none is shown only where the part has one placing.
+use Rattle.part_select.specs.Kinds.{PartSelection}
 use Rattle.std.proofs.Math.Path.{◌≡◌, refl, ap₂}
 use Rattle.std.proofs.Common.{sym, ap, subst, ◌∙◌}
-use Rattle.std.specs.Prelude.{Bool, List, ℕ, ◌+◌, ◌*◌, ◌/◌, ◌%◌, ◌^◌, ◌≤◌, ◌<◌, get_or, length, Float}
+use Rattle.std.specs.Prelude.{Bool, List, ℕ, ◌+◌, ◌*◌, ◌/◌, ◌%◌, ◌^◌, ◌≤◌, ◌<◌, get_or, length, Float, Err, None, Ok, Some}
 use Rattle.std.proofs.Math.Bool.{true, false, cond, ◌&&◌}
 use native.Mathlib.Omega.{arith}
 use Rattle.laws.specs.Tests.{and-true}
@@ -14,6 +15,7 @@ use Rattle.board.specs.Hits.{EdgeList, Board, size, hit, hits, hits_at}
 use Rattle.board.specs.Sides.{period_of}
 use Rattle.board.specs.Domain.{ListOk, BoardOk}
 use Rattle.board.proofs.HitsLaws.{hits-le}
+use Rattle.scan.specs.Pairs.{ok-first, ok-second}
 use Rattle.scan.specs.Scan.{over_limit}
 use Rattle.hard.specs.RateLaws.{fewer-over}
 use Rattle.unit_terms.specs.Values.{one_hit}
@@ -32,9 +34,7 @@ use Rattle.part_scan.specs.declared.kept.PartKept.TheVariants.{Nobody, One, Two}
 use Rattle.part_scan.specs.Kept.{walked, Wins, RunsUp, Leads}
 use Rattle.part_scan.specs.KeptTheorems.{walk-leads}
 use Rattle.part_scan.specs.Walk.{row_at, col_at, in_both}
-use Rattle.part_select.specs.declared.kept.PartNext.{PartNext}
-use Rattle.part_select.specs.declared.kept.PartNext.TheVariants.{NoneShown, Shown}
-use Rattle.part_select.specs.declared.kept.PartSelection.TheVariants.{Refused, Selected}
+use Rattle.part_select.specs.Kinds.{PartNext}
 use Rattle.part_select.specs.Select.{placing_of, list_value, part_scan_of, winner_of, finished_with, part_finished, part_scan, part_selection}
 use Rattle.part_select.proofs.SelectLaws.{hits_below, weight_below, number-value, number-weight, value-hits, value-weight}
 use Rattle.part_select.specs.PartWinner.{NoLater, IsPartWinner, IsPartNext}
@@ -237,8 +237,8 @@ module _ (B : Board) (E : EdgeList) (ts : List ℕ) (board : BoardOk B) (list : 
 
   -- what is shown beside the winner P: none where P is the only placing of the part, else the runner-up
   abbrev pub ShownRight : Placing → PartNext → Type 0
-  ShownRight P NoneShown = (Q : Placing) → OnPart ts part Q → Same Q P
-  ShownRight P (Shown r) = IsPartNext B E ts part P r.placing × ToldAs r.placing r
+  ShownRight P None = (Q : Placing) → OnPart ts part Q → Same Q P
+  ShownRight P (Some r) = IsPartNext B E ts part P r.placing × ToldAs r.placing r
 
   -- a selection that is right: the winner over the part, within the limit, and what is shown beside it
   pub record PartSelected (limit : Float) (w : ExactWinner) (next : PartNext) : Type 0 where
@@ -249,7 +249,7 @@ module _ (B : Board) (E : EdgeList) (ts : List ℕ) (board : BoardOk B) (list : 
 
   module _ (limit : Float) where
     -- from what is kept
-    told-winner : (c : Offer) (next : PartNext) (W : Wins inside val all c) → ShownRight (placing_of c.number) next → (w : ExactWinner) (n : PartNext) → finished_with (size E) limit c next ≡ Selected w n → PartSelected limit w n
+    told-winner : (c : Offer) (next : PartNext) (W : Wins inside val all c) → ShownRight (placing_of c.number) next → (w : ExactWinner) (n : PartNext) → finished_with (size E) limit c next ≡ Ok (w, n) → PartSelected limit w n
     unfolding finished_with winner_of
     told-winner c next W S w n e = go (over_limit (size E) limit (hits_of c.value)) refl e
       where
@@ -264,27 +264,27 @@ module _ (B : Board) (E : EdgeList) (ts : List ℕ) (board : BoardOk B) (list : 
           shown = S;
         }
 
-        go : (b : Bool) → over_limit (size E) limit (hits_of c.value) ≡ b → cond b (Refused (numbered why.none_within_limit)) (Selected X next) ≡ Selected w n → PartSelected limit w n
+        go : (b : Bool) → over_limit (size E) limit (hits_of c.value) ≡ b → cond {A = PartSelection} b (Err (numbered why.none_within_limit)) (Ok (X, next)) ≡ Ok (w, n) → PartSelected limit w n
         go true f d = let z : ◌≡◌ {A = ℕ} 0 1 = cc in absurd (omega arith)
         go false f d =
-            let x : X ≡ w = cc in
-            let y : next ≡ n = cc in
+            let x : X ≡ w = ok-first d in
+            let y : next ≡ n = ok-second d in
             subst (λ (k : PartNext). PartSelected limit w k) y (subst (λ (k : ExactWinner). PartSelected limit k next) x (right f))
 
-    from-kept : (K : PartKept) → Leads inside val all K → (w : ExactWinner) (n : PartNext) → part_finished (size E) limit K ≡ Selected w n → PartSelected limit w n
+    from-kept : (K : PartKept) → Leads inside val all K → (w : ExactWinner) (n : PartNext) → part_finished (size E) limit K ≡ Ok (w, n) → PartSelected limit w n
     unfolding winner_of
     from-kept Nobody L w n e = let z : ◌≡◌ {A = ℕ} 0 1 = cc in absurd (omega arith)
-    from-kept (One c) L w n e = told-winner c NoneShown L.0 (only_part c L.0 L.1) w n e
+    from-kept (One c) L w n e = told-winner c None L.0 (only_part c L.0 L.1) w n e
     from-kept (Two c r) L w n e =
-        told-winner c (Shown (record { hits = hits_of r.value; weight = weight_of r.value; placing = placing_of r.number })) L.0
+        told-winner c (Some (record { hits = hits_of r.value; weight = weight_of r.value; placing = placing_of r.number })) L.0
         (next-part c L.0 r L.1, record { place = refl; hits = next-hits c L.0 r L.1; weight = next-weight c L.0 r L.1 }) w n e
 
     -- WHAT IS SELECTED IS THE WINNER OVER THE PART, WITH ITS RUNNER-UP, AND NONE IS SHOWN ONLY WHERE THERE IS NO OTHER PLACING
-    pub part-winner : (w : ExactWinner) (n : PartNext) → part_selection B E ts part limit ≡ Selected w n → PartSelected limit w n
+    pub part-winner : (w : ExactWinner) (n : PartNext) → part_selection B E ts part limit ≡ Ok (w, n) → PartSelected limit w n
     unfolding part_selection part_scan part_scan_of
     part-winner w n e = go (no_units E) e
       where
-        go : (b : Bool) → cond b (Refused (numbered why.no_confidence)) (part_finished (size E) limit (part_scan B E ts part)) ≡ Selected w n → PartSelected limit w n
+        go : (b : Bool) → cond b (Err (numbered why.no_confidence)) (part_finished (size E) limit (part_scan B E ts part)) ≡ Ok (w, n) → PartSelected limit w n
         go true d = let z : ◌≡◌ {A = ℕ} 0 1 = cc in absurd (omega arith)
         go false d = from-kept (part_scan B E ts part) (walk-leads inside val all) w n d
 
@@ -303,50 +303,50 @@ module _ (B : Board) (E : EdgeList) (ts : List ℕ) (board : BoardOk B) (list : 
         go (Two c r) L = (placing_of c.number, wins-part c L.0)
 
     -- where the winner is over the limit, all are
-    over-all : (c : Offer) → Wins inside val all c → (next : PartNext) → finished_with (size E) limit c next ≡ Refused (numbered why.none_within_limit) → (Q : Placing) → OnPart ts part Q → over_limit (size E) limit (hits_at B E ts Q) ≡ true
+    over-all : (c : Offer) → Wins inside val all c → (next : PartNext) → finished_with (size E) limit c next ≡ Err (numbered why.none_within_limit) → (Q : Placing) → OnPart ts part Q → over_limit (size E) limit (hits_at B E ts Q) ≡ true
     unfolding finished_with
     over-all c W next e Q o =
         fewer-over (size E) limit (hits_at B E ts Q) (hits_at B E ts (placing_of c.number)) list.few ((wins-part c W).most_hits Q o) (hits-le B E (get_or ts (placing_of c.number).listed 0) (placing_of c.number).row (placing_of c.number).col)
         (ap (over_limit (size E) limit) (sym (hits-are c W)) ∙ go (over_limit (size E) limit (hits_of c.value)) refl e)
       where
-        go : (b : Bool) → over_limit (size E) limit (hits_of c.value) ≡ b → cond b (Refused (numbered why.none_within_limit)) (Selected (winner_of c) next) ≡ Refused (numbered why.none_within_limit) → over_limit (size E) limit (hits_of c.value) ≡ true
+        go : (b : Bool) → over_limit (size E) limit (hits_of c.value) ≡ b → cond {A = PartSelection} b (Err (numbered why.none_within_limit)) (Ok ((winner_of c), next)) ≡ Err (numbered why.none_within_limit) → over_limit (size E) limit (hits_of c.value) ≡ true
         go true f d = f
         go false f d = let z : ◌≡◌ {A = ℕ} 0 1 = cc in absurd (omega arith)
 
     -- and a winner over the limit is refused
-    over-one : (c : Offer) (next : PartNext) → over_limit (size E) limit (hits_of c.value) ≡ true → finished_with (size E) limit c next ≡ Refused (numbered why.none_within_limit)
+    over-one : (c : Offer) (next : PartNext) → over_limit (size E) limit (hits_of c.value) ≡ true → finished_with (size E) limit c next ≡ Err (numbered why.none_within_limit)
     unfolding finished_with
     over-one c next t = rw t
 
     -- so somebody is kept
-    kept-over : 0 < length ts → (K : PartKept) → Leads inside val all K → part_finished (size E) limit K ≡ Refused (numbered why.none_within_limit) → (Q : Placing) → OnPart ts part Q → over_limit (size E) limit (hits_at B E ts Q) ≡ true
+    kept-over : 0 < length ts → (K : PartKept) → Leads inside val all K → part_finished (size E) limit K ≡ Err (numbered why.none_within_limit) → (Q : Placing) → OnPart ts part Q → over_limit (size E) limit (hits_at B E ts Q) ≡ true
     unfolding finished_with
     kept-over some Nobody L e Q o = absurd (L (number_of start) (number-below start (start-on ts part ok 0 some)) (number-inside start (start-on ts part ok 0 some)))
-    kept-over some (One c) L e Q o = over-all c L.0 NoneShown e Q o
-    kept-over some (Two c r) L e Q o = over-all c L.0 (Shown (winner_of r)) e Q o
+    kept-over some (One c) L e Q o = over-all c L.0 None e Q o
+    kept-over some (Two c r) L e Q o = over-all c L.0 (Some (winner_of r)) e Q o
 
     -- 11 ONLY WHERE NO PLACING OF THE PART IS WITHIN THE LIMIT
-    pub part-11 : 0 < length ts → no_units E ≡ false → part_selection B E ts part limit ≡ Refused (numbered why.none_within_limit) → (Q : Placing) → OnPart ts part Q → over_limit (size E) limit (hits_at B E ts Q) ≡ true
+    pub part-11 : 0 < length ts → no_units E ≡ false → part_selection B E ts part limit ≡ Err (numbered why.none_within_limit) → (Q : Placing) → OnPart ts part Q → over_limit (size E) limit (hits_at B E ts Q) ≡ true
     unfolding part_selection part_scan part_scan_of
     part-11 some u e = kept-over some (part_scan B E ts part) (walk-leads inside val all) (rw u at e)
 
     -- 11 WHEREVER NO PLACING OF THE PART IS WITHIN THE LIMIT
-    pub part-11-given : no_units E ≡ false → ((Q : Placing) → OnPart ts part Q → over_limit (size E) limit (hits_at B E ts Q) ≡ true) → part_selection B E ts part limit ≡ Refused (numbered why.none_within_limit)
+    pub part-11-given : no_units E ≡ false → ((Q : Placing) → OnPart ts part Q → over_limit (size E) limit (hits_at B E ts Q) ≡ true) → part_selection B E ts part limit ≡ Err (numbered why.none_within_limit)
     unfolding part_selection part_scan part_scan_of
     part-11-given u over = rw u (all-over (part_scan B E ts part) (walk-leads inside val all))
       where
-        one-over : (c : Offer) (next : PartNext) → Wins inside val all c → finished_with (size E) limit c next ≡ Refused (numbered why.none_within_limit)
+        one-over : (c : Offer) (next : PartNext) → Wins inside val all c → finished_with (size E) limit c next ≡ Err (numbered why.none_within_limit)
         one-over c next W = over-one c next (ap (over_limit (size E) limit) (hits-are c W) ∙ over (placing_of c.number) (wins-part c W).on_part)
 
-        all-over : (K : PartKept) → Leads inside val all K → part_finished (size E) limit K ≡ Refused (numbered why.none_within_limit)
+        all-over : (K : PartKept) → Leads inside val all K → part_finished (size E) limit K ≡ Err (numbered why.none_within_limit)
         all-over Nobody L = refl
-        all-over (One c) L = one-over c NoneShown L.0
-        all-over (Two c r) L = one-over c (Shown (winner_of r)) L.0
+        all-over (One c) L = one-over c None L.0
+        all-over (Two c r) L = one-over c (Some (winner_of r)) L.0
 
     -- WITH ONE ORIGIN AND ONE LIST POSITION NO RUNNER-UP IS SHOWN
-    pub part-alone : length ts ≡ 1 → part.rows ≡ 1 → part.cols ≡ 1 → (w : ExactWinner) (n : PartNext) → part_selection B E ts part limit ≡ Selected w n → n ≡ NoneShown
+    pub part-alone : length ts ≡ 1 → part.rows ≡ 1 → part.cols ≡ 1 → (w : ExactWinner) (n : PartNext) → part_selection B E ts part limit ≡ Ok (w, n) → n ≡ None
     part-alone one r c w n e = go n (part-winner w n e)
       where
-        go : (k : PartNext) → PartSelected limit w k → k ≡ NoneShown
-        go NoneShown S = refl
-        go (Shown s) S = absurd (S.shown.0.other (one-origin ts part ok one r c s.placing w.placing S.shown.0.on_part S.winner.on_part))
+        go : (k : PartNext) → PartSelected limit w k → k ≡ None
+        go None S = refl
+        go (Some s) S = absurd (S.shown.0.other (one-origin ts part ok one r c s.placing w.placing S.shown.0.on_part S.winner.on_part))

@@ -1,5 +1,5 @@
 -- Laws of the selection over a part: the scan one transform further, its value by hits and weight, and the two ends of a selection.
-use Rattle.std.specs.Prelude.{◌≡◌, Bool, List, get_or, length, Float}
+use Rattle.std.specs.Prelude.{◌≡◌, Bool, List, get_or, length, Float, Err, Ok}
 use Rattle.std.proofs.Math.Path.{refl, sym, ap, ap₂}
 use Rattle.std.proofs.Common.{subst, ◌∙◌}
 use Rattle.std.proofs.Math.Bool.{true, false}
@@ -35,9 +35,8 @@ use Rattle.part_scan.specs.KeptLaws.{walk_none, walk-join, walk-values}
 use Rattle.part_scan.specs.KeptTheorems.{walk-leads}
 use Rattle.part_scan.specs.Walk.{first_number, row_at, col_at, number_value, in_both, TablesReady}
 use Rattle.part_scan.specs.WalkLaws.{position_at, first-listed}
-use Rattle.part_select.specs.declared.kept.PartNext.{PartNext}
-use Rattle.part_select.specs.declared.kept.PartSelection.{PartSelection}
-use Rattle.part_select.specs.declared.kept.PartSelection.TheVariants.{Refused, Selected}
+use Rattle.part_select.specs.Kinds.{PartNext}
+use Rattle.part_select.specs.Kinds.{PartSelection}
 use Rattle.part_select.specs.Select.{value_under, list_value, room_number, part_scan_of, winner_of, finished_with, part_finished, part_scan, part_selection, OfferOk, SoundPart, FlatReady, PartScanDone, PartDone}
 
 -- ---- the tables in a room can be walked
@@ -155,17 +154,17 @@ module _ (edges : ℕ) (limit : Float) (c : Offer) (next : PartNext) (w : ExactW
   unfolding winner_of
   limit-by b t = ap (λ (x : ExactWinner). over_limit edges limit x.hits) (sym e) ∙ t
 
-  pub finish-over : over_limit edges limit w.hits ≡ true → Refused (numbered why.none_within_limit) ≡ finished_with edges limit c next
+  pub finish-over : over_limit edges limit w.hits ≡ true → Err (numbered why.none_within_limit) ≡ finished_with edges limit c next
   unfolding finished_with
   finish-over t = rw (limit-by true t)
 
-  pub finish-within : over_limit edges limit w.hits ≡ false → Selected w next ≡ finished_with edges limit c next
+  pub finish-within : over_limit edges limit w.hits ≡ false → Ok (w, next) ≡ finished_with edges limit c next
   unfolding finished_with
-  finish-within t = rw (limit-by false t) (ap (λ (x : ExactWinner). Selected x next) e)
+  finish-within t = rw (limit-by false t) (ap (λ (x : ExactWinner). Ok (x, next)) e)
 
 -- ---- the two ends of a selection
 module _ (B : Board) (E : EdgeList) (ts : List ℕ) (part : Part) (limit : Float) (a : List ℕ) where
-  pub part-refused : units_to E.confidences (length E.confidences) ≡ 0 → PartDone B E ts part limit a a (Refused (numbered why.no_confidence))
+  pub part-refused : units_to E.confidences (length E.confidences) ≡ 0 → PartDone B E ts part limit a a (Err (numbered why.no_confidence))
   unfolding part_selection no_units values_to ValueRoom
   part-refused h = record { answer = rw h; room = rw h refl }
 

@@ -1,5 +1,5 @@
 -- C-20, one list: the placings of a part over the list's transforms, by number, and what the selection comes to.
-use Rattle.std.specs.Prelude.{◌≡◌, true, false, cond, List, ℕ, ◌*◌, ◌/◌, ◌≤◌, ◌<◌, get_or, length, Float}
+use Rattle.std.specs.Prelude.{◌≡◌, true, false, cond, List, ℕ, ◌*◌, ◌/◌, ◌≤◌, ◌<◌, get_or, length, Float, Err, None, Ok, Some}
 use Rattle.refusals.specs.Numbers.{numbered}
 use Rattle.refusals.specs.Numbers as why
 use Rattle.board.specs.Hits.{EdgeList, Board, size}
@@ -19,10 +19,8 @@ use Rattle.part_scan.specs.declared.kept.PartKept.{PartKept}
 use Rattle.part_scan.specs.declared.kept.PartKept.TheVariants.{Nobody, One, Two}
 use Rattle.part_scan.specs.Kept.{walked}
 use Rattle.part_scan.specs.Walk.{row_at, col_at, number_value, in_both}
-use Rattle.part_select.specs.declared.kept.PartNext.{PartNext}
-use Rattle.part_select.specs.declared.kept.PartNext.TheVariants.{NoneShown, Shown}
-use Rattle.part_select.specs.declared.kept.PartSelection.{PartSelection}
-use Rattle.part_select.specs.declared.kept.PartSelection.TheVariants.{Refused, Selected}
+use Rattle.part_select.specs.Kinds.{PartNext}
+use Rattle.part_select.specs.Kinds.{PartSelection}
 
 -- ---- the placings by number
 -- the placing with a number
@@ -56,13 +54,13 @@ winner_of c = record { hits = hits_of c.value; weight = weight_of c.value; placi
 -- refused where c is over the limit, else c with what is shown beside it
 unfoldable pub finished_with : ℕ → Float → Offer → PartNext → PartSelection
 unfolding winner_of
-finished_with edges limit c next = cond (over_limit edges limit (hits_of c.value)) (Refused (numbered why.none_within_limit)) (Selected (winner_of c) next)
+finished_with edges limit c next = cond (over_limit edges limit (hits_of c.value)) (Err (numbered why.none_within_limit)) (Ok ((winner_of c), next))
 
 -- by what is kept: no runner-up is shown where there is one placing only
 abbrev pub part_finished : ℕ → Float → PartKept → PartSelection
-part_finished edges limit Nobody = Refused (numbered why.none_within_limit)
-part_finished edges limit (One w) = finished_with edges limit w NoneShown
-part_finished edges limit (Two w r) = finished_with edges limit w (Shown (winner_of r))
+part_finished edges limit Nobody = Err (numbered why.none_within_limit)
+part_finished edges limit (One w) = finished_with edges limit w None
+part_finished edges limit (Two w r) = finished_with edges limit w (Some (winner_of r))
 
 -- the scan over a part
 unfoldable pub part_scan : Board → EdgeList → List ℕ → Part → PartKept
@@ -72,7 +70,7 @@ part_scan B E ts part = part_scan_of B E ts (runs_of part.row part.rows) (runs_o
 -- the selection on one list over a part: refused without confidence, then where the winner is over the limit
 unfoldable pub part_selection : Board → EdgeList → List ℕ → Part → Float → PartSelection
 unfolding part_scan
-part_selection B E ts part limit = cond (no_units E) (Refused (numbered why.no_confidence)) (part_finished (size E) limit (part_scan B E ts part))
+part_selection B E ts part limit = cond (no_units E) (Err (numbered why.no_confidence)) (part_finished (size E) limit (part_scan B E ts part))
 
 -- ---- what is asked, and what was done
 -- a kept placing that can be shown: no more hits than edges, and a number of one of eight list positions

@@ -1,24 +1,23 @@
 // What the scan of a part comes to.
-ghost use Rattle.std.specs.Prelude.{◌≡◌};
+ghost use Rattle.std.specs.Prelude.{◌≡◌, Err};
 ghost use Rattle.refusals.specs.Numbers.{numbered, none_within_limit};
-ghost use Rattle.part_select.specs.declared.kept.PartSelection.TheVariants.{Refused};
 ghost use Rattle.part_select.specs.Select.{OfferOk, winner_of, finished_with, part_finished, SoundPart};
 
 use crate::kept::{PartNext, PartSelection};
 use board::edge::Placing;
 use exact_scan::kept::ExactWinner;
 use part_scan::kept::{Offer, PartKept};
-use refusals::{Place, Refusal};
+use refusals::Refusal;
 use scan::record::over_limit;
 use values::table::{hits_of, weight_of};
 
 // The refusal where no placing is within the limit.
 fn none_within() -> PartSelection
-    ensures { result ≡ Refused (numbered none_within_limit) }
+    ensures { result ≡ Err (numbered none_within_limit) }
 {
-    PartSelection::Refused(Refusal {
+    Err(Refusal {
         number: refusals::NONE_WITHIN_LIMIT,
-        place: Place::Nowhere,
+        place: None,
     })
 }
 
@@ -42,7 +41,7 @@ fn winner_of(c: Offer, edges: u32) -> ExactWinner
     }
 }
 
-// Refused where the winner is over the limit, since no placing of the part has more hits; else the winner with what is shown beside it.
+// Err where the winner is over the limit, since no placing of the part has more hits; else the winner with what is shown beside it.
 fn finish_with(c: Offer, next: PartNext, edges: u32, error_limit: f32) -> PartSelection
     requires { OfferOk edges c }
     ensures { result ≡ finished_with edges error_limit c next }
@@ -51,7 +50,7 @@ fn finish_with(c: Offer, next: PartNext, edges: u32, error_limit: f32) -> PartSe
     if over_limit(edges, winner.hits, error_limit) {
         return none_within();
     }
-    PartSelection::Selected(winner, next)
+    Ok((winner, next))
 }
 
 // What the scan of a part comes to.
@@ -61,10 +60,10 @@ pub fn finish_part(kept: PartKept, edges: u32, error_limit: f32) -> PartSelectio
 {
     match kept {
         PartKept::Nobody => none_within(),
-        PartKept::One(w) => finish_with(w, PartNext::NoneShown, edges, error_limit),
+        PartKept::One(w) => finish_with(w, None, edges, error_limit),
         PartKept::Two(w, r) => {
             let other = winner_of(r, edges);
-            finish_with(w, PartNext::Shown(other), edges, error_limit)
+            finish_with(w, Some(other), edges, error_limit)
         }
     }
 }

@@ -3,15 +3,7 @@ use exact_scan::kept::ExactWinner;
 use refusals::Refusal;
 
 // The runner-up, with its hits, its weight and where it is: none is shown where the part has one placing only.
-#[derive(Clone, Copy)]
-pub enum PartNext {
-    NoneShown,
-    Shown(ExactWinner),
-}
+pub type PartNext = Option<ExactWinner>;
 
 // Refused (no confidence, nothing within the limit), or the winner with its runner-up.
-#[derive(Clone, Copy)]
-pub enum PartSelection {
-    Refused(Refusal),
-    Selected(ExactWinner, PartNext),
-}
+pub type PartSelection = Result<(ExactWinner, PartNext), Refusal>;

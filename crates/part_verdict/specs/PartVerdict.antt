@@ -1,26 +1,24 @@
 -- The verdict on the winners of a part (request C-20): document 01's agreement and gate on hits. "With one origin and one transform there is no runner-up: its hits count as 0 and the answer
 -- says none is shown."
-use Rattle.std.specs.Prelude.{cond, ℕ}
+use Rattle.std.specs.Prelude.{cond, ℕ, Err, None, Ok, Some}
 use Rattle.refusals.specs.Numbers.{numbered}
 use Rattle.refusals.specs.Numbers as why
 use Rattle.figures.specs.Figures.{rate_of}
 use Rattle.figures.specs.Gate.{passed}
 use Rattle.exact_scan.specs.declared.kept.ExactWinner.{ExactWinner}
 use Rattle.verdict.proofs.VerdictTheorems.{test}
-use Rattle.part_answer.specs.declared.PartRunnerUp.{PartRunnerUp}
-use Rattle.part_answer.specs.declared.PartRunnerUp.TheVariants.{NoneShown, Shown}
+use Rattle.part_answer.specs.Answers.{PartRunnerUp}
 use Rattle.part_answer.specs.declared.PartDecoded.{PartDecoded}
-use Rattle.part_answer.specs.declared.PartAnswer.{PartAnswer}
-use Rattle.part_answer.specs.declared.PartAnswer.TheVariants.{Found, Refused}
+use Rattle.part_answer.specs.Answers.{PartAnswer}
 
 -- a refusal by its number, and nothing else
 abbrev pub part_refused_by : ℕ → PartAnswer
-part_refused_by n = Refused (numbered n)
+part_refused_by n = Err (numbered n)
 
 -- the hits of the runner-up, which count as 0 where none is shown
 abbrev pub hits_shown : PartRunnerUp → ℕ
-hits_shown NoneShown = 0
-hits_shown (Shown square hits weight) = hits
+hits_shown None = 0
+hits_shown (Some (square, hits, weight)) = hits
 
 -- what a found answer says of the winner w under the transform t, with what is shown beside it, where all edges weigh `total`
 unfoldable pub part_decoded_of : ℕ → ExactWinner → PartRunnerUp → ℕ → ℕ → PartDecoded
@@ -39,5 +37,5 @@ unfoldable pub part_judged : ℕ → ExactWinner → PartRunnerUp → ℕ → Ex
 unfolding part_decoded_of
 part_judged t w next s p edges total =
     cond (test t w.placing s p.placing)
-    (cond (passed edges w.hits (hits_shown next)) (Found (part_decoded_of t w next edges total)) (part_refused_by why.not_far_ahead))
+    (cond (passed edges w.hits (hits_shown next)) (Ok (part_decoded_of t w next edges total)) (part_refused_by why.not_far_ahead))
     (part_refused_by why.lists_disagree)

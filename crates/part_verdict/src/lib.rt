@@ -7,15 +7,15 @@ ghost use Rattle.part_verdict.specs.PartVerdict.{hits_shown, part_decoded_of, pa
 use answer::Square;
 use exact_scan::kept::ExactWinner;
 use part_answer::{PartAnswer, PartDecoded, PartRunnerUp};
-use refusals::{Place, Refusal};
+use refusals::Refusal;
 
 // The hits of the runner-up: 0 where none is shown.
 fn hits_shown(next: PartRunnerUp) -> u32
     ensures { result ≡ hits_shown next }
 {
     match next {
-        PartRunnerUp::NoneShown => 0,
-        PartRunnerUp::Shown(_, hits, _) => hits,
+        None => 0,
+        Some((_, hits, _)) => hits,
     }
 }
 
@@ -60,17 +60,17 @@ pub fn judge_part(
             if w.placing.col == p.placing.col {
                 if figures::passes(edges, w.hits, behind) {
                     let found = decoded_part(t, w, next, edges, total);
-                    return PartAnswer::Found(found);
+                    return Ok(found);
                 }
-                return PartAnswer::Refused(Refusal {
+                return Err(Refusal {
                     number: refusals::NOT_FAR_AHEAD,
-                    place: Place::Nowhere,
+                    place: None,
                 });
             }
         }
     }
-    PartAnswer::Refused(Refusal {
+    Err(Refusal {
         number: refusals::LISTS_DISAGREE,
-        place: Place::Nowhere,
+        place: None,
     })
 }

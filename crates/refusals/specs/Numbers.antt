@@ -1,8 +1,7 @@
 -- Document 01, 'Refusal numbers': the table, one name for each number, as request C-11 amends it. They are the names of the C header, and of the constants in the code.
-use Rattle.std.specs.Prelude.{◌≡◌, ◌⊎◌, ℕ, ◌≤◌}
+use Rattle.std.specs.Prelude.{◌≡◌, ◌⊎◌, ℕ, ◌≤◌, None, Some}
 use Rattle.refusals.specs.declared.Refusal.{Refusal}
 use Rattle.refusals.specs.declared.ListName.{ListName}
-use Rattle.refusals.specs.declared.Place.TheVariants.{Nowhere, At}
 
 -- "room too short"
 abbrev pub room_too_short : ℕ
@@ -73,11 +72,11 @@ soft_hard_disagree = 15
 
 -- a refusal that is about no edge: its number, and no place
 abbrev pub numbered : ℕ → Refusal
-numbered n = record { number = n; place = Nowhere }
+numbered n = record { number = n; place = None }
 
 -- C-11: "let each refusal about an edge field carry the list and the position of the first bad edge of that kind"
 abbrev pub edge_refusal : ℕ → ListName → ℕ → Refusal
-edge_refusal n list i = record { number = n; place = At (record { list = list; position = i }) }
+edge_refusal n list i = record { number = n; place = Some (record { list = list; position = i }) }
 
 -- an early refusal, before any work is done: 1 to 9, 16 or 17
 abbrev pub Early : ℕ → Type 0

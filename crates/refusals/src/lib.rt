@@ -55,26 +55,15 @@ pub struct EdgePlace {
     pub position: u32,
 }
 
-// Where in the call a refusal points to: nowhere, or to an edge.
-#[derive(Clone, Copy)]
-pub enum Place {
-    Nowhere,
-    At(EdgePlace),
-}
-
 // Why a call was refused: the number, and the edge at fault where it is about one.
 #[derive(Clone, Copy)]
 pub struct Refusal {
     pub number: u32,
-    pub place: Place,
+    pub place: Option<EdgePlace>,
 }
 
 // Whether a call is taken on, or refused before any work is done.
-#[derive(Clone, Copy)]
-pub enum Admission {
-    Accepted,
-    Refused(Refusal),
-}
+pub type Admission = Result<(), Refusal>;
 
 // A refusal that is about no edge.
 pub fn numbered(number: u32) -> Refusal
@@ -82,7 +71,7 @@ pub fn numbered(number: u32) -> Refusal
 {
     Refusal {
         number,
-        place: Place::Nowhere,
+        place: None,
     }
 }
 
@@ -92,7 +81,7 @@ pub fn edge_refusal(number: u32, list: ListName, position: u32) -> Refusal
 {
     Refusal {
         number,
-        place: Place::At(EdgePlace { list, position }),
+        place: Some(EdgePlace { list, position }),
     }
 }
 
@@ -117,10 +106,10 @@ pub fn first_of(a: Admission, b: Admission) -> Admission
     ensures { result ≡ earlier a b }
 {
     match a {
-        Admission::Accepted => b,
-        Admission::Refused(one) => match b {
-            Admission::Accepted => a,
-            Admission::Refused(other) => {
+        Ok(()) => b,
+        Err(one) => match b {
+            Ok(()) => a,
+            Err(other) => {
                 if rank(other.number) < rank(one.number) {
                     return b;
                 }

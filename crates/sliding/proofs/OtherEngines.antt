@@ -1,5 +1,5 @@
 -- C-21 of the engines that judge one list by hits besides document 01's: the engine without tables (C-16), and the exact mode's selection with the gate (C-15).
-use Rattle.std.specs.Prelude.{◌≡◌, refl, List, ℕ, ◌≤◌, ◌<◌, get_or, length, ℤ, Bool, true, false, Float}
+use Rattle.std.specs.Prelude.{◌≡◌, refl, List, ℕ, ◌≤◌, ◌<◌, get_or, length, ℤ, Bool, true, false, Float, Err, Ok}
 use Rattle.std.proofs.Common.{sym, ap, ◌∙◌, arith}
 use borrow.Author.Tests.{eq-eqb, ne_eqb}
 use Rattle.refusals.specs.Numbers.{numbered}
@@ -7,8 +7,7 @@ use Rattle.refusals.specs.Numbers as why
 use Rattle.figures.specs.Gate.{passed}
 use Rattle.scan.specs.declared.scan.RunnerUp.{RunnerUp}
 use Rattle.exact_scan.specs.declared.kept.ExactWinner.{ExactWinner}
-use Rattle.exact_scan.specs.declared.kept.ExactSelection.{ExactSelection}
-use Rattle.exact_scan.specs.declared.kept.ExactSelection.TheVariants as exact
+use Rattle.exact_scan.specs.Kinds.{ExactSelection}
 use Rattle.exact.specs.Select.{no_units, exact_selection}
 use Rattle.exact.proofs.ExactTheorems.{exact-runner-up}
 use Rattle.exact_core.specs.ExactCore.{total_units}
@@ -17,12 +16,10 @@ use Rattle.exact_demand.proofs.ExactSelections as ends
 use Rattle.sliding.proofs.ByHits.{Told, refused, found, ByHits, no-confidence, none_within, none_leads, leads, ToldThere, told-there}
 use Rattle.board.specs.Hits.{EdgeList, Board, size}
 use Rattle.board.specs.Domain.{ListOk, BoardOk}
-use Rattle.decide.specs.declared.Outcome.{Outcome}
-use Rattle.decide.specs.declared.Outcome.TheVariants as tables
+use Rattle.decide.specs.Kinds.{Outcome}
 use Rattle.decide.specs.Decide.{gated}
 use Rattle.hard.specs.Select.{selection}
-use Rattle.locate_answer.specs.declared.LocateAnswer.{LocateAnswer}
-use Rattle.locate_answer.specs.declared.LocateAnswer.TheVariants.{Found, Refused}
+use Rattle.locate_answer.specs.Answers.{LocateAnswer}
 use Rattle.locate.specs.Located.{LocatedAs}
 use Rattle.locate_equal.specs.Equal.{Same}
 use Rattle.locate_equal.specs.EqualTheorems.{located-same}
@@ -37,19 +34,19 @@ units-stay E F down right s = rw s.confidences refl
 -- ---- the engine without tables
 -- the same refusal; or the same hits, runner-up hits and transform, at the slid origin
 abbrev pub LocatedSlidTo : Board → ℤ → ℤ → LocateAnswer → LocateAnswer → Type 0
-LocatedSlidTo B down right (Refused one) (Refused other) = other ≡ one
-LocatedSlidTo B down right (Refused one) (Found l) = ⊥
-LocatedSlidTo B down right (Found l) (Refused other) = ⊥
-LocatedSlidTo B down right (Found l) (Found m) =
+LocatedSlidTo B down right (Err one) (Err other) = other ≡ one
+LocatedSlidTo B down right (Err one) (Ok l) = ⊥
+LocatedSlidTo B down right (Ok l) (Err other) = ⊥
+LocatedSlidTo B down right (Ok l) (Ok m) =
     (m.hits ≡ l.hits) × (m.runner_up_hits ≡ l.runner_up_hits) × (m.square.transform ≡ l.square.transform)
     × (m.square.row ≡ slid_row B l.square.transform down right l.square.row) × (m.square.col ≡ slid_col B l.square.transform down right l.square.col)
 
 module _ (B : Board) (ts : List ℕ) (down right : ℤ) (board : BoardOk B) (E F : EdgeList) (limit : Float) (list : ListOk E) (slid-list : ListOk F) (few : length ts ≤ 8) (s : Slid down right E F) where
   by-outcomes : (x y : Outcome) (a b : LocateAnswer) → Same ts x a → Same ts y b → SlidTo B ts down right x y → LocatedSlidTo B down right a b
-  by-outcomes (tables.Refused r) (tables.Refused q) a b X Y t = rw (X, Y) t
-  by-outcomes (tables.Refused r) (tables.Decided v p) a b X Y t = absurd t
-  by-outcomes (tables.Decided w r) (tables.Refused q) a b X Y t = absurd t
-  by-outcomes (tables.Decided w r) (tables.Decided v p) a b X Y t =
+  by-outcomes (Err r) (Err q) a b X Y t = rw (X, Y) t
+  by-outcomes (Err r) (Ok (v, p)) a b X Y t = absurd t
+  by-outcomes (Ok (w, r)) (Err q) a b X Y t = absurd t
+  by-outcomes (Ok (w, r)) (Ok (v, p)) a b X Y t =
       rw (X.1, Y.1)
       (rw (X.2, Y.2)
       (Y.3 ∙ t.0 ∙ sym X.3, Y.4 ∙ t.1 ∙ sym X.4, ap (λ (i : ℕ). get_or ts i 0) t.2, t.3, t.4))
@@ -68,8 +65,8 @@ when_ahead false w r = refused (numbered why.not_far_ahead)
 
 -- what an exact selection of a list of so many edges tells, once the gate is asked
 abbrev pub exact_told : ℕ → ExactSelection → Told
-exact_told edges (exact.Refused r) = refused r
-exact_told edges (exact.Selected w r) = when_ahead (passed edges w.hits r.hits) w r
+exact_told edges (Err r) = refused r
+exact_told edges (Ok (w, r)) = when_ahead (passed edges w.hits r.hits) w r
 
 module _ (B : Board) (E : EdgeList) (ts : List ℕ) (limit : Float) (board : BoardOk B) (list : ListOk E) (some : 0 < length ts) (few : length ts ≤ 8) where
   none : total_units E ≡ 0 → no_units E ≡ true
@@ -80,7 +77,7 @@ module _ (B : Board) (E : EdgeList) (ts : List ℕ) (limit : Float) (board : Boa
   unfolding no_units
   has h = ne_eqb (total_units E) 0 (λ e. omega (arith, h, e))
 
-  by-gate : (w : ExactWinner) (r : RunnerUp) (e : exact_selection B E ts limit ≡ exact.Selected w r) → no_units E ≡ false
+  by-gate : (w : ExactWinner) (r : RunnerUp) (e : exact_selection B E ts limit ≡ Ok (w, r)) → no_units E ≡ false
       → (b : Bool) → passed (size E) w.hits r.hits ≡ b → ByHits B E ts limit (no_units E) (when_ahead b w r)
   by-gate w r e k true g = leads k w.placing w.hits r.hits (gate-leads B E ts limit board list some few w r e g) (hits-told B E ts limit board list some few w r e) (exact-runner-up B E ts board list some limit w r e few)
   by-gate w r e k false g =

@@ -1,6 +1,6 @@
 -- C-21: SLIDE THE PICTURE, SLIDE THE SQUARE. Sliding permutes the placings of each list position and keeps hits; so whatever judges one list by hits slides: hard selection and the gate (`slides`), the
 -- exact mode's (C-15, `exact-slides`) and the engine without tables (C-16, `located-slides`), both in OtherEngines.antt.
-use Rattle.std.specs.Prelude.{◌≡◌, Bool, true, false, List, ◌⊎◌, ℕ, ◌*◌, ◌≤◌, ◌<◌, get_or, ℤ, pos, neg_ℤ, ◌+ℤ◌, ◌-ℤ◌, Float}
+use Rattle.std.specs.Prelude.{◌≡◌, Bool, true, false, List, ◌⊎◌, ℕ, ◌*◌, ◌≤◌, ◌<◌, get_or, ℤ, pos, neg_ℤ, ◌+ℤ◌, ◌-ℤ◌, Float, Err, Ok}
 use Rattle.std.proofs.Math.Path.{refl}
 use Rattle.std.proofs.Common.{sym, ap, ◌∙◌, inl, inr, mod-eq_of_lt, arith}
 use Rattle.std.proofs.Math.ListN.{length}
@@ -15,11 +15,9 @@ use Rattle.figures.specs.Gate.{passed}
 use Rattle.figures.specs.Figures.{no_confidence}
 use Rattle.scan.specs.declared.scan.Candidate.{Candidate}
 use Rattle.scan.specs.declared.scan.RunnerUp.{RunnerUp}
-use Rattle.hard.specs.declared.select.Selection.{Selection}
-use Rattle.hard.specs.declared.select.Selection.TheVariants as sel
+use Rattle.hard.specs.Kinds.{Selection}
 use Rattle.hard.specs.Select.{selection}
-use Rattle.decide.specs.declared.Outcome.{Outcome}
-use Rattle.decide.specs.declared.Outcome.TheVariants.{Refused, Decided}
+use Rattle.decide.specs.Kinds.{Outcome}
 use Rattle.decide.specs.Decide.{when_passed, gated}
 use Rattle.demand.specs.Winners.{runner-up-exists, winner-leads, winner-hits}
 use Rattle.demand.specs.OneSelection.{Ended, ended, NoneLeads, SomeWithinLimit}
@@ -78,20 +76,20 @@ module _ (B : Board) (ts : List ℕ) (down right : ℤ) (board : BoardOk B) wher
 -- ---- hard selection and the gate
 -- an outcome as what it tells
 abbrev pub outcome_told : Outcome → Told
-outcome_told (Refused r) = refused r
-outcome_told (Decided w runner-up) = found w.placing w.hits runner-up.hits
+outcome_told (Err r) = refused r
+outcome_told (Ok (w, runner-up)) = found w.placing w.hits runner-up.hits
 
 module _ (B : Board) (E : EdgeList) (ts : List ℕ) (limit : Float) (board : BoardOk B) (list : ListOk E) (few : length ts ≤ 8) where
-  by-gate : (w : Candidate) (r : RunnerUp) (e : selection B E ts limit ≡ sel.Selected w r) → no_confidence E ≡ false → SomeWithinLimit B E ts limit
+  by-gate : (w : Candidate) (r : RunnerUp) (e : selection B E ts limit ≡ Ok (w, r)) → no_confidence E ≡ false → SomeWithinLimit B E ts limit
       → (b : Bool) → passed (size E) w.hits r.hits ≡ b → (passed (size E) w.hits r.hits ≡ true) ⊎ NoneLeads B E ts limit → ByHits B E ts limit (no_confidence E) (outcome_told (when_passed b w r))
   by-gate w r e k s true g h = leads k w.placing w.hits r.hits (winner-leads B E ts limit board list few w r e g) (winner-hits B E ts limit board list few w r e g) (runner-up-exists B E ts limit board list few w r e)
   by-gate w r e k s false g (inl h) = clash h g
   by-gate w r e k s false g (inr h) = none_leads k s h
 
   by-selection : (x : Selection) → selection B E ts limit ≡ x → Ended B E ts limit board list few x → ByHits B E ts limit (no_confidence E) (outcome_told (gated (size E) x))
-  by-selection (sel.Refused r) e (inl h) = rw h.0 (no-confidence h.1)
-  by-selection (sel.Refused r) e (inr h) = rw h.0 (none_within h.1 h.2)
-  by-selection (sel.Selected w r) e h = by-gate w r e h.0 h.1 (passed (size E) w.hits r.hits) refl h.2
+  by-selection (Err r) e (inl h) = rw h.0 (no-confidence h.1)
+  by-selection (Err r) e (inr h) = rw h.0 (none_within h.1 h.2)
+  by-selection (Ok (w, r)) e h = by-gate w r e h.0 h.1 (passed (size E) w.hits r.hits) refl h.2
 
   -- hard selection and the gate judge by hits
   pub decided-told : ByHits B E ts limit (no_confidence E) (outcome_told (gated (size E) (selection B E ts limit)))
@@ -105,10 +103,10 @@ module _ (B : Board) (ts : List ℕ) (down right : ℤ) (board : BoardOk B) (E F
   -- what is told by two outcomes, in the words of C-21
   in_words : (x y : Outcome) → ToldThere (slid_placing B ts down right) (outcome_told x) (outcome_told y) → SlidTo B ts down right x y
   unfolding slid_placing
-  in_words (Refused one) (Refused other) t = t
-  in_words (Refused one) (Decided w r) t = t
-  in_words (Decided w r) (Refused other) t = t
-  in_words (Decided w r) (Decided v q) t = (t.0, t.1, t.2.0, t.2.1, t.2.2)
+  in_words (Err one) (Err other) t = t
+  in_words (Err one) (Ok (w, r)) t = t
+  in_words (Ok (w, r)) (Err other) t = t
+  in_words (Ok (w, r)) (Ok (v, q)) t = (t.0, t.1, t.2.0, t.2.1, t.2.2)
 
   -- SLIDE THE PICTURE, SLIDE THE SQUARE: the same number, or the same hits, runner-up hits and transform, and the origin moved by the transformed shift, negated
   pub slides : SlidTo B ts down right (gated (size E) (selection B E ts limit)) (gated (size F) (selection B F ts limit))

@@ -1,11 +1,10 @@
 -- C-21, slide the picture, slide the square: what it is that every edge of a list moves, how an origin moves with it, and what is the same of two outcomes. Quotes are of the request.
-use Rattle.std.specs.Prelude.{◌≡◌, List, ℕ, ◌*◌, ◌<◌, get_or, length, ℤ, pos, ◌+ℤ◌, ◌-ℤ◌}
+use Rattle.std.specs.Prelude.{◌≡◌, List, ℕ, ◌*◌, ◌<◌, get_or, length, ℤ, pos, ◌+ℤ◌, ◌-ℤ◌, Err, Ok}
 use Rattle.laws.specs.Words.{emod}
 use Rattle.board.specs.declared.edge.Placing.{Placing}
 use Rattle.board.specs.Transform.{mapped}
 use Rattle.board.specs.Hits.{EdgeList, Board, size}
-use Rattle.decide.specs.declared.Outcome.{Outcome}
-use Rattle.decide.specs.declared.Outcome.TheVariants.{Refused, Decided}
+use Rattle.decide.specs.Kinds.{Outcome}
 
 -- "every edge moves by the same rows and columns": edge i of `after` is edge i of `before`, so many rows down and so many columns to the right; bits and confidences stay
 pub record Slid (down right : ℤ) (before after : EdgeList) : Type 0 where
@@ -40,10 +39,10 @@ slid_placing B ts down right P =
 
 -- "the number of the refusal or the hits, runner-up hits and transform are the same", and the origin is the slid one; the runner-up's place is not included
 abbrev pub SlidTo : Board → List ℕ → ℤ → ℤ → Outcome → Outcome → Type 0
-SlidTo B ts down right (Refused one) (Refused other) = other ≡ one
-SlidTo B ts down right (Refused one) (Decided winner runner-up) = ⊥
-SlidTo B ts down right (Decided winner runner-up) (Refused other) = ⊥
-SlidTo B ts down right (Decided winner runner-up) (Decided other its-runner-up) =
+SlidTo B ts down right (Err one) (Err other) = other ≡ one
+SlidTo B ts down right (Err one) (Ok (winner, runner-up)) = ⊥
+SlidTo B ts down right (Ok (winner, runner-up)) (Err other) = ⊥
+SlidTo B ts down right (Ok (winner, runner-up)) (Ok (other, its-runner-up)) =
     (other.hits ≡ winner.hits) × (its-runner-up.hits ≡ runner-up.hits) × (other.placing.listed ≡ winner.placing.listed)
     × (other.placing.row ≡ slid_row B (get_or ts winner.placing.listed 0) down right winner.placing.row)
     × (other.placing.col ≡ slid_col B (get_or ts winner.placing.listed 0) down right winner.placing.col)

@@ -1,14 +1,13 @@
 -- What soft selection keeps, by sums alone. A placing is a list position p with the key k of an origin, and `S p k` is its whole sum, however it is counted; its
 -- total is that sum as an f32. How the sums were found, and in which order placings were offered, does not occur. This is what "its own best placing" of
 -- demand 3 (docs/CONTRACTS.md) means.
-use Rattle.std.specs.Prelude.{◌≡◌, true, false, ◌⊎◌, ℕ, ◌*◌, ◌/◌, ◌%◌, ◌≤◌, ◌<◌, ℤ}
+use Rattle.std.specs.Prelude.{◌≡◌, true, false, ◌⊎◌, ℕ, ◌*◌, ◌/◌, ◌%◌, ◌≤◌, ◌<◌, ℤ, Some}
 use Rattle.std.specs.Int.Signed.{lt_z}
 use Rattle.std.specs.Float.Ieee.{lt}
 use Rattle.laws.specs.Words.{Grid, origins}
 use Rattle.likelihood.specs.Likelihood.{dequantised}
 use Rattle.margin.specs.declared.slots.SoftCandidate.{SoftCandidate}
-use Rattle.margin.specs.declared.slots.SoftChoice.{SoftChoice}
-use Rattle.margin.specs.declared.slots.SoftChoice.TheVariants.{Chosen}
+use Rattle.margin.specs.Kinds.{SoftChoice}
 
 -- ---- one transform, with the whole sum s k at the origin of key k
 -- k is its own best origin: no origin has a greater whole sum, and each before it, row by row, has a smaller one
@@ -74,6 +73,6 @@ pub record BestTwo (L M n : ℕ) (S : ℕ → ℕ → ℤ) (choice : SoftChoice)
   pub k : ℕ
   pub q : ℕ
   pub j : ℕ
-  pub chosen : choice ≡ Chosen (candidate_at M S p k) (candidate_at M S q j)
+  pub chosen : choice ≡ Some ((candidate_at M S p k), (candidate_at M S q j))
   pub first : FirstPlace (origins L M) n S p k
   pub second : SecondPlace (origins L M) n S p k q j

@@ -1,6 +1,6 @@
 -- The theorem of soft selection: whatever tables are given, of sums of at most 2^53 in size, the choice of a list of at least one transform holds the first and the
 -- second of all placings, by their whole sums. With BestPlacingUnique there is no other such choice.
-use Rattle.std.specs.Prelude.{◌≡◌, cond, ◌⊎◌, eqb, ℤ}
+use Rattle.std.specs.Prelude.{◌≡◌, cond, ◌⊎◌, eqb, ℤ, Some}
 use Rattle.std.proofs.Math.Path.{refl, ap₂}
 use Rattle.std.proofs.Common.{sym, ap, subst, ◌∙◌, inl, inr}
 use Prim.Native.Nat.{ℕ, zero, suc, ◌*◌, ◌/◌, ◌%◌, ◌-◌, ◌<◌}
@@ -23,8 +23,7 @@ use Rattle.soft.specs.SlotLaws.{above, SlotsIn, slots-two, slots-more}
 use Rattle.soft.specs.PlaceLaws.{offers-weak, places}
 use Rattle.margin.specs.declared.slots.SoftCandidate.{SoftCandidate}
 use Rattle.margin.specs.declared.slots.SoftScan.{SoftScan}
-use Rattle.margin.specs.declared.slots.SoftChoice.{SoftChoice}
-use Rattle.margin.specs.declared.slots.SoftChoice.TheVariants.{Chosen}
+use Rattle.margin.specs.Kinds.{SoftChoice}
 
 -- ---- the offers: winner and second of each list position in turn
 unfoldable pair_of : (ℕ → ℕ) → (ℕ → ℕ) → ℕ → ℕ
@@ -159,7 +158,7 @@ module _ (L M n : ℕ) (S T : ℕ → ℕ → ℤ) (e : (r k : ℕ) → r < n �
         k = B.k;
         q = B.q;
         j = B.j;
-        chosen = B.chosen ∙ ap₂ Chosen (candidate-same B.p B.k a.listed f) (candidate-same B.q B.j b.listed g);
+        chosen = B.chosen ∙ ap₂ (λ (x y : SoftCandidate). Some (x, y)) (candidate-same B.p B.k a.listed f) (candidate-same B.q B.j b.listed g);
         first = record {
           listed = a.listed;
           own = own_same (origins L M) (S B.p) (T B.p) (λ i l. e B.p i a.listed l) B.k a.own;

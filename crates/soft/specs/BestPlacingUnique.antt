@@ -1,5 +1,6 @@
 -- The sums determine the choice: at most one placing is first, at most one is second to it, and so two choices that hold first and second place are equal.
-use Rattle.std.specs.Prelude.{◌≡◌, false, ◌⊎◌, ℕ, ◌*◌, ◌<◌, ℤ}
+use Rattle.margin.specs.declared.slots.SoftCandidate.{SoftCandidate}
+use Rattle.std.specs.Prelude.{◌≡◌, false, ◌⊎◌, ℕ, ◌*◌, ◌<◌, ℤ, Some}
 use Rattle.std.proofs.Common.{sym, ap₂, subst, ◌∙◌, inl, inr, ⊎_elim, arith}
 use Rattle.std.specs.Int.Signed.{lt_z}
 use Rattle.laws.specs.Tests.{clash, cases, apart, decided}
@@ -9,8 +10,7 @@ use Rattle.best.specs.CellTables.{Period}
 use Rattle.grid.specs.BoardGrid.{grid}
 use Rattle.soft.specs.TotalOrderLaws.{not-less, less-through}
 use Rattle.soft.specs.BestPlacing.{OwnBest, NotAfter, Across, Down, OwnSecond, FirstPlace, SecondPlace, candidate_at, BestTwo}
-use Rattle.margin.specs.declared.slots.SoftChoice.{SoftChoice}
-use Rattle.margin.specs.declared.slots.SoftChoice.TheVariants.{Chosen}
+use Rattle.margin.specs.Kinds.{SoftChoice}
 
 -- ---- one transform
 -- one origin is its own best
@@ -91,7 +91,7 @@ pub best-two-only : (L M n : ℕ) → Period L → Period M → (S : ℕ → ℕ
 best-two-only L M n u v S a b A B =
     let f = first-only (origins L M) n S A.p A.k B.p B.k A.first B.first in
     let s = second-only (origins L M) n S (3 * L) (3 * M) (grid L M u v) B.p B.k A.q A.j B.q B.j (moved f.0 f.1) B.second in
-    A.chosen ∙ ap₂ Chosen (ap₂ (candidate_at M S) f.0 f.1) (ap₂ (candidate_at M S) s.0 s.1) ∙ sym B.chosen
+    A.chosen ∙ ap₂ (λ (x y : SoftCandidate). Some (x, y)) (ap₂ (candidate_at M S) f.0 f.1) (ap₂ (candidate_at M S) s.0 s.1) ∙ sym B.chosen
   where
     moved : A.p ≡ B.p → A.k ≡ B.k → SecondPlace (origins L M) n S B.p B.k A.q A.j
     moved e d = subst (λ (x : ℕ). SecondPlace (origins L M) n S x B.k A.q A.j) e (subst (λ (x : ℕ). SecondPlace (origins L M) n S A.p x A.q A.j) d A.second)

@@ -1,6 +1,6 @@
 -- From offers to placings: of n list positions each winner and then each second is offered, and first and second place are then first and second of all
 -- placings, offered or not.
-use Rattle.std.specs.Prelude.{◌≡◌, true, false, ◌⊎◌, ℕ, suc, ◌*◌, ◌/◌, ◌%◌, ◌≤◌, ◌<◌, ℤ}
+use Rattle.std.specs.Prelude.{◌≡◌, true, false, ◌⊎◌, ℕ, suc, ◌*◌, ◌/◌, ◌%◌, ◌≤◌, ◌<◌, ℤ, Some}
 use Rattle.std.proofs.Common.{sym, ap, ap₂, subst, ◌∙◌, inl, inr, ⊎_elim, arith}
 use Rattle.std.specs.Float.Ieee.{lt}
 use Rattle.laws.specs.Tests.{clash, split, decided}
@@ -11,8 +11,7 @@ use Rattle.soft.specs.TotalOrderLaws.{Small, total_mono, total-less-not, total-n
 use Rattle.soft.specs.BestPlacing.{OwnBest, OwnSecond, FirstPlace, SecondPlace, candidate_at}
 use Rattle.soft.specs.SlotLaws.{above, Slots}
 use Rattle.margin.specs.declared.slots.SoftCandidate.{SoftCandidate}
-use Rattle.margin.specs.declared.slots.Slot.{Slot}
-use Rattle.margin.specs.declared.slots.Slot.TheVariants.{Held}
+use Rattle.margin.specs.Kinds.{Slot}
 
 -- x holds first place and y second place, of all placings
 pub record Places (M : ℕ) (G : Grid) (n : ℕ) (S : ℕ → ℕ → ℤ) (x y : Slot) : Type 0 where
@@ -20,8 +19,8 @@ pub record Places (M : ℕ) (G : Grid) (n : ℕ) (S : ℕ → ℕ → ℤ) (x y 
   pub k : ℕ
   pub q : ℕ
   pub j : ℕ
-  pub x_held : x ≡ Held (candidate_at M S p k)
-  pub y_held : y ≡ Held (candidate_at M S q j)
+  pub x_held : x ≡ Some (candidate_at M S p k)
+  pub y_held : y ≡ Some (candidate_at M S q j)
   pub first : FirstPlace G n S p k
   pub second : SecondPlace G n S p k q j
 
@@ -154,8 +153,8 @@ module _ (M : ℕ) (G : Grid) (n : ℕ) (S : ℕ → ℕ → ℤ) (W R : ℕ →
             ∙ F.second-early (2 * r) (omega arith) (λ d. let c : r ≡ P = omega (arith, first-even.1) in z c)
 
     -- ---- both
-    x-is : x ≡ Held (candidate_at M S P (W P))
-    x-is = F.first ∙ ap (λ (m : ℕ). Held (off m)) first-even.1 ∙ ap Held (even P)
+    x-is : x ≡ Some (candidate_at M S P (W P))
+    x-is = F.first ∙ ap (λ (m : ℕ). Some (off m)) first-even.1 ∙ ap Some (even P)
 
     pub places : Places M G n S x y
     places = ⊎_elim
@@ -165,7 +164,7 @@ module _ (M : ℕ) (G : Grid) (n : ℕ) (S : ℕ → ℕ → ℤ) (W R : ℕ →
           q = o.0;
           j = W o.0;
           x_held = x-is;
-          y_held = F.second ∙ ap (λ (m : ℕ). Held (off m)) o.1 ∙ ap Held (even o.0);
+          y_held = F.second ∙ ap (λ (m : ℕ). Some (off m)) o.1 ∙ ap Some (even o.0);
           first = first-place;
           second = by-winner o.0 o.1;
         })
@@ -175,7 +174,7 @@ module _ (M : ℕ) (G : Grid) (n : ℕ) (S : ℕ → ℕ → ℤ) (W R : ℕ →
           q = o.0;
           j = R o.0;
           x_held = x-is;
-          y_held = F.second ∙ ap (λ (m : ℕ). Held (off m)) o.1 ∙ ap Held (odd o.0);
+          y_held = F.second ∙ ap (λ (m : ℕ). Some (off m)) o.1 ∙ ap Some (odd o.0);
           first = first-place;
           second = by-second o.0 o.1;
         })

@@ -1,5 +1,5 @@
 -- Document 01, 'Soft selection': candidates, first and second place, and the scan over the listed transforms.
-use Rattle.std.specs.Prelude.{Bool, true, cond, Float}
+use Rattle.std.specs.Prelude.{Bool, true, cond, Float, None, Some}
 use Prim.Native.Nat.{ℕ, zero, suc, ◌+◌, ◌*◌, ◌/◌, ◌%◌}
 use Rattle.std.specs.Float.Ieee.{lt}
 use Rattle.laws.specs.Words.{origins}
@@ -8,8 +8,7 @@ use Rattle.level.specs.Sums.{SumTables, sum_at}
 use Rattle.pair.specs.Pair.{winner_of, second_of}
 use Rattle.margin.specs.declared.slots.SoftCandidate.{SoftCandidate}
 use Rattle.margin.specs.declared.slots.SoftScan.{SoftScan}
-use Rattle.margin.specs.declared.slots.Slot.{Slot}
-use Rattle.margin.specs.declared.slots.Slot.TheVariants.{Free, Held}
+use Rattle.margin.specs.Kinds.{Slot}
 
 -- the origin of key k at a list position, by row and column; "A total returns to f32 as sum / 2^24 rounded once"
 unfoldable pub soft_candidate : ℕ → ℕ → SumTables → ℕ → ℕ → SoftCandidate
@@ -21,22 +20,22 @@ soft_candidate L M X listed k =
 
 -- a place yields to a "strictly greater f32 score", and to any where it is free
 unfoldable pub yields : Slot → Float → Bool
-yields Free total = true
-yields (Held c) total = lt c.total total
+yields None total = true
+yields (Some c) total = lt c.total total
 
 -- "strictly greater f32 score takes first place and moves the old first to second; else strictly greater than second takes second"
 unfoldable pub soft_offered : SoftScan → SoftCandidate → SoftScan
 unfolding yields
 soft_offered s c =
     cond (yields s.first c.total)
-    (record { first = Held c; second = s.first; count = s.count })
+    (record { first = Some c; second = s.first; count = s.count })
     (cond (yields s.second c.total)
-    (record { first = s.first; second = Held c; count = s.count })
+    (record { first = s.first; second = Some c; count = s.count })
     s)
 
 -- no transforms
 unfoldable pub soft_empty : SoftScan
-soft_empty = record { first = Free; second = Free; count = 0 }
+soft_empty = record { first = None; second = None; count = 0 }
 
 module _ (L M : ℕ) where
   -- "Winner and runner-up of each transform are offered in order": the transform with the tables X at the scan's next list position

@@ -1,5 +1,5 @@
 -- What offering a candidate comes to, case by case, and one list position more.
-use Rattle.std.specs.Prelude.{◌≡◌, true, false, ℤ, Float}
+use Rattle.std.specs.Prelude.{◌≡◌, true, false, ℤ, Float, Some}
 use Rattle.std.proofs.Math.Path.{refl, ap₂}
 use Prim.Native.Nat.{ℕ, zero, suc, ◌+◌, ◌*◌, ◌/◌, ◌%◌}
 use Rattle.std.proofs.Common.{add-one}
@@ -11,16 +11,15 @@ use Rattle.soft.specs.Scan.{yields, soft_candidate, soft_offered, soft_empty, so
 use Rattle.pair.specs.declared.pair.TwoBest.{TwoBest}
 use Rattle.margin.specs.declared.slots.SoftCandidate.{SoftCandidate}
 use Rattle.margin.specs.declared.slots.SoftScan.{SoftScan}
-use Rattle.margin.specs.declared.slots.Slot.TheVariants.{Held}
 
 -- ---- one candidate more
 module _ (s : SoftScan) (c : SoftCandidate) where
-  pub offer-first : yields s.first c.total ≡ true → ◌≡◌ {A = SoftScan} (record { first = Held c; second = s.first; count = s.count }) (soft_offered s c)
+  pub offer-first : yields s.first c.total ≡ true → ◌≡◌ {A = SoftScan} (record { first = Some c; second = s.first; count = s.count }) (soft_offered s c)
   unfolding soft_offered
   offer-first t = rw t
 
   module _ (t : yields s.first c.total ≡ false) where
-    pub offer-second : yields s.second c.total ≡ true → ◌≡◌ {A = SoftScan} (record { first = s.first; second = Held c; count = s.count }) (soft_offered s c)
+    pub offer-second : yields s.second c.total ≡ true → ◌≡◌ {A = SoftScan} (record { first = s.first; second = Some c; count = s.count }) (soft_offered s c)
     unfolding soft_offered
     offer-second u = rw (t, u)
 

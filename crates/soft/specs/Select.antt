@@ -10,7 +10,7 @@ use Rattle.level.specs.Sums.{SumTables, sums}
 use Rattle.margin.specs.Choice.{soft_chosen}
 use Rattle.soft.specs.Scan.{soft_selected}
 use Rattle.margin.specs.declared.slots.SoftScan.{SoftScan}
-use Rattle.margin.specs.declared.slots.SoftChoice.{SoftChoice}
+use Rattle.margin.specs.Kinds.{SoftChoice}
 
 -- the two tables of the transform t
 unfoldable pub sum_tables : Board → EdgeList → Likelihoods → ℕ → SumTables

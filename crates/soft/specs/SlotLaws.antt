@@ -1,5 +1,5 @@
 -- First and second place after any number of offers: the earliest offer of greatest total, and the earliest of greatest total of the others.
-use Rattle.std.specs.Prelude.{◌≡◌, Bool, true, false, cond, ◌⊎◌, ℕ, suc, ◌≤◌, ◌<◌}
+use Rattle.std.specs.Prelude.{◌≡◌, Bool, true, false, cond, ◌⊎◌, ℕ, suc, ◌≤◌, ◌<◌, Some}
 use Rattle.std.proofs.Math.Path.{refl}
 use Rattle.std.proofs.Common.{subst, ◌∙◌, arith}
 use Rattle.std.proofs.Math.Logic.{inl, inr, ⊎_elim}
@@ -10,8 +10,7 @@ use Rattle.soft.specs.Scan.{yields, soft_offered, soft_empty}
 use Rattle.soft.specs.ScanLaws.{offer-first, offer-second, offer-none}
 use Rattle.margin.specs.declared.slots.SoftCandidate.{SoftCandidate}
 use Rattle.margin.specs.declared.slots.SoftScan.{SoftScan}
-use Rattle.margin.specs.declared.slots.Slot.{Slot}
-use Rattle.margin.specs.declared.slots.Slot.TheVariants.{Held}
+use Rattle.margin.specs.Kinds.{Slot}
 
 -- offer i has a strictly greater total than offer j
 abbrev pub above : (ℕ → SoftCandidate) → ℕ → ℕ → Bool
@@ -24,8 +23,8 @@ pub record Slots (off : ℕ → SoftCandidate) (n : ℕ) (x y : Slot) : Type 0 w
   pub f_in : f < n
   pub g_in : g < n
   pub two : g ≡ f → ⊥
-  pub first : x ≡ Held (off f)
-  pub second : y ≡ Held (off g)
+  pub first : x ≡ Some (off f)
+  pub second : y ≡ Some (off g)
   pub top : (j : ℕ) → j < n → above off j f ≡ false
   pub early : (j : ℕ) → j < f → above off f j ≡ true
   pub second_top : (j : ℕ) → j < n → (j ≡ f → ⊥) → above off j g ≡ false
@@ -48,7 +47,7 @@ module _ (off : ℕ → SoftCandidate) (N : ℕ) (W : Weak N (above off)) where
       zero-or-one j h = ⊎_elim (λ e. inr e) (λ l. inl (omega arith)) (split j 1 h)
 
       go : (t : Bool) → lt (off 0).total (off 1).total ≡ t
-          → SlotsIn off 2 (cond t (record { first = Held (off 1); second = Held (off 0); count = 0 }) (record { first = Held (off 0); second = Held (off 1); count = 0 }))
+          → SlotsIn off 2 (cond t (record { first = Some (off 1); second = Some (off 0); count = 0 }) (record { first = Some (off 0); second = Some (off 1); count = 0 }))
       go true e = record {
         f = 1;
         g = 0;
@@ -82,7 +81,7 @@ module _ (off : ℕ → SoftCandidate) (N : ℕ) (W : Weak N (above off)) where
     over : (i j : ℕ) → i < n → j < n → above off n i ≡ true → above off j i ≡ false → above off n j ≡ true
     over i j hi hj p q = W.neg n j i hn (omega arith) (omega arith) p q
 
-    at_slot : (x : Slot) (i : ℕ) → x ≡ Held (off i) → yields x (off n).total ≡ above off n i
+    at_slot : (x : Slot) (i : ℕ) → x ≡ Some (off i) → yields x (off n).total ≡ above off n i
     unfolding yields
     at_slot x i e = rw e
 

@@ -13,8 +13,8 @@ use pair::pair::two_best;
 pub fn empty() -> SoftScan
     ensures { result ≡ soft_empty }
 {
-    let first = Slot::Free;
-    let second = Slot::Free;
+    let first = None;
+    let second = None;
     SoftScan {
         first,
         second,
@@ -27,8 +27,8 @@ fn takes(slot: Slot, total: f32) -> bool
     ensures { result ≡ yields slot total }
 {
     match slot {
-        Slot::Free => true,
-        Slot::Held(c) => total > c.total,
+        None => true,
+        Some(c) => total > c.total,
     }
 }
 
@@ -40,7 +40,7 @@ fn offer(scan: SoftScan, c: SoftCandidate) -> SoftScan
     let second = scan.second;
     let count = scan.count;
     if takes(first, c.total) {
-        let best = Slot::Held(c);
+        let best = Some(c);
         return SoftScan {
             first: best,
             second: first,
@@ -48,7 +48,7 @@ fn offer(scan: SoftScan, c: SoftCandidate) -> SoftScan
         };
     }
     if takes(second, c.total) {
-        let next = Slot::Held(c);
+        let next = Some(c);
         return SoftScan {
             first,
             second: next,

@@ -1,12 +1,16 @@
 // Soft selection on one list: the likelihood sums of each transform in turn, folded into the scan.
 ghost use Rattle.std.specs.Prelude.{◌≡◌, ◌<◌, length};
-ghost use Rattle.board.specs.Hits.{edges, tables};
 ghost use Rattle.sums.specs.Sums.{likelihoods};
 ghost use Rattle.soft.specs.Scan.{soft_folded};
 ghost use Rattle.soft.specs.Select.{SoftReady, SoftScanned};
 ghost use Rattle.soft.specs.SelectLaws.{room_sums, SumsRoomReady};
+ghost use Rattle.board.specs.Given.{board_of, list_of};
+ghost use Rattle.likelihood.specs.Given.{likelihoods_of};
 
+use board::list::List;
+use board::pattern::Tables;
 use laws::Periods;
+use likelihood::Likelihoods;
 use margin::slots::SoftScan;
 
 // One transform's sums, where they were built in the room, folded into the scan.
@@ -21,41 +25,24 @@ fn fold_room(scan: SoftScan, sums: &[i64], periods: Periods) -> SoftScan
 }
 
 // The scan of a list over all its transforms, in order: the sums are built anew for each.
-pub fn scan_transforms<'a>(
-    rows: &[i32],
-    cols: &[i32],
-    orientations: &[u8],
-    bits: &[u8],
-    confidences: &[f32],
-    matches: &[f32],
-    mismatches: &[f32],
+pub fn scan_transforms(
+    list: List,
+    likelihoods: Likelihoods,
     transforms: &[u8],
-    h: &'a [u8],
-    v: &'a [u8],
+    tables: Tables,
     sums: &mut [i64],
 ) -> SoftScan
-    requires { SoftReady (tables h.now v.now) (edges rows.now cols.now orientations.now bits.now confidences.now) (likelihoods matches.now mismatches.now) transforms.now sums.old }
-    ensures { SoftScanned (tables h.now v.now) (edges rows.now cols.now orientations.now bits.now confidences.now) (likelihoods matches.now mismatches.now) transforms.now (length transforms.now) sums.old sums.new result }
+    requires { SoftReady (board_of tables) (list_of list) (likelihoods_of likelihoods) transforms.now sums.old }
+    ensures { SoftScanned (board_of tables.entry) (list_of list.entry) (likelihoods_of likelihoods.entry) transforms.now (length transforms.now) sums.old sums.new result }
 {
     let periods = Periods {
-        h: h.len(),
-        v: v.len(),
+        h: tables.h.len(),
+        v: tables.v.len(),
     };
     let mut scan = crate::record::empty();
     for i in 0..transforms.len() {
         let t = transforms[i];
-        sums::sums::build_sums(
-            rows,
-            cols,
-            orientations,
-            bits,
-            matches,
-            mismatches,
-            t,
-            h,
-            v,
-            sums,
-        );
+        sums::sums::build_sums(list.edges, likelihoods, t, tables, sums);
         scan = fold_room(scan, sums, periods);
     }
     scan

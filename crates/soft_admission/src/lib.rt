@@ -3,12 +3,12 @@
 
 ghost use Rattle.std.specs.Prelude.{◌≡◌, ◌||◌, not};
 ghost use Rattle.laws.specs.Words.{one_f};
-ghost use Rattle.board.specs.Hits.{edges, tables};
 ghost use Rattle.likelihood.specs.Likelihood.{likelihoods};
 ghost use Rattle.ranges.specs.Ranges.{in_range, margin_top};
-ghost use Rattle.admission.specs.Calls.{soft_call};
 ghost use Rattle.admission.specs.Refusals.{soft_room_short, soft_admission};
+ghost use Rattle.admission.specs.CallsGiven.{soft_call_of};
 
+use admission::call::SoftCall;
 use admission::refusal::{asked_length, room_short, tables_bad};
 use findings::{likelihood_admission, list_admission, refused_if, settings_admission};
 use refusals::{Admission, ListName, first_of};
@@ -34,62 +34,21 @@ fn limits_bad(error_limit: f32, soft_margin: f32) -> bool
 }
 
 // The early refusals of a soft call: the physical list has two likelihood slices besides, and the soft margin is checked with the limit.
-pub fn soft_admission(
-    lrows: &[i32],
-    lcols: &[i32],
-    lorientations: &[u8],
-    lbits: &[u8],
-    lconfidences: &[f32],
-    prows: &[i32],
-    pcols: &[i32],
-    porientations: &[u8],
-    pbits: &[u8],
-    pconfidences: &[f32],
-    matches: &[f32],
-    mismatches: &[f32],
-    transforms: &[u8],
-    h: &[u8],
-    v: &[u8],
-    error_limit: f32,
-    soft_margin: f32,
-    counts: usize,
-    weights: usize,
-    sums: usize,
-) -> Admission
+pub fn soft_admission(call: SoftCall, counts: usize, weights: usize, sums: usize) -> Admission
     ensures { result ≡ soft_admission
-        (soft_call
-        (edges lrows.now lcols.now lorientations.now lbits.now lconfidences.now)
-        (edges prows.now pcols.now porientations.now pbits.now pconfidences.now)
-        (likelihoods matches.now mismatches.now)
-        transforms.now (tables h.now v.now) error_limit soft_margin) counts weights sums }
+        (soft_call_of call.entry) counts weights sums }
 {
     let room = refused_if(
-        soft_room_short(h.len(), counts, weights, sums),
+        soft_room_short(call.hard.tables.h.len(), counts, weights, sums),
         refusals::ROOM_TOO_SHORT,
     );
-    let logical = list_admission(
-        1,
-        ListName::Logical,
-        lrows,
-        lcols,
-        lorientations,
-        lbits,
-        lconfidences,
-    );
-    let physical = list_admission(
-        1,
-        ListName::Physical,
-        prows,
-        pcols,
-        porientations,
-        pbits,
-        pconfidences,
-    );
-    let likelihoods = likelihood_admission(prows.len(), matches, mismatches);
+    let logical = list_admission(1, ListName::Logical, call.hard.logical);
+    let physical = list_admission(1, ListName::Physical, call.hard.physical);
+    let likelihoods = likelihood_admission(call.hard.physical.edges.rows.len(), call.likelihoods);
     let settings = settings_admission(
-        ranges::transforms_bad(transforms),
-        tables_bad(h, v),
-        limits_bad(error_limit, soft_margin),
+        ranges::transforms_bad(call.hard.transforms),
+        tables_bad(call.hard.tables),
+        limits_bad(call.hard.error_limit, call.soft_margin),
     );
     first_of(
         room,

@@ -1,6 +1,6 @@
 -- WHAT NUMBERS THERE ARE, SOFT. An accepted soft call is refused by 10, 11, 13, 14 or 15 or by none, each exactly when document 01 says, in its order: "Soft: 10 physical, 14, 10
 -- logical, 11, 15, 13."
-use Rattle.std.specs.Prelude.{◌≡◌, Bool, true, false, cond, ◌&&◌, ◌⊎◌, ℕ, ◌≤◌, eqb, get_or, length}
+use Rattle.std.specs.Prelude.{◌≡◌, Bool, true, false, cond, ◌&&◌, ◌⊎◌, ℕ, ◌≤◌, eqb, get_or, length, Err, None, Ok, Some}
 use Rattle.std.proofs.Math.Path.{refl}
 use Rattle.std.proofs.Common.{sym, ap, subst, ◌∙◌, inl, inr, ⊎_elim, arith}
 use Rattle.laws.specs.Tests.{clash, not_so}
@@ -11,20 +11,15 @@ use Rattle.admission.specs.Accepted.{SoftAccepted}
 use Rattle.figures.specs.Figures.{no_confidence}
 use Rattle.figures.specs.Gate.{passed}
 use Rattle.refusals.specs.declared.Refusal.{Refusal}
-use Rattle.refusals.specs.declared.Admission.TheVariants as admission
-use Rattle.refusals.specs.declared.Place.TheVariants.{Nowhere}
 use Rattle.refusals.specs.Numbers.{numbered}
 use Rattle.refusals.specs.Numbers as why
 use Rattle.hard.specs.Select.{selection}
-use Rattle.hard.specs.declared.select.Selection.{Selection}
-use Rattle.hard.specs.declared.select.Selection.TheVariants as sel
-use Rattle.margin.specs.declared.slots.SoftChoice.TheVariants.{Chosen}
+use Rattle.hard.specs.Kinds.{Selection}
 use Rattle.margin.specs.Margin.{below_margin}
 use Rattle.soft.specs.Select.{soft_selection}
 use Rattle.soft_verdict.specs.declared.SoftBest.{SoftBest}
 use Rattle.answer.specs.declared.SoftDecoded.{SoftDecoded}
-use Rattle.answer.specs.declared.SoftAnswer.{SoftAnswer}
-use Rattle.answer.specs.declared.SoftAnswer.TheVariants.{Found, Refused}
+use Rattle.answer.specs.Answers.{SoftAnswer}
 use Rattle.verdict.specs.Verdict.{when_accepted}
 use Rattle.verdict.specs.Answers.{numbers_apart, found-not}
 use Rattle.soft_verdict.specs.SoftVerdict.{soft_refused_by, soft_verdict, soft_decoded_of, best_of}
@@ -35,6 +30,7 @@ use Rattle.soft_logical.specs.Logical.{fit_of, soft_judged, after_hard}
 use Rattle.soft_core.specs.Soft.{after_soft, soft_core}
 use Rattle.soft_core.proofs.SoftTheorems.{own-best, own-exists, first-placing, second-placing}
 use Rattle.soft_verdict.specs.SoftVerdictTheorems.{soft-answers}
+use Rattle.refusals.specs.Admission.{accepted}
 
 module _ (call : SoftCall) (m n o : ℕ) (A : SoftAccepted call m n o) where
   abbrev few : length call.hard.transforms ≤ 8
@@ -49,7 +45,7 @@ module _ (call : SoftCall) (m n o : ℕ) (A : SoftAccepted call m n o) where
 
   -- soft never lacks a second: it always holds two placings
   pub soft-two : soft_selection call.hard.board call.hard.physical call.likelihoods call.hard.transforms
-      ≡ Chosen (with_total call.hard.board call.hard.physical call.likelihoods call.hard.transforms Q) (with_total call.hard.board call.hard.physical call.likelihoods call.hard.transforms R)
+      ≡ Some ((with_total call.hard.board call.hard.physical call.likelihoods call.hard.transforms Q), (with_total call.hard.board call.hard.physical call.likelihoods call.hard.transforms R))
   soft-two = own-best call m n o A Q R (own-exists call m n o A)
 
   -- the margin of the two is below the soft margin
@@ -83,7 +79,7 @@ module _ (call : SoftCall) (m n o : ℕ) (A : SoftAccepted call m n o) where
     none_within : no_confidence call.hard.physical ≡ false → Below ≡ false → no_confidence call.hard.logical ≡ false → LogicalNone → SoftEnd (soft_refused_by why.none_within_limit)
     winners_differ : no_confidence call.hard.physical ≡ false → Below ≡ false → (w : LogicalWinner) → SoftHardAgree w ≡ false → SoftEnd (soft_refused_by why.soft_hard_disagree)
     none_leads : no_confidence call.hard.physical ≡ false → Below ≡ false → (w : LogicalWinner) → SoftHardAgree w ≡ true → LogicalLeads → SoftEnd (soft_refused_by why.not_far_ahead)
-    found : no_confidence call.hard.physical ≡ false → Below ≡ false → (w : LogicalWinner) → SoftHardAgree w ≡ true → (d : SoftDecoded) → SoftEnd (Found d)
+    found : no_confidence call.hard.physical ≡ false → Below ≡ false → (w : LogicalWinner) → SoftHardAgree w ≡ true → (d : SoftDecoded) → SoftEnd (Ok d)
 
   abbrev best : SoftBest
   best =
@@ -96,10 +92,10 @@ module _ (call : SoftCall) (m n o : ℕ) (A : SoftAccepted call m n o) where
       told = winner-some call.hard.board call.hard.logical call.hard.transforms call.hard.error_limit A.hard.board A.hard.logical few w
 
       abbrev answer : SoftAnswer
-      answer = Found (soft_decoded_of t (get_or call.hard.transforms R.listed 0) best (fit_of call.hard.board call.hard.physical t Q.row Q.col) (size call.hard.physical) w.runner-up)
+      answer = Ok (soft_decoded_of t (get_or call.hard.transforms R.listed 0) best (fit_of call.hard.board call.hard.physical t Q.row Q.col) (size call.hard.physical) w.runner-up)
 
       by-verdict : (a g : Bool) → SoftHardAgree w ≡ a → passed (size call.hard.logical) w.winner.hits w.runner-up.hits ≡ g
-          → SoftEnd (when_accepted Refused (cond a (cond g admission.Accepted (admission.Refused (numbered why.not_far_ahead))) (admission.Refused (numbered why.soft_hard_disagree))) answer)
+          → SoftEnd (when_accepted Err (cond a (cond g accepted (Err (numbered why.not_far_ahead))) (Err (numbered why.soft_hard_disagree))) answer)
       by-verdict true true e h = found c b w e _
       by-verdict true false e h = none_leads c b w e (⊎_elim (λ k. clash k h) (λ k. k) told.2)
       by-verdict false g e h = winners_differ c b w e
@@ -110,9 +106,9 @@ module _ (call : SoftCall) (m n o : ℕ) (A : SoftAccepted call m n o) where
 
     by-logical : (x : Selection) → selection call.hard.board call.hard.logical call.hard.transforms call.hard.error_limit ≡ x
         → Ended call.hard.board call.hard.logical call.hard.transforms call.hard.error_limit A.hard.board A.hard.logical few x → SoftEnd (after_hard call.hard best x)
-    by-logical (sel.Refused r) e (inl h) = subst (λ (z : Refusal). SoftEnd (Refused z)) (sym h.0) (no_logical_confidence c b h.1)
-    by-logical (sel.Refused r) e (inr h) = subst (λ (z : Refusal). SoftEnd (Refused z)) (sym h.0) (none_within c b h.1 h.2)
-    by-logical (sel.Selected x r) e h = by-judged (record { winner = x; runner-up = r; selected = e })
+    by-logical (Err r) e (inl h) = subst (λ (z : Refusal). SoftEnd (Err z)) (sym h.0) (no_logical_confidence c b h.1)
+    by-logical (Err r) e (inr h) = subst (λ (z : Refusal). SoftEnd (Err z)) (sym h.0) (none_within c b h.1 h.2)
+    by-logical (Ok (x, r)) e h = by-judged (record { winner = x; runner-up = r; selected = e })
 
   by-margin : (b : Bool) → Below ≡ b → no_confidence call.hard.physical ≡ false
       → SoftEnd (cond b (soft_refused_by why.soft_margin) (after_hard call.hard best (selection call.hard.board call.hard.logical call.hard.transforms call.hard.error_limit)))
@@ -135,13 +131,13 @@ module _ (call : SoftCall) (m n o : ℕ) (A : SoftAccepted call m n o) where
   abbrev Late : ℕ → Type 0
   Late k = (why.no_confidence ≤ k) × (k ≤ why.soft_hard_disagree) × (k ≡ why.lists_disagree → ⊥)
 
-  pub soft-late : (r : Refusal) → soft_core call ≡ Refused r → Late r.number × (r.place ≡ Nowhere)
+  pub soft-late : (r : Refusal) → soft_core call ≡ Err r → Late r.number × (r.place ≡ None)
   soft-late r e = go (soft_core call) soft-ends e
     where
-      numbers : (k : ℕ) → Late k → soft_refused_by k ≡ Refused r → Late r.number × (r.place ≡ Nowhere)
+      numbers : (k : ℕ) → Late k → soft_refused_by k ≡ Err r → Late r.number × (r.place ≡ None)
       numbers k h q = let z : numbered k ≡ r = cc in (subst Late (ap (λ (x : Refusal). x.number) z) h, sym (ap (λ (x : Refusal). x.place) z))
 
-      go : (a : SoftAnswer) → SoftEnd a → a ≡ Refused r → Late r.number × (r.place ≡ Nowhere)
+      go : (a : SoftAnswer) → SoftEnd a → a ≡ Err r → Late r.number × (r.place ≡ None)
       go a (no_physical_confidence h) q = numbers why.no_confidence (omega arith, omega arith, λ z. omega arith) q
       go a (margin_below h k) q = numbers why.soft_margin (omega arith, omega arith, λ z. omega arith) q
       go a (no_logical_confidence h k l) q = numbers why.no_confidence (omega arith, omega arith, λ z. omega arith) q

@@ -1,5 +1,5 @@
 -- A found soft answer is in range.
-use Rattle.std.specs.Prelude.{◌≡◌, true, false, ℕ, ◌+◌, ◌^◌, ◌≤◌, length, get_or, pos}
+use Rattle.std.specs.Prelude.{◌≡◌, true, false, ℕ, ◌+◌, ◌^◌, ◌≤◌, length, get_or, pos, Ok}
 use Rattle.std.proofs.Common.{subst, le_trans, le_of_eq, arith}
 use Rattle.std.specs.Float.{binary32}
 use Rattle.std.specs.Float.Ieee.{div, of_int}
@@ -18,7 +18,6 @@ use Rattle.soft_verdict.specs.SoftVerdict.{soft_decoded_of}
 use Rattle.admission.specs.Calls.{SoftCall}
 use Rattle.admission.specs.Accepted.{SoftAccepted}
 use Rattle.answer.specs.declared.SoftDecoded.{SoftDecoded}
-use Rattle.answer.specs.declared.SoftAnswer.TheVariants.{Found}
 use Rattle.demand.specs.FoundRange.{FloatsFinite, SoftAnswerInRange, square-in-range}
 use Rattle.soft_logical.specs.Logical.{cell_fit, fit_of}
 use Rattle.soft_core.specs.Soft.{soft_core}
@@ -30,7 +29,7 @@ use Rattle.soft_core.proofs.SoftTheorems.{fit-hits, found-by, soft-sound}
 abbrev Found-floats : SoftDecoded → Type 0
 Found-floats d = FloatsFinite d.weighted_score d.error_rate d.mean_confidence d.best_score × Finite d.second_score × Finite d.margin
 
-soft-floats : (call : SoftCall) (m n k : ℕ) (A : SoftAccepted call m n k) (d : SoftDecoded) → soft_core call ≡ Found d → Found-floats d
+soft-floats : (call : SoftCall) (m n k : ℕ) (A : SoftAccepted call m n k) (d : SoftDecoded) → soft_core call ≡ Ok d → Found-floats d
 unfolding soft_decoded_of cell_fit
 soft-floats call m n k A d e =
     let f = found-by call m n k A d e in
@@ -61,7 +60,7 @@ soft-floats call m n k A d e =
       within-finite (margin_of B E X ts P f.second) (2 ^ 29 + 2 ^ 29) (margin-within edges some few (with_total B E X ts P) (with_total B E X ts f.second) one two),
     )
 
-pub soft-in-range : (call : SoftCall) (m n k : ℕ) (A : SoftAccepted call m n k) (d : SoftDecoded) → soft_core call ≡ Found d → SoftAnswerInRange (length call.hard.board.h) d
+pub soft-in-range : (call : SoftCall) (m n k : ℕ) (A : SoftAccepted call m n k) (d : SoftDecoded) → soft_core call ≡ Ok d → SoftAnswerInRange (length call.hard.board.h) d
 soft-in-range call m n k A d e =
     let a = soft-sound call m n k A d e in
     let P = a.square in

@@ -1,6 +1,6 @@
 -- DEMAND 3, SOFT. For accepted inputs with some confidence in each list, soft decode answers exactly when its own best placing clears the soft margin and meets
 -- limit and lead on the logical list; it gives that placing, and the runner-up of the logical list. Sums and hits are counted edge by edge.
-use Rattle.std.specs.Prelude.{◌≡◌, Bool, false, ◌&&◌, cond, ℕ, ◌*◌, ◌/◌, ◌%◌, length, pos, Float}
+use Rattle.std.specs.Prelude.{◌≡◌, Bool, false, ◌&&◌, cond, ℕ, ◌*◌, ◌/◌, ◌%◌, length, pos, Float, Err, Ok, Some}
 use Rattle.std.proofs.Math.Path.{refl, sym, subst}
 use Rattle.std.proofs.Common.{ap, ap₂, ◌∙◌, arith}
 use Rattle.std.proofs.Math.Bool.{true}
@@ -27,22 +27,18 @@ use Rattle.grid.specs.BoardGrid.{period-h, period-v}
 use Rattle.hard.proofs.SelectTheorems.{sole-selected}
 use Rattle.scan.specs.declared.scan.Candidate.{Candidate}
 use Rattle.scan.specs.declared.scan.RunnerUp.{RunnerUp}
-use Rattle.hard.specs.declared.select.Selection.{Selection}
-use Rattle.hard.specs.declared.select.Selection.TheVariants as sel
+use Rattle.hard.specs.Kinds.{Selection}
 use Rattle.margin.specs.declared.slots.SoftCandidate.{SoftCandidate}
-use Rattle.margin.specs.declared.slots.SoftChoice.{SoftChoice}
-use Rattle.margin.specs.declared.slots.SoftChoice.TheVariants.{Chosen}
+use Rattle.margin.specs.Kinds.{SoftChoice}
 use Rattle.soft.specs.BestPlacing.{FirstPlace, SecondPlace, BestTwo}
 use Rattle.soft.specs.BestPlacingUnique.{best-two-only}
 use Rattle.margin.specs.Margin.{below_margin}
 use Rattle.soft.specs.Select.{soft_selection}
 use Rattle.soft.specs.SelectLaws.{score_at_key, soft-best-edges}
-use Rattle.refusals.specs.declared.Admission.{Admission}
-use Rattle.refusals.specs.declared.Admission.TheVariants as admission
+use Rattle.refusals.specs.Admission.{Admission, accepted}
 use Rattle.refusals.specs.Numbers.{numbered}
 use Rattle.refusals.specs.Numbers as why
 use Rattle.answer.specs.declared.SoftDecoded.{SoftDecoded}
-use Rattle.answer.specs.declared.SoftAnswer.TheVariants.{Found, Refused}
 use Rattle.verdict.specs.Verdict.{when_accepted}
 use Rattle.verdict.specs.Answers.{never_both}
 use Rattle.soft_verdict.specs.SoftVerdict.{soft_refused_by, soft_verdict, soft_decoded_of, best_of}
@@ -58,13 +54,13 @@ use Rattle.demand.specs.Winners.{runner_at, winner-on, winner-leads, named, runn
 
 -- ---- the verdict
 -- 0: both winners agree, and the gate is passed
-pub verdict-passed : (t : ℕ) (first : SoftCandidate) (s : ℕ) (w : Candidate) (runner : RunnerUp) (edges : ℕ) → soft_verdict t first s w runner edges ≡ admission.Accepted
+pub verdict-passed : (t : ℕ) (first : SoftCandidate) (s : ℕ) (w : Candidate) (runner : RunnerUp) (edges : ℕ) → soft_verdict t first s w runner edges ≡ accepted
     → (t ≡ s) × (first.placing.row ≡ w.placing.row) × (first.placing.col ≡ w.placing.col) × (passed edges w.hits runner.hits ≡ true)
 unfolding soft_verdict
 verdict-passed t first s w runner edges h =
     go (eqb t s && (eqb first.placing.row w.placing.row && eqb first.placing.col w.placing.col)) (passed edges w.hits runner.hits) refl refl h
   where
-    go : (a b : Bool) → (eqb t s && (eqb first.placing.row w.placing.row && eqb first.placing.col w.placing.col)) ≡ a → passed edges w.hits runner.hits ≡ b → cond a (cond b admission.Accepted (admission.Refused (numbered why.not_far_ahead))) (admission.Refused (numbered why.soft_hard_disagree)) ≡ admission.Accepted
+    go : (a b : Bool) → (eqb t s && (eqb first.placing.row w.placing.row && eqb first.placing.col w.placing.col)) ≡ a → passed edges w.hits runner.hits ≡ b → cond a (cond b accepted (Err (numbered why.not_far_ahead))) (Err (numbered why.soft_hard_disagree)) ≡ accepted
         → (t ≡ s) × (first.placing.row ≡ w.placing.row) × (first.placing.col ≡ w.placing.col) × (passed edges w.hits runner.hits ≡ true)
     go true true e g k =
         let u = and-true (eqb t s) _ e in
@@ -94,11 +90,11 @@ module _ (call : SoftCall) (m n o : ℕ) (A : SoftAccepted call m n o) where
       λ i. record { placing = record { listed = Q.listed; row = r i; col = c i }; total = dequantised (score call.hard.board call.hard.physical call.likelihoods (get_or call.hard.transforms Q.listed 0) (r i) (c i)) }
 
   -- the two best by likelihood are what soft selection holds
-  pub own-best : (Q R : Placing) → BestByLikelihood call.hard.board call.hard.physical call.likelihoods call.hard.transforms Q R → soft_selection call.hard.board call.hard.physical call.likelihoods call.hard.transforms ≡ Chosen (with_total call.hard.board call.hard.physical call.likelihoods call.hard.transforms Q) (with_total call.hard.board call.hard.physical call.likelihoods call.hard.transforms R)
+  pub own-best : (Q R : Placing) → BestByLikelihood call.hard.board call.hard.physical call.likelihoods call.hard.transforms Q R → soft_selection call.hard.board call.hard.physical call.likelihoods call.hard.transforms ≡ Some ((with_total call.hard.board call.hard.physical call.likelihoods call.hard.transforms Q), (with_total call.hard.board call.hard.physical call.likelihoods call.hard.transforms R))
   own-best Q R b =
       best-two-only (period_of call.hard.board true) (period_of call.hard.board false) (length call.hard.transforms) (period-h call.hard.board A.hard.board) (period-v call.hard.board A.hard.board) (score_at_key call.hard.board call.hard.physical call.likelihoods call.hard.transforms) (soft_selection call.hard.board call.hard.physical call.likelihoods call.hard.transforms) _ best
       (record { p = Q.listed; k = key_of call.hard.board A.hard.board Q; q = R.listed; j = key_of call.hard.board A.hard.board R; chosen = refl; first = b.first; second = b.second })
-      ∙ ap₂ (λ (x y : SoftCandidate). Chosen x y) (by_key Q b.on-board) (by_key R b.second_on)
+      ∙ ap₂ (λ (x y : SoftCandidate). Some (x, y)) (by_key Q b.on-board) (by_key R b.second_on)
 
   -- and it always holds two
   pub first-placing : Placing
@@ -135,7 +131,7 @@ module _ (call : SoftCall) (m n o : ℕ) (A : SoftAccepted call m n o) where
     pub clears : below_margin (margin_of call.hard.board call.hard.physical call.likelihoods call.hard.transforms first second) call.soft-margin ≡ false
     pub winner : Candidate
     pub runner : RunnerUp
-    pub selected : selection call.hard.board call.hard.logical call.hard.transforms call.hard.error_limit ≡ sel.Selected winner runner
+    pub selected : selection call.hard.board call.hard.logical call.hard.transforms call.hard.error_limit ≡ Ok (winner, runner)
     pub agrees : (get_or call.hard.transforms first.listed 0 ≡ get_or call.hard.transforms winner.placing.listed 0) × (first.row ≡ winner.placing.row) × (first.col ≡ winner.placing.col) × (passed (size call.hard.logical) winner.hits runner.hits ≡ true)
     pub told : soft_decoded_of (get_or call.hard.transforms first.listed 0) (get_or call.hard.transforms second.listed 0) (best_of (with_total call.hard.board call.hard.physical call.likelihoods call.hard.transforms first) (with_total call.hard.board call.hard.physical call.likelihoods call.hard.transforms second) (size call.hard.physical)) (fit_of call.hard.board call.hard.physical (get_or call.hard.transforms first.listed 0) first.row first.col) (size call.hard.physical) runner ≡ d
 
@@ -146,7 +142,7 @@ module _ (call : SoftCall) (m n o : ℕ) (A : SoftAccepted call m n o) where
     abbrev answer : RunnerUp → SoftDecoded
     answer r = soft_decoded_of t (get_or call.hard.transforms R.listed 0) (best_of (with_total call.hard.board call.hard.physical call.likelihoods call.hard.transforms Q) (with_total call.hard.board call.hard.physical call.likelihoods call.hard.transforms R) (size call.hard.physical)) (fit_of call.hard.board call.hard.physical t Q.row Q.col) (size call.hard.physical) r
 
-    module _ (x : Candidate) (r : RunnerUp) (e : selection call.hard.board call.hard.logical call.hard.transforms call.hard.error_limit ≡ sel.Selected x r) (p : (t ≡ get_or call.hard.transforms x.placing.listed 0) × (Q.row ≡ x.placing.row) × (Q.col ≡ x.placing.col) × (passed (size call.hard.logical) x.hits r.hits ≡ true)) where
+    module _ (x : Candidate) (r : RunnerUp) (e : selection call.hard.board call.hard.logical call.hard.transforms call.hard.error_limit ≡ Ok (x, r)) (p : (t ≡ get_or call.hard.transforms x.placing.listed 0) × (Q.row ≡ x.placing.row) × (Q.col ≡ x.placing.col) × (passed (size call.hard.logical) x.hits r.hits ≡ true)) where
       lead : Leads call.hard.board call.hard.logical call.hard.transforms call.hard.error_limit x.placing
       lead = winner-leads call.hard.board call.hard.logical call.hard.transforms call.hard.error_limit A.hard.board A.hard.logical A.hard.transforms.few x r e p.3
 
@@ -188,8 +184,8 @@ module _ (call : SoftCall) (m n o : ℕ) (A : SoftAccepted call m n o) where
     abbrev verdict : Candidate → RunnerUp → Admission
     verdict x r = soft_verdict t (with_total call.hard.board call.hard.physical call.likelihoods call.hard.transforms Q) (get_or call.hard.transforms x.placing.listed 0) x r (size call.hard.logical)
 
-    by-verdict : (x : Candidate) (r : RunnerUp) (v : Admission) → selection call.hard.board call.hard.logical call.hard.transforms call.hard.error_limit ≡ sel.Selected x r → verdict x r ≡ v → when_accepted Refused v (Found (answer r)) ≡ Found d → FoundBy d
-    by-verdict x r admission.Accepted e h k = record {
+    by-verdict : (x : Candidate) (r : RunnerUp) (v : Admission) → selection call.hard.board call.hard.logical call.hard.transforms call.hard.error_limit ≡ Ok (x, r) → verdict x r ≡ v → when_accepted Err v (Ok (answer r)) ≡ Ok d → FoundBy d
+    by-verdict x r (Ok _) e h k = record {
       first = Q;
       second = R;
       best = b;
@@ -200,19 +196,19 @@ module _ (call : SoftCall) (m n o : ℕ) (A : SoftAccepted call m n o) where
       agrees = verdict-passed t (with_total call.hard.board call.hard.physical call.likelihoods call.hard.transforms Q) (get_or call.hard.transforms x.placing.listed 0) x r (size call.hard.logical) h;
       told = let q : answer r ≡ d = cc in q;
     }
-    by-verdict x r (admission.Refused j) e h k = absurd (never_both soft-answers d j k)
+    by-verdict x r (Err j) e h k = absurd (never_both soft-answers d j k)
 
-    by-logical : (q : Selection) → selection call.hard.board call.hard.logical call.hard.transforms call.hard.error_limit ≡ q → after_hard call.hard (best_of (with_total call.hard.board call.hard.physical call.likelihoods call.hard.transforms Q) (with_total call.hard.board call.hard.physical call.likelihoods call.hard.transforms R) (size call.hard.physical)) q ≡ Found d → FoundBy d
+    by-logical : (q : Selection) → selection call.hard.board call.hard.logical call.hard.transforms call.hard.error_limit ≡ q → after_hard call.hard (best_of (with_total call.hard.board call.hard.physical call.likelihoods call.hard.transforms Q) (with_total call.hard.board call.hard.physical call.likelihoods call.hard.transforms R) (size call.hard.physical)) q ≡ Ok d → FoundBy d
     unfolding soft_judged
-    by-logical (sel.Refused j) e h = absurd (never_both soft-answers d j h)
-    by-logical (sel.Selected x r) e h = by-verdict x r (verdict x r) e refl h
+    by-logical (Err j) e h = absurd (never_both soft-answers d j h)
+    by-logical (Ok (x, r)) e h = by-verdict x r (verdict x r) e refl h
 
   by-margin : (d : SoftDecoded) (Q R : Placing) → BestByLikelihood call.hard.board call.hard.physical call.likelihoods call.hard.transforms Q R → (v : Bool) → below_margin (margin_of call.hard.board call.hard.physical call.likelihoods call.hard.transforms Q R) call.soft-margin ≡ v
-      → cond v (soft_refused_by why.soft_margin) (after_hard call.hard (best_of (with_total call.hard.board call.hard.physical call.likelihoods call.hard.transforms Q) (with_total call.hard.board call.hard.physical call.likelihoods call.hard.transforms R) (size call.hard.physical)) (selection call.hard.board call.hard.logical call.hard.transforms call.hard.error_limit)) ≡ Found d → FoundBy d
+      → cond v (soft_refused_by why.soft_margin) (after_hard call.hard (best_of (with_total call.hard.board call.hard.physical call.likelihoods call.hard.transforms Q) (with_total call.hard.board call.hard.physical call.likelihoods call.hard.transforms R) (size call.hard.physical)) (selection call.hard.board call.hard.logical call.hard.transforms call.hard.error_limit)) ≡ Ok d → FoundBy d
   by-margin d Q R b true e h = absurd (never_both soft-answers d (numbered why.soft_margin) h)
   by-margin d Q R b false e h = by-logical d Q R b e (selection call.hard.board call.hard.logical call.hard.transforms call.hard.error_limit) refl h
 
-  by-confidence : (d : SoftDecoded) (v : Bool) → cond v (soft_refused_by why.no_confidence) (after_soft call.hard call.soft-margin (soft_selection call.hard.board call.hard.physical call.likelihoods call.hard.transforms)) ≡ Found d → FoundBy d
+  by-confidence : (d : SoftDecoded) (v : Bool) → cond v (soft_refused_by why.no_confidence) (after_soft call.hard call.soft-margin (soft_selection call.hard.board call.hard.physical call.likelihoods call.hard.transforms)) ≡ Ok d → FoundBy d
   by-confidence d true h = absurd (never_both soft-answers d (numbered why.no_confidence) h)
   by-confidence d false h =
       let Q = first-placing in
@@ -220,16 +216,16 @@ module _ (call : SoftCall) (m n o : ℕ) (A : SoftAccepted call m n o) where
       by-margin d Q R own-exists (below_margin (margin_of call.hard.board call.hard.physical call.likelihoods call.hard.transforms Q R) call.soft-margin) refl (ap (after_soft call.hard call.soft-margin) (sym (own-best Q R own-exists)) ∙ h)
 
   -- how it was found
-  pub found-by : (d : SoftDecoded) → soft_core call ≡ Found d → FoundBy d
+  pub found-by : (d : SoftDecoded) → soft_core call ≡ Ok d → FoundBy d
   unfolding soft_core
   found-by d h = by-confidence d (no_confidence call.hard.physical) h
 
   -- FOUND MEANS TRUE
-  pub soft-sound : (d : SoftDecoded) → soft_core call ≡ Found d → SoftAnswered call d
+  pub soft-sound : (d : SoftDecoded) → soft_core call ≡ Ok d → SoftAnswered call d
   soft-sound d h = let f = found-by d h in soft-answered d f.first f.second f.best f.clears f.winner f.runner f.selected f.agrees f.told
 
   -- and which of the second-best placings is meant, where several tie
-  pub soft-kept : (d : SoftDecoded) → soft_core call ≡ Found d → SoftKept call d
+  pub soft-kept : (d : SoftDecoded) → soft_core call ≡ Ok d → SoftKept call d
   unfolding soft_decoded_of
   soft-kept d h =
       let f = found-by d h in
@@ -238,7 +234,7 @@ module _ (call : SoftCall) (m n o : ℕ) (A : SoftAccepted call m n o) where
   -- ---- its own best placing clears the margin and leads: then soft decode finds
   -- A TRUE SQUARE IS FOUND
   pub soft-complete : no_confidence call.hard.physical ≡ false → no_confidence call.hard.logical ≡ false → (Q R : Placing) → BestByLikelihood call.hard.board call.hard.physical call.likelihoods call.hard.transforms Q R → below_margin (margin_of call.hard.board call.hard.physical call.likelihoods call.hard.transforms Q R) call.soft-margin ≡ false → Leads call.hard.board call.hard.logical call.hard.transforms call.hard.error_limit Q
-      → (d : SoftDecoded) × (soft_core call ≡ Found d)
+      → (d : SoftDecoded) × (soft_core call ≡ Ok d)
   unfolding soft_core soft_judged soft_verdict
   soft-complete h g Q R b clear l =
       let s = sole-selected call.hard.board call.hard.logical call.hard.transforms call.hard.error_limit A.hard.board A.hard.logical A.hard.transforms.few g Q.listed (key_of call.hard.board A.hard.board Q) (leads-sole call.hard.board A.hard.board call.hard.transforms call.hard.logical call.hard.error_limit Q l) in
@@ -256,7 +252,7 @@ module _ (call : SoftCall) (m n o : ℕ) (A : SoftAccepted call m n o) where
       → FirstByLikelihood call.hard.board call.hard.physical call.likelihoods call.hard.transforms Q
       → SecondByLikelihood call.hard.board call.hard.physical call.likelihoods call.hard.transforms Q R
       → below_margin (margin_of call.hard.board call.hard.physical call.likelihoods call.hard.transforms Q R) call.soft-margin ≡ false
-      → Leads call.hard.board call.hard.logical call.hard.transforms call.hard.error_limit Q → (d : SoftDecoded) × (soft_core call ≡ Found d)
+      → Leads call.hard.board call.hard.logical call.hard.transforms call.hard.error_limit Q → (d : SoftDecoded) × (soft_core call ≡ Ok d)
   soft-complete-by-rows h g Q R u v clear l =
       let H = call.hard in
       let X = call.likelihoods in

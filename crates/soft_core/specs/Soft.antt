@@ -1,5 +1,5 @@
 -- Document 01, 'Soft selection', and 'Refusal numbers': "Soft: 10 physical, 14, 10 logical, 11, 15, 13."
-use Rattle.std.specs.Prelude.{◌≡◌, Bool, true, false, cond, List, ℕ, length, ℤ, pos, Float}
+use Rattle.std.specs.Prelude.{◌≡◌, Bool, true, false, cond, List, ℕ, length, ℤ, pos, Float, None, Some}
 use Rattle.std.specs.Float.{nan}
 use Rattle.laws.specs.Cleared.{SameBeyond}
 use Rattle.board.specs.Hits.{size}
@@ -9,11 +9,10 @@ use Rattle.admission.specs.Calls.{HardCall, SoftCall}
 use Rattle.figures.specs.Figures.{no_confidence}
 use Rattle.hard.specs.Select.{selection}
 use Rattle.margin.specs.declared.slots.SoftCandidate.{SoftCandidate}
-use Rattle.margin.specs.declared.slots.SoftChoice.{SoftChoice}
-use Rattle.margin.specs.declared.slots.SoftChoice.TheVariants.{Nothing, Chosen}
+use Rattle.margin.specs.Kinds.{SoftChoice}
 use Rattle.margin.specs.Margin.{soft_margin, below_margin}
 use Rattle.soft.specs.Select.{soft_selection, SumRoom}
-use Rattle.answer.specs.declared.SoftAnswer.{SoftAnswer}
+use Rattle.answer.specs.Answers.{SoftAnswer}
 use Rattle.soft_verdict.specs.SoftVerdict.{soft_refused_by, best_of}
 use Rattle.soft_logical.specs.Logical.{after_hard, soft_judged, LogicalRooms}
 
@@ -24,8 +23,8 @@ module _ (call : HardCall) where
   too_close least first second = below_margin (soft_margin first second (size call.physical)) least
 
   abbrev pub after_soft : Float → SoftChoice → SoftAnswer
-  after_soft least Nothing = soft_refused_by why.soft_margin
-  after_soft least (Chosen first second) =
+  after_soft least None = soft_refused_by why.soft_margin
+  after_soft least (Some (first, second)) =
       cond (too_close least first second) (soft_refused_by why.soft_margin) (after_hard call (best_of first second (size call.physical)) (selection call.board call.logical call.transforms call.error_limit))
 
 -- what an accepted soft call answers, with the soft margin `least`
@@ -41,8 +40,8 @@ By false A B = B
 
 -- past the margin the logical list's, else as they were
 unfoldable pub PastMargin : HardCall → Float → SoftChoice → SoftAnswer → List ℕ → List ℕ → List Float → List Float → Type 0
-PastMargin call least Nothing r c c' w w' = (c' ≡ c) × (w' ≡ w)
-PastMargin call least (Chosen first second) r c c' w w' = By (too_close call least first second) ((c' ≡ c) × (w' ≡ w)) (LogicalRooms call (best_of first second (size call.physical)) r c c' w w')
+PastMargin call least None r c c' w w' = (c' ≡ c) × (w' ≡ w)
+PastMargin call least (Some (first, second)) r c c' w w' = By (too_close call least first second) ((c' ≡ c) × (w' ≡ w)) (LogicalRooms call (best_of first second (size call.physical)) r c c' w w')
 
 -- all three: as they were where the physical list has no confidence, else with the sums of the last transform
 unfoldable pub CoreRooms : SoftCall → SoftAnswer → List ℕ → List ℕ → List Float → List Float → List ℤ → List ℤ → Type 0

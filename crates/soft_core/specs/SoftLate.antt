@@ -4,7 +4,7 @@ use Rattle.board.specs.declared.edge.Placing.{Placing}
 use Rattle.admission.specs.Calls.{SoftCall}
 use Rattle.figures.specs.Figures.{no_confidence}
 use Rattle.margin.specs.Margin.{below_margin}
-use Rattle.answer.specs.declared.SoftAnswer.{SoftAnswer}
+use Rattle.answer.specs.Answers.{SoftAnswer}
 use Rattle.demand.specs.Late.{Exactly, LogicalKept, SameSquare}
 use Rattle.demand.specs.OneSelection.{NoneWithinLimit, NoneLeads}
 use Rattle.soft_core.specs.SoftDemand.{margin_of, FirstByLikelihood, SecondByLikelihood}

@@ -1,5 +1,5 @@
 -- Laws of an accepted soft call: the figures that are read off the room, what its two selections ask, and the ways in which it ends.
-use Rattle.std.specs.Prelude.{◌≡◌, Bool, List, ℕ, ◌<◌, length, ℤ, pos, Float}
+use Rattle.std.specs.Prelude.{◌≡◌, Bool, List, ℕ, ◌<◌, length, ℤ, pos, Float, None, Some}
 use Rattle.std.proofs.Math.Path.{refl, sym, ap}
 use Rattle.std.proofs.Common.{subst, ◌∙◌, arith}
 use Rattle.std.proofs.Math.Bool.{true, false}
@@ -17,13 +17,12 @@ use Rattle.figures.specs.Figures.{total_confidence, no_confidence}
 use Rattle.hard.specs.Select.{selection}
 use Rattle.margin.specs.declared.slots.SoftCandidate.{SoftCandidate}
 use Rattle.margin.specs.declared.slots.SoftScan.{SoftScan}
-use Rattle.margin.specs.declared.slots.SoftChoice.{SoftChoice}
-use Rattle.margin.specs.declared.slots.SoftChoice.TheVariants.{Nothing, Chosen}
+use Rattle.margin.specs.Kinds.{SoftChoice}
 use Rattle.margin.specs.Choice.{soft_chosen}
 use Rattle.margin.specs.Margin.{soft_margin, below_margin}
 use Rattle.soft.specs.Select.{soft_scan_of, soft_selection, SoftReady, SoftScanned}
 use Rattle.soft.specs.SelectLaws.{room-beyond, scanned-unique, soft-best-edges}
-use Rattle.answer.specs.declared.SoftAnswer.{SoftAnswer}
+use Rattle.answer.specs.Answers.{SoftAnswer}
 use Rattle.soft_verdict.specs.SoftVerdict.{soft_refused_by, best_of}
 use Rattle.soft_logical.specs.LogicalLaws.{logical-same}
 use Rattle.soft_logical.specs.Logical.{after_hard, LogicalRooms, LogicalDone}
@@ -43,25 +42,25 @@ by-false false A B e x = x
 -- ---- the accepted call
 -- the list position that a choice holds in first place
 abbrev first_place_of : SoftChoice → ℕ
-first_place_of Nothing = 0
-first_place_of (Chosen first second) = first.placing.listed
+first_place_of None = 0
+first_place_of (Some (first, second)) = first.placing.listed
 
 -- and in second place
 abbrev second_place_of : SoftChoice → ℕ
-second_place_of Nothing = 0
-second_place_of (Chosen first second) = second.placing.listed
+second_place_of None = 0
+second_place_of (Some (first, second)) = second.placing.listed
 
 module _ (call : SoftCall) (m n o : ℕ) (A : SoftAccepted call m n o) where
   pub likelihoods-ok : LikelihoodsOk call.hard.physical call.likelihoods
   likelihoods-ok = record { matches = A.matches; mismatches = A.mismatches; match = λ i h. (A.likely i h).0; mismatch = λ i h. (A.likely i h).1 }
 
-  pub first-listed : (first second : SoftCandidate) → soft_selection call.hard.board call.hard.physical call.likelihoods call.hard.transforms ≡ Chosen first second → first.placing.listed < length call.hard.transforms
+  pub first-listed : (first second : SoftCandidate) → soft_selection call.hard.board call.hard.physical call.likelihoods call.hard.transforms ≡ Some (first, second) → first.placing.listed < length call.hard.transforms
   first-listed first second e =
       let b = soft-best-edges call.hard.board call.hard.physical call.likelihoods call.hard.transforms A.hard.board A.hard.physical likelihoods-ok A.hard.transforms.some in
       let p : first.placing.listed ≡ b.p = ap first_place_of (sym e ∙ b.chosen) in
       omega (arith, b.first.listed)
 
-  pub second-listed : (first second : SoftCandidate) → soft_selection call.hard.board call.hard.physical call.likelihoods call.hard.transforms ≡ Chosen first second → second.placing.listed < length call.hard.transforms
+  pub second-listed : (first second : SoftCandidate) → soft_selection call.hard.board call.hard.physical call.likelihoods call.hard.transforms ≡ Some (first, second) → second.placing.listed < length call.hard.transforms
   second-listed first second e =
       let b = soft-best-edges call.hard.board call.hard.physical call.likelihoods call.hard.transforms A.hard.board A.hard.physical likelihoods-ok A.hard.transforms.some in
       let p : second.placing.listed ≡ b.q = ap second_place_of (sym e ∙ b.chosen) in
@@ -101,17 +100,17 @@ module _ (call : SoftCall) (c : List ℕ) (w : List Float) (a : List ℤ) (A : S
         by-false _ _ _ h (subst (λ (z : SoftChoice). PastMargin call.hard call.soft-margin z r c c' w w') (sym e ∙ choice-told) p, S.room)
 
     -- no two candidates
-    pub core-nothing : (r : SoftAnswer) → x ≡ Nothing → r ≡ soft_refused_by why.soft_margin → SoftCoreDone call c c w w a a' r
+    pub core-nothing : (r : SoftAnswer) → x ≡ None → r ≡ soft_refused_by why.soft_margin → SoftCoreDone call c c w w a a' r
     unfolding PastMargin
-    core-nothing r k e = record { answer = e ∙ core-answer Nothing k; rooms = core-rooms Nothing c w r k (refl, refl); counts = beyond-refl 0 (tables_room call.hard.board) c; weights = beyond-refl nan (tables_room call.hard.board) w; sums = sums-beyond }
+    core-nothing r k e = record { answer = e ∙ core-answer None k; rooms = core-rooms None c w r k (refl, refl); counts = beyond-refl 0 (tables_room call.hard.board) c; weights = beyond-refl nan (tables_room call.hard.board) w; sums = sums-beyond }
 
-    module _ (first second : SoftCandidate) (k : x ≡ Chosen first second) (m : Float) (f : m ≡ soft_margin first second (size call.hard.physical)) where
+    module _ (first second : SoftCandidate) (k : x ≡ Some (first, second)) (m : Float) (f : m ≡ soft_margin first second (size call.hard.physical)) where
       -- the margin is too small
       pub core-below : (b : Bool) (r : SoftAnswer) → b ≡ below_margin m call.soft-margin → b ≡ true → r ≡ soft_refused_by why.soft_margin → SoftCoreDone call c c w w a a' r
       unfolding PastMargin
       core-below b r d t e =
           let q : below_margin (soft_margin first second (size call.hard.physical)) call.soft-margin ≡ true = ap (λ (z : Float). below_margin z call.soft-margin) (sym f) ∙ sym d ∙ t in
-          record { answer = e ∙ sym (rw q) ∙ core-answer (Chosen first second) k; rooms = core-rooms (Chosen first second) c w r k (by-true _ _ _ q (refl, refl)); counts = beyond-refl 0 (tables_room call.hard.board) c; weights = beyond-refl nan (tables_room call.hard.board) w; sums = sums-beyond }
+          record { answer = e ∙ sym (rw q) ∙ core-answer (Some (first, second)) k; rooms = core-rooms (Some (first, second)) c w r k (by-true _ _ _ q (refl, refl)); counts = beyond-refl 0 (tables_room call.hard.board) c; weights = beyond-refl nan (tables_room call.hard.board) w; sums = sums-beyond }
 
       -- else the logical list decides
       pub core-logical : (b : Bool) (c' : List ℕ) (w' : List Float) (r : SoftAnswer) → b ≡ below_margin m call.soft-margin → b ≡ false → LogicalDone call.hard (record { first = first; second = second; margin = m }) c c' w w' r → SoftCoreDone call c c' w w' a a' r
@@ -119,9 +118,9 @@ module _ (call : SoftCall) (c : List ℕ) (w : List Float) (a : List ℤ) (A : S
       core-logical b c' w' r d t D =
           let q : below_margin (soft_margin first second (size call.hard.physical)) call.soft-margin ≡ false = ap (λ (z : Float). below_margin z call.soft-margin) (sym f) ∙ sym d ∙ t in
           record {
-            answer = D.answer ∙ ap (λ (z : Float). after_hard call.hard (record { first = first; second = second; margin = z }) (selection call.hard.board call.hard.logical call.hard.transforms call.hard.error_limit)) f ∙ sym (rw q) ∙ core-answer (Chosen first second) k;
+            answer = D.answer ∙ ap (λ (z : Float). after_hard call.hard (record { first = first; second = second; margin = z }) (selection call.hard.board call.hard.logical call.hard.transforms call.hard.error_limit)) f ∙ sym (rw q) ∙ core-answer (Some (first, second)) k;
             rooms =
-                core-rooms (Chosen first second) c' w' r k
+                core-rooms (Some (first, second)) c' w' r k
                 (by-false _ _ _ q (subst (λ (z : Float). LogicalRooms call.hard (record { first = first; second = second; margin = z }) r c c' w w') f D.rooms));
             counts = D.counts;
             weights = D.weights;
@@ -136,8 +135,8 @@ by-same false A A' B B' C f g p q = g p q
 
 margin-same : (call : HardCall) (least : Float) (y : SoftChoice) (r : SoftAnswer) (c c' d' : List ℕ) (w w' x' : List Float) → PastMargin call least y r c c' w w' → PastMargin call least y r c d' w x' → (c' ≡ d') × (w' ≡ x')
 unfolding PastMargin
-margin-same call least Nothing r c c' d' w w' x' p q = (p.0 ∙ sym q.0, p.1 ∙ sym q.1)
-margin-same call least (Chosen first second) r c c' d' w w' x' p q =
+margin-same call least None r c c' d' w w' x' p q = (p.0 ∙ sym q.0, p.1 ∙ sym q.1)
+margin-same call least (Some (first, second)) r c c' d' w w' x' p q =
     by-same (too_close call least first second) _ _ _ _ _ (λ f g. (f.0 ∙ sym g.0, f.1 ∙ sym g.1))
     (λ f g. logical-same call (best_of first second (size call.physical)) r c c' d' w w' x' f g) p q
 

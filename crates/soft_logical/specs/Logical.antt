@@ -1,5 +1,5 @@
 -- Document 01, 'Soft selection': "Then hard selection on the logical list must give the same origin and matrix and pass the gate", and the figures of the physical list.
-use Rattle.std.specs.Prelude.{◌≡◌, true, false, List, ℕ, ◌+◌, ◌*◌, ◌%◌, Float}
+use Rattle.std.specs.Prelude.{◌≡◌, true, false, List, ℕ, ◌+◌, ◌*◌, ◌%◌, Float, Err, Ok}
 use Rattle.std.proofs.Math.ListN.{get_or}
 use Rattle.std.specs.Float.{nan, binary32}
 use Rattle.std.specs.Float.Ieee.{add}
@@ -11,14 +11,12 @@ use Rattle.room.specs.Room.{tables_room}
 use Rattle.admission.specs.Calls.{HardCall}
 use Rattle.scan.specs.declared.scan.Candidate.{Candidate}
 use Rattle.scan.specs.declared.scan.RunnerUp.{RunnerUp}
-use Rattle.hard.specs.declared.select.Selection.{Selection}
-use Rattle.hard.specs.declared.select.Selection.TheVariants as sel
+use Rattle.hard.specs.Kinds.{Selection}
 use Rattle.best.specs.CellTables.{CellTables, c_at, w_at}
 use Rattle.hard.specs.Select.{tables_of, selection, Rooms, built_to}
 use Rattle.figures.specs.declared.Fit.{Fit}
 use Rattle.soft_verdict.specs.declared.SoftBest.{SoftBest}
-use Rattle.answer.specs.declared.SoftAnswer.{SoftAnswer}
-use Rattle.answer.specs.declared.SoftAnswer.TheVariants.{Found, Refused}
+use Rattle.answer.specs.Answers.{SoftAnswer}
 use Rattle.verdict.specs.Verdict.{when_accepted}
 use Rattle.soft_verdict.specs.SoftVerdict.{soft_verdict, soft_decoded_of}
 
@@ -42,11 +40,11 @@ module _ (call : HardCall) where
   soft_judged best w runner =
       let t = get_or call.transforms best.first.placing.listed 0 in
       let u = get_or call.transforms best.second.placing.listed 0 in
-      when_accepted Refused (soft_verdict t best.first (get_or call.transforms w.placing.listed 0) w runner (size call.logical)) (Found (soft_decoded_of t u best (fit_of call.board call.physical t best.first.placing.row best.first.placing.col) (size call.physical) runner))
+      when_accepted Err (soft_verdict t best.first (get_or call.transforms w.placing.listed 0) w runner (size call.logical)) (Ok (soft_decoded_of t u best (fit_of call.board call.physical t best.first.placing.row best.first.placing.col) (size call.physical) runner))
 
   abbrev pub after_hard : SoftBest → Selection → SoftAnswer
-  after_hard best (sel.Refused r) = Refused r
-  after_hard best (sel.Selected w runner) = soft_judged best w runner
+  after_hard best (Err r) = Err r
+  after_hard best (Ok (w, runner)) = soft_judged best w runner
 
 -- ---- what the steps leave
 pub record FitDone (B : Board) (E : EdgeList) (t row col : ℕ) (c c' : List ℕ) (w w' : List Float) (r : Fit) : Type 0 where
@@ -55,8 +53,8 @@ pub record FitDone (B : Board) (E : EdgeList) (t row col : ℕ) (c c' : List ℕ
 
 -- the u32 and the f32 room after the answer: a found one has left the physical list's tables under its transform in them, a refusal nothing
 unfoldable pub Figured : SoftAnswer → Board → EdgeList → ℕ → List ℕ → List ℕ → List Float → List Float → Type 0
-Figured (Found d) B E t c c' w w' = TablesBuilt B E t c c' w w'
-Figured (Refused r) B E t c c' w w' = (c' ≡ c) × (w' ≡ w)
+Figured (Ok d) B E t c c' w w' = TablesBuilt B E t c c' w w'
+Figured (Err r) B E t c c' w w' = (c' ≡ c) × (w' ≡ w)
 
 -- the logical list's tables of the last transform, and over them the figures
 pub record LogicalRooms (call : HardCall) (best : SoftBest) (r : SoftAnswer) (c c' : List ℕ) (w w' : List Float) : Type 0 where

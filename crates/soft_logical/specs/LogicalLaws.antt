@@ -1,5 +1,5 @@
 -- Laws of the soft winner against the logical list: the figures that are read off the room, what is asked and left, and that the promise determines the result.
-use Rattle.std.specs.Prelude.{◌≡◌, refl, true, false, List, ℕ, ◌+◌, ◌*◌, ◌%◌, ◌≤◌, ◌<◌, get_or, length, drop, Float}
+use Rattle.std.specs.Prelude.{◌≡◌, refl, true, false, List, ℕ, ◌+◌, ◌*◌, ◌%◌, ◌≤◌, ◌<◌, get_or, length, drop, Float, Err, Ok}
 use Rattle.std.proofs.Math.Path.{sym, ap}
 use Rattle.std.proofs.Common.{subst, ◌∙◌, le_trans, le_of_eq, get_or-drop}
 use native.Mathlib.Omega.{arith}
@@ -15,14 +15,12 @@ use Rattle.room.specs.Room.{tables_room}
 use Rattle.tables.specs.Built.{TablesReady, TablesBuilt}
 use Rattle.tables.specs.TablesTheorems.{rooms-equal}
 use Rattle.refusals.specs.declared.Refusal.{Refusal}
-use Rattle.refusals.specs.declared.Admission.{Admission}
-use Rattle.refusals.specs.declared.Admission.TheVariants as admission
+use Rattle.refusals.specs.Admission.{Admission, accepted}
 use Rattle.admission.specs.Calls.{HardCall}
 use Rattle.admission.specs.Accepted.{HardAccepted}
 use Rattle.scan.specs.declared.scan.Candidate.{Candidate}
 use Rattle.scan.specs.declared.scan.RunnerUp.{RunnerUp}
-use Rattle.hard.specs.declared.select.Selection.{Selection}
-use Rattle.hard.specs.declared.select.Selection.TheVariants as sel
+use Rattle.hard.specs.Kinds.{Selection}
 use Rattle.best.specs.CellTables.{Period, CellTables}
 use Rattle.hard.specs.Select.{selection, SelectDone}
 use Rattle.grid.specs.BoardGrid.{period-h, period-v}
@@ -30,8 +28,7 @@ use Rattle.hard.specs.SelectLaws.{RoomReady, room_cells, built-cells, tables-ok,
 use Rattle.figures.specs.declared.Fit.{Fit}
 use Rattle.soft_verdict.specs.declared.SoftBest.{SoftBest}
 use Rattle.answer.specs.declared.SoftDecoded.{SoftDecoded}
-use Rattle.answer.specs.declared.SoftAnswer.{SoftAnswer}
-use Rattle.answer.specs.declared.SoftAnswer.TheVariants.{Found, Refused}
+use Rattle.answer.specs.Answers.{SoftAnswer}
 use Rattle.hard.proofs.Ready.{ready-logical, beyond}
 use Rattle.verdict.specs.Verdict.{when_accepted}
 use Rattle.soft_verdict.specs.SoftVerdict.{soft_verdict, soft_decoded_of}
@@ -83,7 +80,7 @@ module _ (call : HardCall) (c : List ℕ) (w : List Float) (A : HardAccepted cal
   pub logical-rooms : SameBeyond 0 (tables_room call.board) c c' × SameBeyond nan (tables_room call.board) w w'
   logical-rooms = beyond call c w A call.logical call.error_limit c c' w w' r (ready-logical call c w A) D
 
-  pub logical-refused : (n : Refusal) → r ≡ sel.Refused n → LogicalDone call best c c' w w' (Refused n)
+  pub logical-refused : (n : Refusal) → r ≡ Err n → LogicalDone call best c c' w w' (Err n)
   unfolding soft_judged Figured
   logical-refused n k = record { answer = ap (after_hard call best) (sym k ∙ D.answer); rooms = record { counts = c'; weights = w'; selected = D.rooms; figured = (refl, refl) }; counts = logical-rooms.0; weights = logical-rooms.1 }
 
@@ -97,16 +94,16 @@ module _ (call : HardCall) (c : List ℕ) (w : List Float) (A : HardAccepted cal
         room = (le_trans A.room.0 (le_of_eq (sym logical-rooms.0.len)), le_trans A.room.1 (le_of_eq (sym logical-rooms.1.len)));
       }
 
-  module _ (x : Candidate) (runner : RunnerUp) (k : r ≡ sel.Selected x runner) (n : Admission) (v : n ≡ soft_verdict (get_or call.transforms best.first.placing.listed 0) best.first (get_or call.transforms x.placing.listed 0) x runner (size call.logical)) where
+  module _ (x : Candidate) (runner : RunnerUp) (k : r ≡ Ok (x, runner)) (n : Admission) (v : n ≡ soft_verdict (get_or call.transforms best.first.placing.listed 0) best.first (get_or call.transforms x.placing.listed 0) x runner (size call.logical)) where
     -- the answer under a verdict
     abbrev under : Admission → SoftAnswer
-    under y = let t = get_or call.transforms best.first.placing.listed 0 in when_accepted Refused y (Found (soft_decoded_of t (get_or call.transforms best.second.placing.listed 0) best (fit_of call.board call.physical t best.first.placing.row best.first.placing.col) (size call.physical) runner))
+    under y = let t = get_or call.transforms best.first.placing.listed 0 in when_accepted Err y (Ok (soft_decoded_of t (get_or call.transforms best.second.placing.listed 0) best (fit_of call.board call.physical t best.first.placing.row best.first.placing.col) (size call.physical) runner))
 
     logical-answer : under n ≡ after_hard call best (selection call.board call.logical call.transforms call.error_limit)
     unfolding soft_judged
     logical-answer = ap under v ∙ ap (after_hard call best) (sym k ∙ D.answer)
 
-    pub verdict-refused : (z : Refusal) → n ≡ admission.Refused z → LogicalDone call best c c' w w' (Refused z)
+    pub verdict-refused : (z : Refusal) → n ≡ Err z → LogicalDone call best c c' w w' (Err z)
     unfolding Figured
     verdict-refused z o = record { answer = ap under (sym o) ∙ logical-answer; rooms = record { counts = c'; weights = w'; selected = D.rooms; figured = (refl, refl) }; counts = logical-rooms.0; weights = logical-rooms.1 }
 
@@ -114,11 +111,11 @@ module _ (call : HardCall) (c : List ℕ) (w : List Float) (A : HardAccepted cal
       pub own-few : own.hits ≤ size call.physical
       own-few = subst (λ (z : Fit). z.hits ≤ size call.physical) (sym F.answer) (fit-few call.board call.physical (get_or call.transforms best.first.placing.listed 0) best.first.placing.row best.first.placing.col A.board A.physical)
 
-      pub verdict-found : (a : SoftDecoded) → n ≡ admission.Accepted → a ≡ soft_decoded_of (get_or call.transforms best.first.placing.listed 0) (get_or call.transforms best.second.placing.listed 0) best own (size call.physical) runner → LogicalDone call best c c'' w w'' (Found a)
+      pub verdict-found : (a : SoftDecoded) → n ≡ accepted → a ≡ soft_decoded_of (get_or call.transforms best.first.placing.listed 0) (get_or call.transforms best.second.placing.listed 0) best own (size call.physical) runner → LogicalDone call best c c'' w w'' (Ok a)
       unfolding Figured
       verdict-found a o e =
           record {
-            answer = ap Found (e ∙ ap (λ (z : Fit). soft_decoded_of (get_or call.transforms best.first.placing.listed 0) (get_or call.transforms best.second.placing.listed 0) best z (size call.physical) runner) F.answer) ∙ ap under (sym o) ∙ logical-answer;
+            answer = ap Ok (e ∙ ap (λ (z : Fit). soft_decoded_of (get_or call.transforms best.first.placing.listed 0) (get_or call.transforms best.second.placing.listed 0) best z (size call.physical) runner) F.answer) ∙ ap under (sym o) ∙ logical-answer;
             rooms = record { counts = c'; weights = w'; selected = D.rooms; figured = F.rooms };
             counts = beyond-trans 0 (tables_room call.board) c c' c'' logical-rooms.0 (record { len = F.rooms.counts.len; same = F.rooms.counts.surplus });
             weights = beyond-trans nan (tables_room call.board) w w' w'' logical-rooms.1 (record { len = F.rooms.weights.len; same = F.rooms.weights.surplus });
@@ -127,8 +124,8 @@ module _ (call : HardCall) (c : List ℕ) (w : List Float) (A : HardAccepted cal
 -- ---- any two results that the promise allows are equal, and so are the rooms
 figured-same : (y : SoftAnswer) (B : Board) (E : EdgeList) (t : ℕ) (m c d : List ℕ) (v w x : List Float) → Figured y B E t m c v w → Figured y B E t m d v x → (c ≡ d) × (w ≡ x)
 unfolding Figured
-figured-same (Found a) B E t m c d v w x f g = rooms-equal B E t m c d v w x f g
-figured-same (Refused n) B E t m c d v w x f g = (f.0 ∙ sym g.0, f.1 ∙ sym g.1)
+figured-same (Ok a) B E t m c d v w x f g = rooms-equal B E t m c d v w x f g
+figured-same (Err n) B E t m c d v w x f g = (f.0 ∙ sym g.0, f.1 ∙ sym g.1)
 
 figured-over : (y : SoftAnswer) (B : Board) (E : EdgeList) (t : ℕ) (m n c d : List ℕ) (v u w x : List Float) → m ≡ n → v ≡ u → Figured y B E t m c v w → Figured y B E t n d u x → (c ≡ d) × (w ≡ x)
 figured-over y B E t m n c d v u w x e o f g =

@@ -1,13 +1,11 @@
 -- What a soft verdict tells, in the winners' own numbers: accepted exactly when the soft and the hard winner agree and the gate is passed; a found answer tells the soft
 -- winner's square and total, the physical list's hits, and the hard runner-up. A refusal has its own number.
 use Rattle.std.proofs.Math.Path.{◌≡◌, refl}
-use Rattle.std.specs.Prelude.{Bool, ◌⊎◌, ℕ, pos}
+use Rattle.std.specs.Prelude.{Bool, ◌⊎◌, ℕ, pos, Err, Ok}
 use Rattle.std.proofs.Math.Bool.{true, false, cond}
 use Rattle.std.proofs.Common.{inl, inr, arith}
 use Rattle.std.specs.Float.{binary32}
 use Rattle.std.specs.Float.Ieee.{sub, div, of_int}
-use Rattle.refusals.specs.declared.Refusal.{Refusal}
-use Rattle.refusals.specs.declared.Admission.TheVariants as admission
 use Rattle.refusals.specs.Numbers.{numbered}
 use Rattle.refusals.specs.Numbers as why
 use Rattle.scan.specs.declared.scan.Candidate.{Candidate}
@@ -15,36 +13,36 @@ use Rattle.scan.specs.declared.scan.RunnerUp.{RunnerUp}
 use Rattle.figures.specs.Gate.{passed}
 use Rattle.figures.specs.declared.Fit.{Fit}
 use Rattle.margin.specs.declared.slots.SoftCandidate.{SoftCandidate}
-use Rattle.verdict.specs.Answers.{Answers}
+use Rattle.verdict.specs.Answers.{Answers, answers}
 use Rattle.verdict.proofs.VerdictTheorems.{Agree, Says, test, agree_of, of_agree, of-differ, both_hold, first_holds, none-holds}
 use Rattle.soft_verdict.specs.declared.SoftBest.{SoftBest}
 use Rattle.answer.specs.declared.SoftDecoded.{SoftDecoded}
-use Rattle.answer.specs.declared.SoftAnswer.{SoftAnswer}
-use Rattle.answer.specs.declared.SoftAnswer.TheVariants.{Found, Refused}
+use Rattle.answer.specs.Answers.{SoftAnswer}
 use Rattle.soft_verdict.specs.SoftVerdict.{soft_verdict, soft_decoded_of, best_of}
+use Rattle.refusals.specs.Admission.{accepted}
 
 -- ---- the winner by likelihood under the transform t, and the hard winner w of the logical list under the transform s
 module _ (t : ℕ) (first : SoftCandidate) (s : ℕ) (w : Candidate) (runner : RunnerUp) (edges : ℕ) where
   -- WINNERS THAT AGREE AND PASS ARE ACCEPTED
-  pub soft-verdict-complete : Agree t first.placing s w.placing → passed edges w.hits runner.hits ≡ true → soft_verdict t first s w runner edges ≡ admission.Accepted
+  pub soft-verdict-complete : Agree t first.placing s w.placing → passed edges w.hits runner.hits ≡ true → soft_verdict t first s w runner edges ≡ accepted
   unfolding soft_verdict
   soft-verdict-complete a g = both_hold (test t first.placing s w.placing) (passed edges w.hits runner.hits) _ _ _ (of_agree t first.placing s w.placing a) g
 
   -- 15 where they differ, 13 where they agree and do not pass
-  pub soft-verdict-15 : (Agree t first.placing s w.placing → ⊥) → soft_verdict t first s w runner edges ≡ admission.Refused (numbered why.soft_hard_disagree)
+  pub soft-verdict-15 : (Agree t first.placing s w.placing → ⊥) → soft_verdict t first s w runner edges ≡ Err (numbered why.soft_hard_disagree)
   unfolding soft_verdict
   soft-verdict-15 n = none-holds (test t first.placing s w.placing) _ _ (of-differ t first.placing s w.placing n)
 
-  pub soft-verdict-13 : Agree t first.placing s w.placing → passed edges w.hits runner.hits ≡ false → soft_verdict t first s w runner edges ≡ admission.Refused (numbered why.not_far_ahead)
+  pub soft-verdict-13 : Agree t first.placing s w.placing → passed edges w.hits runner.hits ≡ false → soft_verdict t first s w runner edges ≡ Err (numbered why.not_far_ahead)
   unfolding soft_verdict
   soft-verdict-13 a g = first_holds (test t first.placing s w.placing) (passed edges w.hits runner.hits) _ _ _ (of_agree t first.placing s w.placing a) g
 
   -- ACCEPTED MEANS TRUE
-  pub soft-verdict-sound : soft_verdict t first s w runner edges ≡ admission.Accepted → Agree t first.placing s w.placing × (passed edges w.hits runner.hits ≡ true)
+  pub soft-verdict-sound : soft_verdict t first s w runner edges ≡ accepted → Agree t first.placing s w.placing × (passed edges w.hits runner.hits ≡ true)
   unfolding soft_verdict
   soft-verdict-sound h = go (test t first.placing s w.placing) (passed edges w.hits runner.hits) refl refl h
     where
-      go : (a b : Bool) → test t first.placing s w.placing ≡ a → passed edges w.hits runner.hits ≡ b → cond a (cond b admission.Accepted (admission.Refused (numbered why.not_far_ahead))) (admission.Refused (numbered why.soft_hard_disagree)) ≡ admission.Accepted
+      go : (a b : Bool) → test t first.placing s w.placing ≡ a → passed edges w.hits runner.hits ≡ b → cond a (cond b accepted (Err (numbered why.not_far_ahead))) (Err (numbered why.soft_hard_disagree)) ≡ accepted
           → Agree t first.placing s w.placing × (passed edges w.hits runner.hits ≡ true)
       go true true e g k = (agree_of t first.placing s w.placing e, g)
       go true false e g k = let z : ◌≡◌ {A = ℕ} 0 1 = cc in absurd (omega arith)
@@ -77,9 +75,5 @@ unfolding soft_decoded_of
 margin-of-the-two t u first second fit edges runner = refl
 
 -- SOFT ANSWERS are made in two ways, as hard ones are
-pub soft-answers : Answers Refused Found
-soft-answers = record { either = either; apart = λ d r e. let z : ◌≡◌ {A = ℕ} 0 1 = cc in omega arith; once = λ r s e. cc }
-  where
-    either : (a : SoftAnswer) → ((d : SoftDecoded) × (a ≡ Found d)) ⊎ ((r : Refusal) × (a ≡ Refused r))
-    either (Found d) = inl (d, refl)
-    either (Refused r) = inr (r, refl)
+pub soft-answers : Answers {Answer = SoftAnswer} Err Ok
+soft-answers = answers

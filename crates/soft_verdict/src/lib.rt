@@ -7,7 +7,7 @@ ghost use Rattle.soft_verdict.specs.SoftVerdict.{soft_refused_by, soft_verdict, 
 use answer::{SoftAnswer, SoftDecoded, Square};
 use figures::Fit;
 use margin::slots::SoftCandidate;
-use refusals::{Admission, Place, Refusal};
+use refusals::{Admission, Refusal};
 use scan::scan::{Candidate, RunnerUp};
 
 // The two best placings by likelihood, and how far the first is ahead per edge: kept together until the answer is assembled.
@@ -22,9 +22,9 @@ pub struct SoftBest {
 pub fn refuse_soft(number: u32) -> SoftAnswer
     ensures { result ≡ soft_refused_by number }
 {
-    SoftAnswer::Refused(Refusal {
+    Err(Refusal {
         number,
-        place: Place::Nowhere,
+        place: None,
     })
 }
 
@@ -43,18 +43,18 @@ pub fn soft_verdict(
         if best.first.placing.row == w.placing.row {
             if best.first.placing.col == w.placing.col {
                 if figures::passes(edges, w.hits, runner.hits) {
-                    return Admission::Accepted;
+                    return Ok(());
                 }
-                return Admission::Refused(Refusal {
+                return Err(Refusal {
                     number: refusals::NOT_FAR_AHEAD,
-                    place: Place::Nowhere,
+                    place: None,
                 });
             }
         }
     }
-    Admission::Refused(Refusal {
+    Err(Refusal {
         number: refusals::SOFT_HARD_DISAGREE,
-        place: Place::Nowhere,
+        place: None,
     })
 }
 

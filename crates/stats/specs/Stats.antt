@@ -1,15 +1,13 @@
 -- Document 01, end of 'Refusal numbers': match statistics. "edges, hits, rate, and mean over hits added in list order; no edges: rate 1; no hits: mean 0."
-use Rattle.std.specs.Prelude.{Bool, cond, ℕ, ◌+◌, eqb, get_or, Float}
+use Rattle.std.specs.Prelude.{Bool, cond, ℕ, ◌+◌, eqb, get_or, Float, Err, Ok}
 use Rattle.std.specs.Float.{nan, binary32}
 use Rattle.std.specs.Float.Ieee.{add}
 use Rattle.laws.specs.Words.{put, fold, zero_f, one_f}
 use Rattle.board.specs.Hits.{EdgeList, Board, size, hit, hits}
 use Rattle.figures.specs.Figures.{rate_of, mean_of}
-use Rattle.refusals.specs.declared.Admission.{Admission}
-use Rattle.refusals.specs.declared.Admission.TheVariants as admission
+use Rattle.refusals.specs.Admission.{Admission}
 use Rattle.answer.specs.declared.MatchStats.{MatchStats}
-use Rattle.answer.specs.declared.StatsAnswer.{StatsAnswer}
-use Rattle.answer.specs.declared.StatsAnswer.TheVariants.{Counted, Refused}
+use Rattle.answer.specs.Answers.{StatsAnswer}
 use Rattle.figures.specs.declared.Fit.{Fit}
 use Rattle.admission.specs.Refusals.{stats_admission}
 
@@ -32,8 +30,8 @@ stats_of E t row col B = record {
 
 -- an accepted call is counted
 abbrev pub or_counted : Admission → MatchStats → StatsAnswer
-or_counted admission.Accepted s = Counted s
-or_counted (admission.Refused r) s = Refused r
+or_counted (Ok _) s = Ok s
+or_counted (Err r) s = Err r
 
 -- the answer: refused with its number, or counted
 unfoldable pub stats_answer : EdgeList → ℕ → ℕ → ℕ → Board → StatsAnswer

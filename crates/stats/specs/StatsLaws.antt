@@ -1,5 +1,5 @@
 -- One edge more of match statistics, and the two ways in which they end.
-use Rattle.std.specs.Prelude.{◌≡◌, Bool}
+use Rattle.std.specs.Prelude.{◌≡◌, Bool, Err, Ok}
 use Rattle.std.proofs.Math.Path.{refl, sym, ap, ap₂}
 use Rattle.std.proofs.Common.{◌∙◌}
 use Prim.Native.Nat.{ℕ, ◌+◌, ◌≤◌}
@@ -12,10 +12,8 @@ use Rattle.laws.specs.Counting.{count-le}
 use Rattle.board.specs.Hits.{EdgeList, Board, size, hit, hits}
 use Rattle.figures.specs.Figures.{mean_of}
 use Rattle.refusals.specs.declared.Refusal.{Refusal}
-use Rattle.refusals.specs.declared.Admission.{Admission}
-use Rattle.refusals.specs.declared.Admission.TheVariants as admission
+use Rattle.refusals.specs.Admission.{Admission, accepted}
 use Rattle.answer.specs.declared.MatchStats.{MatchStats}
-use Rattle.answer.specs.declared.StatsAnswer.TheVariants.{Counted, Refused}
 use Rattle.figures.specs.declared.Fit.{Fit}
 use Rattle.admission.specs.Refusals.{stats_admission}
 use Rattle.stats.specs.Stats.{stats_rate, hit_weight, stats_of, stats_answer, or_counted, added, hits_and_weight}
@@ -51,13 +49,13 @@ module _ (E : EdgeList) (t row col : ℕ) (B : Board) where
 
   -- ---- the two ends
   module _ (a : Admission) (e : a ≡ stats_admission E t row col B) where
-    pub stats-refused : (r : Refusal) → a ≡ admission.Refused r → Refused r ≡ stats_answer E t row col B
+    pub stats-refused : (r : Refusal) → a ≡ Err r → Err r ≡ stats_answer E t row col B
     unfolding stats_answer
     stats-refused r n = ap (λ (x : Admission). or_counted x (stats_of E t row col B)) (sym n ∙ e)
 
-    pub stats-counted : (c : Fit) (s : MatchStats) → a ≡ admission.Accepted → c ≡ hits_and_weight E t row col B
-        → s ≡ record { edges = size E; hits = c.hits; error_rate = stats_rate (size E) c.hits; mean_confidence = mean_of c.hits c.weight } → Counted s ≡ stats_answer E t row col B
+    pub stats-counted : (c : Fit) (s : MatchStats) → a ≡ accepted → c ≡ hits_and_weight E t row col B
+        → s ≡ record { edges = size E; hits = c.hits; error_rate = stats_rate (size E) c.hits; mean_confidence = mean_of c.hits c.weight } → Ok s ≡ stats_answer E t row col B
     unfolding stats_answer stats_of hits_and_weight
     stats-counted c s z k d =
-        ap Counted (d ∙ ap (λ (x : Fit). record { edges = size E; hits = x.hits; error_rate = stats_rate (size E) x.hits; mean_confidence = mean_of x.hits x.weight }) k)
+        ap Ok (d ∙ ap (λ (x : Fit). record { edges = size E; hits = x.hits; error_rate = stats_rate (size E) x.hits; mean_confidence = mean_of x.hits x.weight }) k)
         ∙ ap (λ (x : Admission). or_counted x (stats_of E t row col B)) (sym z ∙ e)

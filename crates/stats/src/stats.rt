@@ -1,12 +1,14 @@
 // Match statistics: how a list fits one known placing.
 ghost use Rattle.std.specs.Prelude.{◌≡◌, ◌≤◌, ◌<◌};
-ghost use Rattle.board.specs.Hits.{edges, tables};
+ghost use Rattle.board.specs.Hits.{edges};
 ghost use Rattle.admission.specs.Accepted.{StatsAccepted};
 ghost use Rattle.stats.specs.Stats.{added, hits_and_weight, stats_rate, stats_answer};
+ghost use Rattle.board.specs.Given.{board_of, list_of};
 
 use answer::{MatchStats, Square, StatsAnswer};
+use board::list::List;
+use board::pattern::Tables;
 use figures::Fit;
-use refusals::Admission;
 
 // One edge more: a hit adds one and its confidence.
 fn add_edge(sum: Fit, hit: bool, confidence: f32) -> Fit
@@ -23,31 +25,22 @@ fn add_edge(sum: Fit, hit: bool, confidence: f32) -> Fit
 }
 
 // The hits of a list at one placing, and their confidences added in list order.
-fn count_hits<'a>(
-    rows: &[i32],
-    cols: &[i32],
-    orientations: &[u8],
-    bits: &[u8],
-    confidences: &[f32],
-    square: Square,
-    h: &'a [u8],
-    v: &'a [u8],
-) -> Fit
+fn count_hits(list: List, square: Square, tables: Tables) -> Fit
     requires { StatsAccepted
-        (edges rows.now cols.now orientations.now bits.now confidences.now)
-        square.transform square.row square.col (tables h.now v.now) }
+        (list_of list)
+        square.transform square.row square.col (board_of tables) }
     ensures { result ≡ hits_and_weight
-        (edges rows.now cols.now orientations.now bits.now confidences.now)
-        square.transform square.row square.col (tables h.now v.now) }
+        (list_of list.entry)
+        square.transform square.row square.col (board_of tables.entry) }
 {
     let matrix = lookup::matrix_of(square.transform);
     let mut sum = Fit {
         hits: 0,
         weight: 0.0,
     };
-    for i in 0..rows.len() {
-        let hit = hit::hit_at(rows, cols, orientations, bits, i, square, matrix, h, v);
-        sum = add_edge(sum, hit, confidences[i]);
+    for i in 0..list.edges.rows.len() {
+        let hit = hit::hit_at(list.edges, i, square, matrix, tables);
+        sum = add_edge(sum, hit, list.confidences[i]);
     }
     sum
 }
@@ -64,51 +57,19 @@ pub fn rate(edges: u32, hits: u32) -> f32
 }
 
 // Edges, hits, rate and mean of one list at one known transform and origin, for all inputs.
-pub fn match_stats<'a>(
-    rows: &[i32],
-    cols: &[i32],
-    orientations: &[u8],
-    bits: &[u8],
-    confidences: &[f32],
-    transform: u8,
-    row: u32,
-    col: u32,
-    h: &'a [u8],
-    v: &'a [u8],
-) -> StatsAnswer
+pub fn match_stats(list: List, square: Square, tables: Tables) -> StatsAnswer
     ensures { result ≡ stats_answer
-        (edges rows.now cols.now orientations.now bits.now confidences.now)
-        transform row col (tables h.now v.now) }
+        (list_of list.entry)
+        square.transform square.row square.col (board_of tables.entry) }
 {
-    let admitted = stats_admission::stats_admission(
-        rows,
-        cols,
-        orientations,
-        bits,
-        confidences,
-        transform,
-        row,
-        col,
-        h,
-        v,
-    );
-    match admitted {
-        Admission::Refused(refusal) => StatsAnswer::Refused(refusal),
-        Admission::Accepted => {
-            let square = Square {
-                transform,
-                row,
-                col,
-            };
-            let counted = count_hits(rows, cols, orientations, bits, confidences, square, h, v);
-            let edges = rows.len() as u32;
-            let hits = counted.hits;
-            StatsAnswer::Counted(MatchStats {
-                edges,
-                hits,
-                error_rate: rate(edges, hits),
-                mean_confidence: figures::mean(hits, counted.weight),
-            })
-        }
-    }
+    stats_admission::stats_admission(list, square, tables)?;
+    let counted = count_hits(list, square, tables);
+    let edges = list.edges.rows.len() as u32;
+    let hits = counted.hits;
+    Ok(MatchStats {
+        edges,
+        hits,
+        error_rate: rate(edges, hits),
+        mean_confidence: figures::mean(hits, counted.weight),
+    })
 }

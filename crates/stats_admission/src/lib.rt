@@ -2,11 +2,14 @@
 #![tactic(auto)]
 
 ghost use Rattle.std.specs.Prelude.{◌≡◌};
-ghost use Rattle.board.specs.Hits.{edges, tables};
 ghost use Rattle.checks.specs.Checks.{origin_bad};
 ghost use Rattle.admission.specs.Refusals.{stats_admission};
+ghost use Rattle.board.specs.Given.{board_of, list_of};
 
 use admission::refusal::tables_bad;
+use answer::Square;
+use board::list::List;
+use board::pattern::Tables;
 use findings::{list_admission, settings_admission};
 use refusals::{Admission, ListName, first_of};
 
@@ -21,35 +24,16 @@ pub fn origin_bad(l: usize, row: u32, col: u32) -> bool
 }
 
 // The early refusals of match statistics, which take an empty list and no room.
-pub fn stats_admission(
-    rows: &[i32],
-    cols: &[i32],
-    orientations: &[u8],
-    bits: &[u8],
-    confidences: &[f32],
-    transform: u8,
-    row: u32,
-    col: u32,
-    h: &[u8],
-    v: &[u8],
-) -> Admission
+pub fn stats_admission(list: List, square: Square, tables: Tables) -> Admission
     ensures { result ≡ stats_admission
-        (edges rows.now cols.now orientations.now bits.now confidences.now)
-        transform row col (tables h.now v.now) }
+        (list_of list.entry)
+        square.transform square.row square.col (board_of tables.entry) }
 {
-    let list = list_admission(
-        0,
-        ListName::Only,
-        rows,
-        cols,
-        orientations,
-        bits,
-        confidences,
-    );
+    let list = list_admission(0, ListName::Only, list);
     let settings = settings_admission(
-        7 < transform,
-        tables_bad(h, v),
-        origin_bad(h.len(), row, col),
+        7 < square.transform,
+        tables_bad(tables),
+        origin_bad(tables.h.len(), square.row, square.col),
     );
     first_of(list, settings)
 }

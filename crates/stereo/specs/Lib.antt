@@ -1,3 +1,4 @@
 pub mod Stereo
 pub mod StereoLaws
 pub mod StereoTheorems
+pub mod Answers

@@ -1,17 +1,15 @@
 -- C-23: "It takes two found answers of flat boards with the same transform and gives the row and column shift from first origin to second, each the one number from -250 to 250 right modulo 501."
-use Rattle.std.specs.Prelude.{◌≡◌, Bool, cond, ◌||◌, ℕ, ◌+◌, ◌-◌, ◌%◌, ◌≤◌, eqb, ltb, leb, ℤ, pos, nat_abs, ◌+ℤ◌, ◌-ℤ◌}
+use Rattle.std.specs.Prelude.{◌≡◌, Bool, cond, ◌||◌, ℕ, ◌+◌, ◌-◌, ◌%◌, ◌≤◌, eqb, ltb, leb, ℤ, pos, nat_abs, ◌+ℤ◌, ◌-ℤ◌, Err, Ok}
 use Rattle.laws.specs.Words.{emod}
 use Rattle.refusals.specs.Numbers as why
 use Rattle.answer.specs.declared.Square.{Square}
 use Rattle.answer.specs.declared.Decoded.{Decoded}
-use Rattle.answer.specs.declared.Answer.{Answer}
-use Rattle.answer.specs.declared.Answer.TheVariants as answer
+use Rattle.answer.specs.Answers.{Answer}
 use Rattle.answer_checks.specs.FoundBad.{found_bad, bad_figures}
 use Rattle.stereo.specs.declared.Camera.{Camera}
 use Rattle.stereo.specs.declared.Camera.TheVariants.{First, Second, Pair}
 use Rattle.stereo.specs.declared.Shift.{Shift}
-use Rattle.stereo.specs.declared.StereoAnswer.{StereoAnswer}
-use Rattle.stereo.specs.declared.StereoAnswer.TheVariants.{Between, Refused}
+use Rattle.stereo.specs.Answers.{StereoAnswer}
 
 -- ---- what a shift is, in the request's words: z is right from a to b
 pub record Right (a b : ℕ) (z : ℤ) : Type 0 where
@@ -37,7 +35,7 @@ transforms_differ = 23
 
 -- a number, and the camera that it is about
 abbrev pub refused_by : ℕ → Camera → StereoAnswer
-refused_by n c = Refused n c
+refused_by n c = Err (n, c)
 
 -- "9 for an origin outside 0 to 500"
 unfoldable pub off_board : Square → Bool
@@ -68,11 +66,11 @@ both_found d e =
     (cond (off_board e.square) (refused_by why.bad_setting Second)
     (cond (found_bad d) (refused_by bad_figures First)
     (cond (found_bad e) (refused_by bad_figures Second)
-    (Between (shift_found d e))))))
+    (Ok (shift_found d e))))))
     (refused_by transforms_differ Pair)
 
 -- any two answers
 abbrev pub shift_between : Answer → Answer → StereoAnswer
-shift_between (answer.Refused r) b = refused_by view_refused First
-shift_between (answer.Found d) (answer.Refused r) = refused_by view_refused Second
-shift_between (answer.Found d) (answer.Found e) = both_found d e
+shift_between (Err r) b = refused_by view_refused First
+shift_between (Ok d) (Err r) = refused_by view_refused Second
+shift_between (Ok d) (Ok e) = both_found d e

@@ -1,5 +1,5 @@
 -- Each way in which two found answers end, by the tests that were made before it.
-use Rattle.std.specs.Prelude.{◌≡◌, Bool, true, false, cond, ℕ, ◌+◌, ◌-◌, ◌^◌, ◌≤◌, ◌<◌, ltb, leb, ℤ, pos, nat_abs, ◌-ℤ◌}
+use Rattle.std.specs.Prelude.{◌≡◌, Bool, true, false, cond, ℕ, ◌+◌, ◌-◌, ◌^◌, ◌≤◌, ◌<◌, ltb, leb, ℤ, pos, nat_abs, ◌-ℤ◌, Err, Ok}
 use Rattle.std.proofs.Math.Path.{sym, ap}
 use Rattle.std.proofs.Common.{ap₂, ◌∙◌, mod-lt, arith, lit<, eq-eqb, ne_eqb, lt-ltb, le-ltb, ltb-false}
 use Rattle.std.specs.Int.{w32}
@@ -10,13 +10,11 @@ use Rattle.refusals.specs.Numbers as why
 use Rattle.answer.specs.declared.Square.{Square}
 use Rattle.refusals.specs.declared.Refusal.{Refusal}
 use Rattle.answer.specs.declared.Decoded.{Decoded}
-use Rattle.answer.specs.declared.Answer.{Answer}
-use Rattle.answer.specs.declared.Answer.TheVariants as answer
+use Rattle.answer.specs.Answers.{Answer}
 use Rattle.answer_checks.specs.FoundBad.{found_bad, bad_figures}
 use Rattle.stereo.specs.declared.Shift.{Shift}
 use Rattle.stereo.specs.declared.Camera.TheVariants.{First, Second, Pair}
-use Rattle.stereo.specs.declared.StereoAnswer.{StereoAnswer}
-use Rattle.stereo.specs.declared.StereoAnswer.TheVariants.{Between}
+use Rattle.stereo.specs.Answers.{StereoAnswer}
 use Rattle.stereo.specs.Stereo.{ahead, shift_of, view_refused, transforms_differ, refused_by, off_board, OnBoard, shift_found, both_found, shift_between}
 
 -- a square that is not off the board is on it
@@ -74,18 +72,18 @@ module _ (d e : Decoded) where
           unfolding both_found
           ends-25-second g = sym (rw (eq-eqb d.square.transform e.square.transform s, a, b, f, g))
 
-          pub ends-shift : found_bad e ≡ false → (r : Shift) → r ≡ shift_found d e → Between r ≡ both_found d e
+          pub ends-shift : found_bad e ≡ false → (r : Shift) → r ≡ shift_found d e → Ok r ≡ both_found d e
           unfolding both_found
-          ends-shift g r h = ap Between h ∙ sym (rw (eq-eqb d.square.transform e.square.transform s, a, b, f, g))
+          ends-shift g r h = ap Ok h ∙ sym (rw (eq-eqb d.square.transform e.square.transform s, a, b, f, g))
 
 -- ---- any two answers
 module _ (a b : Answer) where
-  pub first-refused : (r : Refusal) → a ≡ answer.Refused r → refused_by view_refused First ≡ shift_between a b
+  pub first-refused : (r : Refusal) → a ≡ Err r → refused_by view_refused First ≡ shift_between a b
   first-refused r p = ap (λ (x : Answer). shift_between x b) (sym p)
 
-  module _ (d : Decoded) (p : a ≡ answer.Found d) where
-    pub second-refused : (r : Refusal) → b ≡ answer.Refused r → refused_by view_refused Second ≡ shift_between a b
+  module _ (d : Decoded) (p : a ≡ Ok d) where
+    pub second-refused : (r : Refusal) → b ≡ Err r → refused_by view_refused Second ≡ shift_between a b
     second-refused r q = ap₂ shift_between (sym p) (sym q)
 
-    pub both_told : (e : Decoded) → b ≡ answer.Found e → (r : StereoAnswer) → r ≡ both_found d e → r ≡ shift_between a b
+    pub both_told : (e : Decoded) → b ≡ Ok e → (r : StereoAnswer) → r ≡ both_found d e → r ≡ shift_between a b
     both_told e q r h = h ∙ ap₂ shift_between (sym p) (sym q)

@@ -1,6 +1,6 @@
 -- THE SHIFT IS RIGHT, and no other number is (`shift-right`, `shift-only`); swapping the cameras negates it (`shift-swapped`); along a chain of three shifts add up (`shift-chain`); hits and misses
 -- are the sums of both, and together both lists' edges (`totals`). Of two answers: `given`, `given-only`, `swapped`, `chain`.
-use Rattle.std.specs.Prelude.{◌≡◌, refl, Bool, true, false, ℕ, zero, suc, ◌+◌, ◌-◌, ◌*◌, ◌%◌, ◌≤◌, ◌<◌, eqb, ltb, ℤ, pos, negsuc, neg_ℤ, ◌+ℤ◌, ◌-ℤ◌}
+use Rattle.std.specs.Prelude.{◌≡◌, refl, Bool, true, false, ℕ, zero, suc, ◌+◌, ◌-◌, ◌*◌, ◌%◌, ◌≤◌, ◌<◌, eqb, ltb, ℤ, pos, negsuc, neg_ℤ, ◌+ℤ◌, ◌-ℤ◌, Err, Ok}
 use Rattle.std.proofs.Common.{sym, ap, ap₂, subst, ◌∙◌, ⊎_elim, mod-lt, arith, nltb→le, lit<, le-leb, le-ltb, eqb-true}
 use Rattle.std.proofs.Math.IntN.{+ℤ_assoc, +ℤ_comm, pos-+ℤ-pos}
 use Rattle.std.proofs.lemmas.Bool.{lt-leb, eqb-false}
@@ -9,14 +9,12 @@ use Rattle.laws.specs.Words.{emod}
 use Rattle.laws.specs.RemainderLaws.{emod-shift, is-sub}
 use Rattle.answer.specs.declared.Square.{Square}
 use Rattle.answer.specs.declared.Decoded.{Decoded}
-use Rattle.answer.specs.declared.Answer.{Answer}
-use Rattle.answer.specs.declared.Answer.TheVariants as answer
+use Rattle.answer.specs.Answers.{Answer}
 use Rattle.answer_checks.specs.FoundBad.{found_bad, FoundFits}
 use Rattle.answer_checks.specs.FoundBadLaws.{found-fits, fits-found}
 use Rattle.stereo.specs.declared.Camera.{Camera}
 use Rattle.stereo.specs.declared.Shift.{Shift}
-use Rattle.stereo.specs.declared.StereoAnswer.{StereoAnswer}
-use Rattle.stereo.specs.declared.StereoAnswer.TheVariants.{Between, Refused}
+use Rattle.stereo.specs.Answers.{StereoAnswer}
 use Rattle.stereo.specs.Stereo.{Right, ahead, shift_of, off_board, OnBoard, refused_by, shift_found, shift_between}
 use Rattle.stereo.specs.StereoLaws.{on-board, ends-23, ends-9-first, ends-9-second, ends-25-first, ends-25-second, ends-shift}
 
@@ -136,14 +134,14 @@ unfolding shift_found
 totals d e f g = (refl, refl, omega (arith, f.hits, g.hits))
 
 -- a refusal is no shift, and two shifts are told by what they hold
-refused-not : (n : ℕ) (c : Camera) (s : Shift) → refused_by n c ≡ Between s → ⊥
+refused-not : (n : ℕ) (c : Camera) (s : Shift) → refused_by n c ≡ Ok s → ⊥
 refused-not n c s e = subst told e tt
   where
     told : StereoAnswer → Type 0
-    told (Refused k d) = Unit {0}
-    told (Between r) = ⊥
+    told (Err (k, d)) = Unit {0}
+    told (Ok r) = ⊥
 
-between-once : {s t : Shift} → Between s ≡ Between t → s ≡ t
+between-once : {s t : Shift} → ◌≡◌ {A = StereoAnswer} (Ok s) (Ok t) → s ≡ t
 between-once {s} {t} e = cc
 
 board-on : (q : Square) → OnBoard q → off_board q ≡ false
@@ -178,38 +176,38 @@ leading d e f = record {
 }
 
 -- A SHIFT IS GIVEN EXACTLY for two answers that are found, under one transform, on the board and fit themselves; and it leads from the one to the other
-pub given : (d e : Decoded) → BothFit d e → (s : Shift) × (shift_between (answer.Found d) (answer.Found e) ≡ Between s) × Leads d e s
+pub given : (d e : Decoded) → BothFit d e → (s : Shift) × (shift_between (Ok d) (Ok e) ≡ Ok s) × Leads d e s
 given d e f =
     (shift_found d e, sym (ends-shift d e f.same (board-on d.square f.first_on) (board-on e.square f.second_on) (fits-found d f.first_fits) (fits-found e f.second_fits) (shift_found d e) refl), leading d e f)
 
 pub data Given : Answer → Answer → Shift → Type 0 where
-  between : (d e : Decoded) (s : Shift) → BothFit d e → Leads d e s → Given (answer.Found d) (answer.Found e) s
+  between : (d e : Decoded) (s : Shift) → BothFit d e → Leads d e s → Given (Ok d) (Ok e) s
 
-pub given-only : (a b : Answer) (s : Shift) → shift_between a b ≡ Between s → Given a b s
-given-only (answer.Refused r) b s e = absurd (refused-not _ _ s e)
-given-only (answer.Found d) (answer.Refused r) s e = absurd (refused-not _ _ s e)
-given-only (answer.Found d) (answer.Found g) s e = by-same (eqb d.square.transform g.square.transform) refl
+pub given-only : (a b : Answer) (s : Shift) → shift_between a b ≡ Ok s → Given a b s
+given-only (Err r) b s e = absurd (refused-not _ _ s e)
+given-only (Ok d) (Err r) s e = absurd (refused-not _ _ s e)
+given-only (Ok d) (Ok g) s e = by-same (eqb d.square.transform g.square.transform) refl
   where
-    by-second : d.square.transform ≡ g.square.transform → off_board d.square ≡ false → off_board g.square ≡ false → found_bad d ≡ false → (t : Bool) → found_bad g ≡ t → Given (answer.Found d) (answer.Found g) s
+    by-second : d.square.transform ≡ g.square.transform → off_board d.square ≡ false → off_board g.square ≡ false → found_bad d ≡ false → (t : Bool) → found_bad g ≡ t → Given (Ok d) (Ok g) s
     by-second p i j k true l = absurd (refused-not _ _ s (ends-25-second d g p i j k l ∙ e))
     by-second p i j k false l =
         let f : BothFit d g = record { same = p; first_on = on-board d.square i; second_on = on-board g.square j; first_fits = found-fits d k; second_fits = found-fits g l } in
         let q : shift_found d g ≡ s = between-once (ends-shift d g p i j k l (shift_found d g) refl ∙ e) in
         between d g s f (subst (Leads d g) q (leading d g f))
 
-    by_first : d.square.transform ≡ g.square.transform → off_board d.square ≡ false → off_board g.square ≡ false → (t : Bool) → found_bad d ≡ t → Given (answer.Found d) (answer.Found g) s
+    by_first : d.square.transform ≡ g.square.transform → off_board d.square ≡ false → off_board g.square ≡ false → (t : Bool) → found_bad d ≡ t → Given (Ok d) (Ok g) s
     by_first p i j true k = absurd (refused-not _ _ s (ends-25-first d g p i j k ∙ e))
     by_first p i j false k = by-second p i j k (found_bad g) refl
 
-    by-second-on : d.square.transform ≡ g.square.transform → off_board d.square ≡ false → (t : Bool) → off_board g.square ≡ t → Given (answer.Found d) (answer.Found g) s
+    by-second-on : d.square.transform ≡ g.square.transform → off_board d.square ≡ false → (t : Bool) → off_board g.square ≡ t → Given (Ok d) (Ok g) s
     by-second-on p i true j = absurd (refused-not _ _ s (ends-9-second d g p i j ∙ e))
     by-second-on p i false j = by_first p i j (found_bad d) refl
 
-    by-first-on : d.square.transform ≡ g.square.transform → (t : Bool) → off_board d.square ≡ t → Given (answer.Found d) (answer.Found g) s
+    by-first-on : d.square.transform ≡ g.square.transform → (t : Bool) → off_board d.square ≡ t → Given (Ok d) (Ok g) s
     by-first-on p true i = absurd (refused-not _ _ s (ends-9-first d g p i ∙ e))
     by-first-on p false i = by-second-on p i (off_board g.square) refl
 
-    by-same : (t : Bool) → eqb d.square.transform g.square.transform ≡ t → Given (answer.Found d) (answer.Found g) s
+    by-same : (t : Bool) → eqb d.square.transform g.square.transform ≡ t → Given (Ok d) (Ok g) s
     by-same true p = by-first-on (eqb-true d.square.transform g.square.transform p) (off_board d.square) refl
     by-same false p = absurd (refused-not _ _ s (ends-23 d g (eqb-false d.square.transform g.square.transform p) ∙ e))
 
@@ -220,13 +218,13 @@ pub record Negated (s t : Shift) : Type 0 where
   pub hits : t.hits ≡ s.hits
   pub misses : t.misses ≡ s.misses
 
-pub swapped : (a b : Answer) (s : Shift) → shift_between a b ≡ Between s → (t : Shift) × (shift_between b a ≡ Between t) × Negated s t
+pub swapped : (a b : Answer) (s : Shift) → shift_between a b ≡ Ok s → (t : Shift) × (shift_between b a ≡ Ok t) × Negated s t
 swapped a b s q = go a b (given-only a b s q)
   where
     negated : (a b : ℕ) (x y : ℤ) → a ≤ 500 → b ≤ 500 → Right a b x → Right b a y → y ≡ neg_ℤ x
     negated a b x y p q r u = shift-only b a y q p u ∙ shift-swapped a b p q ∙ ap neg_ℤ (sym (shift-only a b x p q r))
 
-    go : (a b : Answer) → Given a b s → (t : Shift) × (shift_between b a ≡ Between t) × Negated s t
+    go : (a b : Answer) → Given a b s → (t : Shift) × (shift_between b a ≡ Ok t) × Negated s t
     go a b (between d e r f l) =
         let g = given e d (record { same = sym f.same; first_on = f.second_on; second_on = f.first_on; first_fits = f.second_fits; second_fits = f.first_fits }) in
         let m = g.2 in (
@@ -245,14 +243,14 @@ pub record AddsUp (s t u : Shift) : Type 0 where
   pub rows : emod (s.rows +ℤ t.rows) 501 ≡ emod u.rows 501
   pub cols : emod (s.cols +ℤ t.cols) 501 ≡ emod u.cols 501
 
-pub chain : (a b c : Answer) (s t : Shift) → shift_between a b ≡ Between s → shift_between b c ≡ Between t → (u : Shift) × (shift_between a c ≡ Between u) × AddsUp s t u
+pub chain : (a b c : Answer) (s t : Shift) → shift_between a b ≡ Ok s → shift_between b c ≡ Ok t → (u : Shift) × (shift_between a c ≡ Ok u) × AddsUp s t u
 chain a b c s t p q = go a b c (given-only a b s p) (given-only b c t q)
   where
     sums : (a b c : ℕ) (x y z : ℤ) → a ≤ 500 → b ≤ 500 → c ≤ 500 → Right a b x → Right b c y → Right a c z → emod (x +ℤ y) 501 ≡ emod z 501
     sums a b c x y z i j k f g h =
         ap₂ (λ (u w : ℤ). emod (u +ℤ w) 501) (shift-only a b x i j f) (shift-only b c y j k g) ∙ shift-chain a b c i j k ∙ sym (ap (λ (u : ℤ). emod u 501) (shift-only a c z i k h))
 
-    go : (a b c : Answer) → Given a b s → Given b c t → (u : Shift) × (shift_between a c ≡ Between u) × AddsUp s t u
+    go : (a b c : Answer) → Given a b s → Given b c t → (u : Shift) × (shift_between a c ≡ Ok u) × AddsUp s t u
     go a b c (between d e r f l) (between k g v h m) =
         let w = given d g (record { same = f.same ∙ h.same; first_on = f.first_on; second_on = h.second_on; first_fits = f.first_fits; second_fits = h.second_fits }) in
         let n = w.2 in (

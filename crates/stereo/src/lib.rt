@@ -31,11 +31,7 @@ pub struct Shift {
 }
 
 // The shift, or a refusal: its number, and the camera that it is about.
-#[derive(Clone, Copy)]
-pub enum StereoAnswer {
-    Between(Shift),
-    Refused(u32, Camera),
-}
+pub type StereoAnswer = Result<Shift, (u32, Camera)>;
 
 // How many rows or columns b is beyond a, going forward round the board: 0 to 500.
 fn ahead(a: u32, b: u32) -> u32
@@ -92,22 +88,22 @@ fn both_found(d: Decoded, e: Decoded) -> StereoAnswer
     ensures { result ≡ both_found d e }
 {
     if d.square.transform != e.square.transform {
-        return StereoAnswer::Refused(TRANSFORMS_DIFFER, Camera::Pair);
+        return Err((TRANSFORMS_DIFFER, Camera::Pair));
     }
     if off_board(d.square) {
-        return StereoAnswer::Refused(refusals::BAD_SETTING, Camera::First);
+        return Err((refusals::BAD_SETTING, Camera::First));
     }
     if off_board(e.square) {
-        return StereoAnswer::Refused(refusals::BAD_SETTING, Camera::Second);
+        return Err((refusals::BAD_SETTING, Camera::Second));
     }
     if found_bad(d) {
-        return StereoAnswer::Refused(answer_checks::BAD_FIGURES, Camera::First);
+        return Err((answer_checks::BAD_FIGURES, Camera::First));
     }
     if found_bad(e) {
-        return StereoAnswer::Refused(answer_checks::BAD_FIGURES, Camera::Second);
+        return Err((answer_checks::BAD_FIGURES, Camera::Second));
     }
     let shift = shift_found(d, e);
-    StereoAnswer::Between(shift)
+    Ok(shift)
 }
 
 // The shift between two cameras by their hard answers, for all inputs: 22 where either is a refusal, naming the first camera where both are; else as above.
@@ -115,10 +111,10 @@ pub fn shift_between(first: Answer, second: Answer) -> StereoAnswer
     ensures { result ≡ shift_between first second }
 {
     match first {
-        Answer::Refused(_) => StereoAnswer::Refused(VIEW_REFUSED, Camera::First),
-        Answer::Found(d) => match second {
-            Answer::Refused(_) => StereoAnswer::Refused(VIEW_REFUSED, Camera::Second),
-            Answer::Found(e) => both_found(d, e),
+        Err(_) => Err((VIEW_REFUSED, Camera::First)),
+        Ok(d) => match second {
+            Err(_) => Err((VIEW_REFUSED, Camera::Second)),
+            Ok(e) => both_found(d, e),
         },
     }
 }

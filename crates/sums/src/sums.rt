@@ -1,12 +1,16 @@
 // The likelihood sums of one transform, in lent room: as the counts, with two rows of groups, match then mismatch, and no skipping of empty groups,
 // since adding 0 to a whole number changes nothing.
 ghost use Rattle.std.specs.Prelude.{◌≡◌, [], ◌<◌, ◌^◌, length, get_or, set, pos, nat_abs, ◌+ℤ◌};
-ghost use Rattle.board.specs.Hits.{edges, tables};
 ghost use Rattle.sums.specs.Sums.{likelihoods};
 ghost use Rattle.sums.specs.SumParts.{SumsFillReady, SumsFilled, RunReadyZ, RunCreditedZ, FamilyReadyZ, FamilyCreditedZ, SideReadyZ, SideBuiltZ};
 ghost use Rattle.sums.specs.SumsRoom.{SumsReady, SumsBuilt};
+ghost use Rattle.board.specs.Given.{board_of, edges_of};
+ghost use Rattle.likelihood.specs.Given.{likelihoods_of};
 
+use board::list::Edges;
+use board::pattern::Tables;
 use laws::Periods;
+use likelihood::Likelihoods;
 use room::Side;
 
 // Adds x to place k.
@@ -19,31 +23,27 @@ fn add_at(sums: &mut [i64], k: usize, x: i64)
 
 // Adds each edge's quantised likelihoods to its groups: the match to the row of groups from `base` on, the mismatch to the next row.
 fn fill_sums(
-    rows: &[i32],
-    cols: &[i32],
-    orientations: &[u8],
-    bits: &[u8],
-    matches: &[f32],
-    mismatches: &[f32],
+    edges: Edges,
+    likelihoods: Likelihoods,
     t: u8,
     periods: Periods,
     base: usize,
     sums: &mut [i64],
 )
-    requires { SumsFillReady periods.h periods.v (edges rows.now cols.now orientations.now bits.now []) (likelihoods matches.now mismatches.now) t base sums.old }
-    ensures { SumsFilled periods.h periods.v (edges rows.now cols.now orientations.now bits.now []) (likelihoods matches.now mismatches.now) t base (length rows.now) sums.old sums.new }
+    requires { SumsFillReady periods.h periods.v (edges_of edges) (likelihoods_of likelihoods) t base sums.old }
+    ensures { SumsFilled periods.h periods.v (edges_of edges.entry) (likelihoods_of likelihoods.entry) t base (length edges.entry.rows.now) sums.old sums.new }
 {
     let row = room::row_of_groups(periods);
     let matrix = lookup::matrix_of(t);
     let h = laws::modulus_of(periods.h as u32);
     let v = laws::modulus_of(periods.v as u32);
-    for i in 0..rows.len() {
-        let edge = board::edge::edge_at(rows, cols, orientations, bits, i);
+    for i in 0..edges.rows.len() {
+        let edge = edges.edge_at(i);
         let p = groups::groups::group_place(edge, t, matrix, h, v);
         let at = base + p as usize;
-        let m = likelihood::quantize_ll(matches[i]);
+        let m = likelihood::quantize_ll(likelihoods.matches[i]);
         add_at(sums, at, m);
-        let u = likelihood::quantize_ll(mismatches[i]);
+        let u = likelihood::quantize_ll(likelihoods.mismatches[i]);
         add_at(sums, at + row, u);
     }
 }
@@ -75,26 +75,19 @@ fn credit_sum_run(
 }
 
 // Folds one family of a side and credits it to the side's cells, in two runs, as `credit_family` does counts.
-fn credit_sum_held<'a>(
-    h: &'a [u8],
-    v: &'a [u8],
-    side: Side,
-    also: usize,
-    family: usize,
-    sums: &mut [i64],
-)
-    requires { FamilyReadyZ (tables h.now v.now) side also family sums.old }
-    ensures { FamilyCreditedZ (tables h.now v.now) side also family sums.old sums.new }
+fn credit_sum_held(tables: Tables, side: Side, also: usize, family: usize, sums: &mut [i64])
+    requires { FamilyReadyZ (board_of tables) side also family sums.old }
+    ensures { FamilyCreditedZ (board_of tables.entry) side also family sums.old sums.new }
 {
     let orientation = side.orientation;
     let stride = side.stride;
     let across = side.across;
     let cells = side.cells;
     let terms = sum_terms::fold_sums(sums, side.groups + family * 6, also + family * 6);
-    let part = board::pattern::patterns_from(h, v, orientation, family);
+    let part = tables.patterns_from(orientation, family);
     let n = part.len();
     credit_sum_run(sums, terms, part, n, cells, stride, across);
-    let whole = board::pattern::patterns_from(h, v, orientation, 0);
+    let whole = tables.patterns_from(orientation, 0);
     credit_sum_run(
         sums,
         terms,
@@ -107,71 +100,42 @@ fn credit_sum_held<'a>(
 }
 
 // Credits one family of a side. A family whose twelve sums are all 0 stores nothing.
-fn credit_sum_family<'a>(
-    h: &'a [u8],
-    v: &'a [u8],
-    side: Side,
-    also: usize,
-    family: usize,
-    sums: &mut [i64],
-)
-    requires { FamilyReadyZ (tables h.now v.now) side also family sums.old }
-    ensures { FamilyCreditedZ (tables h.now v.now) side also family sums.old sums.new }
+fn credit_sum_family(tables: Tables, side: Side, also: usize, family: usize, sums: &mut [i64])
+    requires { FamilyReadyZ (board_of tables) side also family sums.old }
+    ensures { FamilyCreditedZ (board_of tables.entry) side also family sums.old sums.new }
 {
     if sum_terms::some_sum(sums, side.groups + family * 6, also + family * 6) {
-        credit_sum_held(h, v, side, also, family, sums);
+        credit_sum_held(tables, side, also, family, sums);
     }
 }
 
 // Adds all families of one side to its cells. The cells were cleared, and the groups stand.
-fn build_sum_side<'a>(h: &'a [u8], v: &'a [u8], side: Side, also: usize, sums: &mut [i64])
-    requires { SideReadyZ (tables h.now v.now) side also sums.old }
-    ensures { SideBuiltZ (tables h.now v.now) side also sums.old sums.new }
+fn build_sum_side(tables: Tables, side: Side, also: usize, sums: &mut [i64])
+    requires { SideReadyZ (board_of tables) side also sums.old }
+    ensures { SideBuiltZ (board_of tables.entry) side also sums.old sums.new }
 {
-    let period = board::pattern::patterns_from(h, v, side.orientation, 0).len();
+    let period = tables.patterns_from(side.orientation, 0).len();
     for family in 0..period {
-        credit_sum_family(h, v, side, also, family, sums);
+        credit_sum_family(tables, side, also, family, sums);
     }
 }
 
 // The likelihood sums of one transform: the used room is cleared, the groups are filled, then the horizontal cells are built, then the vertical ones.
 // A hit and a miss add their likelihoods, whatever the confidences: the list is taken without them.
-pub fn build_sums<'a>(
-    rows: &[i32],
-    cols: &[i32],
-    orientations: &[u8],
-    bits: &[u8],
-    matches: &[f32],
-    mismatches: &[f32],
-    t: u8,
-    h: &'a [u8],
-    v: &'a [u8],
-    sums: &mut [i64],
-)
-    requires { SumsReady (tables h.now v.now) (edges rows.now cols.now orientations.now bits.now []) (likelihoods matches.now mismatches.now) t sums.old }
-    ensures { SumsBuilt (tables h.now v.now) (edges rows.now cols.now orientations.now bits.now []) (likelihoods matches.now mismatches.now) t sums.old sums.new }
+pub fn build_sums(edges: Edges, likelihoods: Likelihoods, t: u8, tables: Tables, sums: &mut [i64])
+    requires { SumsReady (board_of tables) (edges_of edges) (likelihoods_of likelihoods) t sums.old }
+    ensures { SumsBuilt (board_of tables.entry) (edges_of edges.entry) (likelihoods_of likelihoods.entry) t sums.old sums.new }
 {
     let periods = Periods {
-        h: h.len(),
-        v: v.len(),
+        h: tables.h.len(),
+        v: tables.v.len(),
     };
     let end = room::used_by_sums(periods);
-    clearing::clear_i64(sums, end);
+    clearing::clear(sums, end);
     let horizontal = room::horizontal(periods);
-    fill_sums(
-        rows,
-        cols,
-        orientations,
-        bits,
-        matches,
-        mismatches,
-        t,
-        periods,
-        horizontal.groups,
-        sums,
-    );
+    fill_sums(edges, likelihoods, t, periods, horizontal.groups, sums);
     let row = room::row_of_groups(periods);
-    build_sum_side(h, v, horizontal, horizontal.groups + row, sums);
+    build_sum_side(tables, horizontal, horizontal.groups + row, sums);
     let vertical = room::vertical(periods);
-    build_sum_side(h, v, vertical, vertical.groups + row, sums);
+    build_sum_side(tables, vertical, vertical.groups + row, sums);
 }

@@ -1,3 +1,4 @@
 pub mod Tally
 pub mod TallyLaws
 pub mod Counted
+pub mod Answers

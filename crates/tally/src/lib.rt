@@ -25,18 +25,10 @@ pub struct Tally {
 }
 
 // What an edit answers: the new record, or a refusal.
-#[derive(Clone, Copy)]
-pub enum TallyAnswer {
-    Kept(Tally),
-    Refused(Refusal),
-}
+pub type TallyAnswer = Result<Tally, Refusal>;
 
 // How an edit was judged: refused, or taken, with whether its edge is a hit.
-#[derive(Clone, Copy)]
-pub enum Judged {
-    Refused(Refusal),
-    Taken(bool),
-}
+pub type Judged = Result<bool, Refusal>;
 
 // Whether an edge, by its listed orientation and whether it is a hit, belongs to the hits (wanted) or misses of one side.
 fn belongs(orientation: u8, hit: bool, side: u8, wanted: bool) -> bool

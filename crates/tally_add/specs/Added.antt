@@ -3,7 +3,7 @@ use Rattle.std.specs.Prelude.{ℕ, set, Float}
 use Rattle.board.specs.declared.edge.Edge.{Edge}
 use Rattle.board.specs.Hits.{EdgeList, Board, edges}
 use Rattle.tally.specs.declared.Tally.{Tally}
-use Rattle.tally.specs.declared.TallyAnswer.{TallyAnswer}
+use Rattle.tally.specs.Answers.{TallyAnswer}
 use Rattle.tally.specs.Tally.{with_edge}
 use Rattle.tally_checks.specs.Judged.{judged_add}
 use Rattle.tally_checks.specs.Edited.{Done}

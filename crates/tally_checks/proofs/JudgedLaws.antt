@@ -1,26 +1,22 @@
 -- The steps of the judgement, each by the case that was told; match statistics of an edge alone; and what is known of an edit that was taken.
 use Rattle.std.proofs.Math.Path.{◌≡◌, sym, ap}
-use Rattle.std.specs.Prelude.{refl, Bool, true, not, ◌||◌, cond, [], ◌∷◌, ℕ, zero, suc, ◌+◌, ◌≤◌, ◌<◌, ltb, leb, get_or, length, pos}
+use Rattle.std.specs.Prelude.{refl, Bool, true, not, ◌||◌, cond, [], ◌∷◌, ℕ, zero, suc, ◌+◌, ◌≤◌, ◌<◌, ltb, leb, get_or, length, pos, Err, None, Ok, Option, Some}
 use Rattle.std.proofs.Common.{◌∙◌, arith, lt-ltb, le-ltb, eq-eqb, ne_eqb, ltb-true, ltb-false, eqb-true, leb-false}
 use Rattle.std.proofs.Math.Bool.{false}
 use Rattle.std.proofs.Math.Dec.{eqb}
 use lib.Ieee.{Float, nan}
 use Rattle.std.proofs.lemmas.Bool.{not-false}
-use Rattle.refusals.specs.declared.Place.{Place}
-use Rattle.refusals.specs.declared.Place.TheVariants.{Nowhere, At}
 use Rattle.refusals.specs.declared.EdgePlace.{EdgePlace}
 use Rattle.laws.specs.Words.{put, fold, first, first_from, one_f, zero_f}
 use Rattle.laws.specs.Tests.{or-false, and-true, clash}
 use Rattle.answer.specs.declared.Square.{Square}
 use Rattle.answer.specs.declared.MatchStats.{MatchStats}
-use Rattle.answer.specs.declared.StatsAnswer.{StatsAnswer}
-use Rattle.answer.specs.declared.StatsAnswer.TheVariants as stats
+use Rattle.answer.specs.Answers.{StatsAnswer}
 use Rattle.board.specs.declared.edge.Edge.{Edge}
 use Rattle.board.specs.Hits.{EdgeList, Board, size, edge_at, edge_hit, hit, hits}
 use Rattle.board.proofs.HitsLaws.{hit-edge}
 use Rattle.refusals.specs.declared.Refusal.{Refusal}
-use Rattle.refusals.specs.declared.Admission.{Admission}
-use Rattle.refusals.specs.declared.Admission.TheVariants.{Accepted, Refused}
+use Rattle.refusals.specs.Admission.{Admission, accepted}
 use Rattle.refusals.specs.declared.ListName.TheVariants as list
 use Rattle.refusals.specs.Numbers.{numbered, edge_refusal}
 use Rattle.refusals.specs.Numbers as why
@@ -31,8 +27,7 @@ use Rattle.findings.specs.FindingsLaws.{no-refusal, both-accepted, if-accepted, 
 use Rattle.admission.specs.Refusals.{tables_bad, stats_admission}
 use Rattle.stats.specs.Stats.{stats_of, stats_answer, or_counted}
 use Rattle.tally.specs.declared.Tally.{Tally}
-use Rattle.tally.specs.declared.Judged.{Judged}
-use Rattle.tally.specs.declared.Judged.TheVariants as judged
+use Rattle.tally.specs.Answers.{Judged}
 use Rattle.tally.specs.Tally.{Adds, count_of}
 use Rattle.tally.specs.Tally as tally
 use Rattle.tally.specs.Counted.{listed_as, hit_at}
@@ -41,23 +36,23 @@ use Rattle.tally_checks.specs.Judged.{record_bad, record_found, full, refused_th
 -- ---- one edge alone
 -- what is found in it, at the edge's own position
 unfoldable pub moved_all : ℕ → Admission → Admission
-moved_all position Accepted = Accepted
-moved_all position (Refused r) = Refused (moved position r)
+moved_all position (Ok _) = accepted
+moved_all position (Err r) = Err (moved position r)
 
 -- what match statistics find in the list with one edge alone, by the four tests of the edge and the three of the placing
 found-alone : (position : ℕ) (a b c d x y z : Bool)
     → moved_all position (first_found (joined (record {
-      room = Accepted;
-      lengths = Accepted;
-      size = Accepted;
+      room = accepted;
+      lengths = accepted;
+      size = accepted;
       coordinate = refused_at why.bad_coordinate list.Only (cond a 0 1) 1;
       orientation = refused_at why.bad_orientation list.Only (cond b 0 1) 1;
       bit = refused_at why.bad_bit list.Only (cond c 0 1) 1;
       confidence = refused_at why.bad_confidence list.Only (cond d 0 1) 1;
-      likelihood = Accepted;
-      transform = Accepted;
-      table = Accepted;
-      setting = Accepted;
+      likelihood = accepted;
+      transform = accepted;
+      table = accepted;
+      setting = accepted;
     }) (settings_findings x y z)))
     ≡ or_else (first_of (refused_there why.bad_coordinate position a ∷ refused_there why.bad_orientation position b ∷ refused_there why.bad_bit position c ∷ refused_there why.bad_confidence position d ∷ [])) (first_found (settings_findings x y z))
 unfolding first_found first_of or_else settings_findings moved_to moved_all
@@ -87,32 +82,32 @@ module _ (e : Edge) (w : Float) (position : ℕ) (q : Square) (B : Board) where
 
   -- ---- the two ends of `judge_edge`
   module _ (s : StatsAnswer) (given : s ≡ stats_answer (alone e w) q.transform q.row q.col B) where
-    edge-refused : (r : Refusal) (a : Admission) (m : MatchStats) → stats.Refused r ≡ or_counted a m → Refused (moved position r) ≡ moved_all position a
+    edge-refused : (r : Refusal) (a : Admission) (m : MatchStats) → Err r ≡ or_counted a m → Err (moved position r) ≡ moved_all position a
     unfolding moved_all
-    edge-refused r Accepted m h = let z : ◌≡◌ {A = ℕ} 0 1 = cc in absurd (omega arith)
-    edge-refused r (Refused x) m h = let k : r ≡ x = cc in ap (λ (y : Refusal). Refused (moved position y)) k
+    edge-refused r (Ok _) m h = let z : ◌≡◌ {A = ℕ} 0 1 = cc in absurd (omega arith)
+    edge-refused r (Err x) m h = let k : r ≡ x = cc in ap (λ (y : Refusal). Err (moved position y)) k
 
-    pub judged-refused : (r x : Refusal) → s ≡ stats.Refused r → x ≡ moved position r → judged.Refused x ≡ judged_edge e w position q B
+    pub judged-refused : (r x : Refusal) → s ≡ Err r → x ≡ moved position r → Err x ≡ judged_edge e w position q B
     unfolding judged_edge taken stats_answer
     judged-refused r x h k =
-        ap judged.Refused k
+        ap Err k
         ∙ ap (λ (a : Admission). taken a (edge_hit B e q)) (edge-refused r (stats_admission (alone e w) q.transform q.row q.col B) (stats_of (alone e w) q.transform q.row q.col B) (sym h ∙ given) ∙ alone-found)
 
-    edge-accepted : (m : MatchStats) (a : Admission) (n : MatchStats) → stats.Counted m ≡ or_counted a n → (moved_all position a ≡ Accepted) × (m ≡ n)
+    edge-accepted : (m : MatchStats) (a : Admission) (n : MatchStats) → Ok m ≡ or_counted a n → (moved_all position a ≡ accepted) × (m ≡ n)
     unfolding moved_all
-    edge-accepted m Accepted n h = (refl, cc)
-    edge-accepted m (Refused x) n h = let z : ◌≡◌ {A = ℕ} 0 1 = cc in absurd (omega arith)
+    edge-accepted m (Ok _) n h = (refl, cc)
+    edge-accepted m (Err x) n h = let z : ◌≡◌ {A = ℕ} 0 1 = cc in absurd (omega arith)
 
-    pub judged-counted : (m : MatchStats) → s ≡ stats.Counted m → judged.Taken (eqb m.hits 1) ≡ judged_edge e w position q B
+    pub judged-counted : (m : MatchStats) → s ≡ Ok m → Ok (eqb m.hits 1) ≡ judged_edge e w position q B
     unfolding judged_edge taken stats_answer stats_of
     judged-counted m h =
         let k = edge-accepted m (stats_admission (alone e w) q.transform q.row q.col B) (stats_of (alone e w) q.transform q.row q.col B) (sym h ∙ given) in
-        ap judged.Taken (ap (λ (x : MatchStats). eqb x.hits 1) k.1 ∙ alone-hit)
+        ap Ok (ap (λ (x : MatchStats). eqb x.hits 1) k.1 ∙ alone-hit)
         ∙ ap (λ (a : Admission). taken a (edge_hit B e q)) (sym k.0 ∙ alone-found)
 
 -- ---- the record
 module _ (E : EdgeList) (T : Tally) where
-  pub record-lengths : lengths_differ E ≡ true → Refused (numbered why.lengths_differ) ≡ record_found E T
+  pub record-lengths : lengths_differ E ≡ true → Err (numbered why.lengths_differ) ≡ record_found E T
   unfolding record_found or_else
   record-lengths h = sym (rw h)
 
@@ -129,7 +124,7 @@ pub record RecordOk (E : EdgeList) (T : Tally) : Type 0 where
   pub few : T.edges ≤ size E
   pub adds : Adds T
 
-pub record-ok : (E : EdgeList) (T : Tally) → record_found E T ≡ Accepted → RecordOk E T
+pub record-ok : (E : EdgeList) (T : Tally) → record_found E T ≡ accepted → RecordOk E T
 unfolding record_found lengths_differ record_bad
 record-ok E T h =
     let k = both-accepted (refused_if (lengths_differ E) why.lengths_differ) _ h in
@@ -148,69 +143,69 @@ record-ok E T h =
     }
 
 -- ---- a refusal moved
-module _ (position number : ℕ) (place : Place) where
-  pub moved_nowhere : place ≡ Nowhere → numbered number ≡ moved_to position number place
+module _ (position number : ℕ) (place : (Option EdgePlace)) where
+  pub moved_nowhere : place ≡ None → numbered number ≡ moved_to position number place
   unfolding moved_to
   moved_nowhere h = sym (rw h)
 
-  pub moved_at : (p : EdgePlace) → place ≡ At p → edge_refusal number list.Only position ≡ moved_to position number place
+  pub moved_at : (p : EdgePlace) → place ≡ Some p → edge_refusal number list.Only position ≡ moved_to position number place
   unfolding moved_to
   moved_at p h = sym (rw h)
 
 -- ---- what a judgement tells
-taken_refused : (a : Admission) (h : Bool) (r : Refusal) → judged.Refused r ≡ taken a h → a ≡ Refused r
+taken_refused : (a : Admission) (h : Bool) (r : Refusal) → Err r ≡ taken a h → a ≡ Err r
 unfolding taken
-taken_refused Accepted h r e = let z : ◌≡◌ {A = ℕ} 0 1 = cc in absurd (omega arith)
-taken_refused (Refused x) h r e = let k : r ≡ x = cc in ap Refused (sym k)
+taken_refused (Ok _) h r e = let z : ◌≡◌ {A = ℕ} 0 1 = cc in absurd (omega arith)
+taken_refused (Err x) h r e = let k : r ≡ x = cc in ap Err (sym k)
 
-pub taken-taken : (a : Admission) (h b : Bool) → judged.Taken b ≡ taken a h → (a ≡ Accepted) × (b ≡ h)
+pub taken-taken : (a : Admission) (h b : Bool) → Ok b ≡ taken a h → (a ≡ accepted) × (b ≡ h)
 unfolding taken
-taken-taken Accepted h b e = (refl, cc)
-taken-taken (Refused x) h b e = let z : ◌≡◌ {A = ℕ} 0 1 = cc in absurd (omega arith)
+taken-taken (Ok _) h b e = (refl, cc)
+taken-taken (Err x) h b e = let z : ◌≡◌ {A = ℕ} 0 1 = cc in absurd (omega arith)
 
 -- an edge with nothing wrong
 abbrev pub good : Edge
 good = record { row = pos 0; col = pos 0; orientation = 0; bit = 0 }
 
-good-found : (position : ℕ) → edge_found good zero_f position ≡ Accepted
+good-found : (position : ℕ) → edge_found good zero_f position ≡ accepted
 unfolding edge_found first_of or_else far in_range lib.Ieee.le
 good-found position = refl
 
 -- the first of two decides where it refuses, and else the second
-first-refused : (a b : Admission) (h : Bool) (r : Refusal) → a ≡ Refused r → judged.Refused r ≡ taken (or_else a b) h
+first-refused : (a b : Admission) (h : Bool) (r : Refusal) → a ≡ Err r → Err r ≡ taken (or_else a b) h
 unfolding taken or_else
 first-refused a b h r e = sym (rw e)
 
-then-rest : (a b : Admission) (h : Bool) → a ≡ Accepted → taken b h ≡ taken (or_else a b) h
+then-rest : (a b : Admission) (h : Bool) → a ≡ accepted → taken b h ≡ taken (or_else a b) h
 unfolding or_else
 then-rest a b h e = sym (rw e)
 
-if-so : (b : Bool) (n : ℕ) (h : Bool) → b ≡ true → judged.Refused (numbered n) ≡ taken (refused_if b n) h
+if-so : (b : Bool) (n : ℕ) (h : Bool) → b ≡ true → Err (numbered n) ≡ taken (refused_if b n) h
 unfolding taken
 if-so b n h e = sym (rw e)
 
-if-not : (b : Bool) (n : ℕ) (h : Bool) → b ≡ false → judged.Taken h ≡ taken (refused_if b n) h
+if-not : (b : Bool) (n : ℕ) (h : Bool) → b ≡ false → Ok h ≡ taken (refused_if b n) h
 unfolding taken
 if-not b n h e = sym (rw e)
 
 -- what is refused in any case is no hit or miss
-never : (a : Admission) (r : Refusal) (h k : Bool) → taken (or_else a (Refused r)) h ≡ taken (or_else a (Refused r)) k
+never : (a : Admission) (r : Refusal) (h k : Bool) → taken (or_else a (Err r)) h ≡ taken (or_else a (Err r)) k
 unfolding taken or_else
-never Accepted r h k = refl
-never (Refused x) r h k = refl
+never (Ok _) r h k = refl
+never (Err x) r h k = refl
 
 -- ---- no edge at the position
 module _ (position : ℕ) (q : Square) (B : Board) (j : Judged) (given : j ≡ judged_edge good zero_f position q B) where
   told-good : placing_found q B ≡ or_else (edge_found good zero_f position) (placing_found q B)
   told-good = else-accepted (edge_found good zero_f position) (placing_found q B) (good-found position)
 
-  pub missing-refused : (r : Refusal) → j ≡ judged.Refused r → judged.Refused r ≡ judged_missing q B
+  pub missing-refused : (r : Refusal) → j ≡ Err r → Err r ≡ judged_missing q B
   unfolding judged_edge judged_missing found_missing
   missing-refused r h = first-refused (placing_found q B) _ false r (told-good ∙ taken_refused (or_else (edge_found good zero_f position) (placing_found q B)) (edge_hit B good q) r (sym h ∙ given))
 
-  pub missing-taken : (b : Bool) → j ≡ judged.Taken b → judged.Refused (numbered tally.no_such_edge) ≡ judged_missing q B
+  pub missing-taken : (b : Bool) → j ≡ Ok b → Err (numbered tally.no_such_edge) ≡ judged_missing q B
   unfolding judged_edge judged_missing found_missing taken
-  missing-taken b h = then-rest (placing_found q B) (Refused (numbered tally.no_such_edge)) false (told-good ∙ (taken-taken (or_else (edge_found good zero_f position) (placing_found q B)) (edge_hit B good q) b (sym h ∙ given)).0)
+  missing-taken b h = then-rest (placing_found q B) (Err (numbered tally.no_such_edge)) false (told-good ∙ (taken-taken (or_else (edge_found good zero_f position) (placing_found q B)) (edge_hit B good q) b (sym h ∙ given)).0)
 
 -- ---- the edge at the position
 module _ (e : Edge) (w : Float) (position : ℕ) (T : Tally) (B : Board) (j : Judged) (given : j ≡ judged_edge e w position T.square B) where
@@ -220,40 +215,40 @@ module _ (e : Edge) (w : Float) (position : ℕ) (T : Tally) (B : Board) (j : Ju
   abbrev at : Bool
   at = edge_hit B e T.square
 
-  pub there-refused : (r : Refusal) → j ≡ judged.Refused r → judged.Refused r ≡ judged_there e w position T B
+  pub there-refused : (r : Refusal) → j ≡ Err r → Err r ≡ judged_there e w position T B
   unfolding judged_edge judged_there found_there
   there-refused r h = first-refused both _ at r (taken_refused both at r (sym h ∙ given))
 
-  module _ (b : Bool) (h : j ≡ judged.Taken b) where
-    told : (both ≡ Accepted) × (b ≡ at)
+  module _ (b : Bool) (h : j ≡ Ok b) where
+    told : (both ≡ accepted) × (b ≡ at)
     unfolding judged_edge
     told = taken-taken both at b (sym h ∙ given)
 
-    pub there-none : (n : ℕ) → n ≡ count_of T e.orientation b → n ≡ 0 → judged.Refused (numbered tally.bad_record) ≡ judged_there e w position T B
+    pub there-none : (n : ℕ) → n ≡ count_of T e.orientation b → n ≡ 0 → Err (numbered tally.bad_record) ≡ judged_there e w position T B
     unfolding judged_there found_there
     there-none n k z =
         if-so (eqb (count_of T e.orientation at) 0) tally.bad_record at (eq-eqb _ _ (ap (count_of T e.orientation) (sym told.1) ∙ sym k ∙ z))
         ∙ then-rest both (refused_if (eqb (count_of T e.orientation at) 0) tally.bad_record) at told.0
 
-    pub there-taken : (n : ℕ) → n ≡ count_of T e.orientation b → (n ≡ 0 → ⊥) → judged.Taken b ≡ judged_there e w position T B
+    pub there-taken : (n : ℕ) → n ≡ count_of T e.orientation b → (n ≡ 0 → ⊥) → Ok b ≡ judged_there e w position T B
     unfolding judged_there found_there
     there-taken n k z =
-        ap judged.Taken told.1
+        ap Ok told.1
         ∙ if-not (eqb (count_of T e.orientation at) 0) tally.bad_record at (ne_eqb _ _ (λ x. z (k ∙ ap (count_of T e.orientation) told.1 ∙ x)))
         ∙ then-rest both (refused_if (eqb (count_of T e.orientation at) 0) tally.bad_record) at told.0
 
 -- ---- an edge to be added
 module _ (E : EdgeList) (T : Tally) (e : Edge) (w : Float) (B : Board) (a : Admission) (given : a ≡ record_found E T) where
-  pub add-record : (r : Refusal) → a ≡ Refused r → judged.Refused r ≡ judged_add E T e w B
+  pub add-record : (r : Refusal) → a ≡ Err r → Err r ≡ judged_add E T e w B
   unfolding judged_add add_found
   add-record r h = first-refused (record_found E T) _ (edge_hit B e T.square) r (sym given ∙ h)
 
-  module _ (h : a ≡ Accepted) where
+  module _ (h : a ≡ accepted) where
     rest : taken (or_else (refused_if (full (size E) T.edges) why.list_size) (or_else (edge_found e w T.edges) (placing_found T.square B))) (edge_hit B e T.square) ≡ judged_add E T e w B
     unfolding judged_add add_found
     rest = then-rest (record_found E T) _ (edge_hit B e T.square) (sym given ∙ h)
 
-    pub add-full : full (size E) T.edges ≡ true → judged.Refused (numbered why.list_size) ≡ judged_add E T e w B
+    pub add-full : full (size E) T.edges ≡ true → Err (numbered why.list_size) ≡ judged_add E T e w B
     add-full f = first-refused (refused_if (full (size E) T.edges) why.list_size) _ (edge_hit B e T.square) _ (rw f) ∙ rest
 
     pub add-edge : full (size E) T.edges ≡ false → judged_edge e w T.edges T.square B ≡ judged_add E T e w B
@@ -265,11 +260,11 @@ module _ (E : EdgeList) (T : Tally) (position : ℕ) (B : Board) (a : Admission)
   abbrev here : Bool
   here = hit_at B E T.square position
 
-  pub named-record : (r : Refusal) → a ≡ Refused r → judged.Refused r ≡ judged_named E T position B
+  pub named-record : (r : Refusal) → a ≡ Err r → Err r ≡ judged_named E T position B
   unfolding judged_named named_found
   named-record r h = first-refused (record_found E T) _ here r (sym given ∙ h)
 
-  module _ (h : a ≡ Accepted) where
+  module _ (h : a ≡ accepted) where
     pub named-missing : T.edges ≤ position → judged_missing T.square B ≡ judged_named E T position B
     unfolding judged_named named_found judged_missing found_missing
     named-missing l =
@@ -285,7 +280,7 @@ module _ (E : EdgeList) (T : Tally) (position : ℕ) (B : Board) (a : Admission)
         ∙ then-rest (record_found E T) _ here (sym given ∙ h)
 
 -- ---- what is known of an edit that was taken
-pub add_ok : (E : EdgeList) (T : Tally) (e : Edge) (w : Float) (B : Board) → add_found E T e w B ≡ Accepted → RecordOk E T × ((T.edges < size E) × (T.edges < 8192))
+pub add_ok : (E : EdgeList) (T : Tally) (e : Edge) (w : Float) (B : Board) → add_found E T e w B ≡ accepted → RecordOk E T × ((T.edges < size E) × (T.edges < 8192))
 unfolding add_found full
 add_ok E T e w B h =
     let k = both-accepted (record_found E T) _ h in
@@ -293,12 +288,12 @@ add_ok E T e w B h =
     let f = or-false (leb (size E) T.edges) (leb 8192 T.edges) (if-accepted (full (size E) T.edges) why.list_size m.0) in
     (record-ok E T k.0, (leb-false _ _ f.0, leb-false _ _ f.1))
 
-there-accepted : (number position : ℕ) (bad : Bool) → refused_there number position bad ≡ Accepted → bad ≡ false
+there-accepted : (number position : ℕ) (bad : Bool) → refused_there number position bad ≡ accepted → bad ≡ false
 there-accepted number position true h = no-refusal _ (sym h)
 there-accepted number position false h = refl
 
 -- the orientation and the bit of an edge with nothing wrong
-pub edge-fields : (e : Edge) (w : Float) (position : ℕ) → edge_found e w position ≡ Accepted → (e.orientation < 2) × (e.bit < 2)
+pub edge-fields : (e : Edge) (w : Float) (position : ℕ) → edge_found e w position ≡ accepted → (e.orientation < 2) × (e.bit < 2)
 unfolding edge_found first_of
 edge-fields e w position h =
     let a = both-accepted (refused_there why.bad_coordinate position (far e.row || far e.col)) _ h in
@@ -319,11 +314,11 @@ not-zero : (n : ℕ) → eqb n 0 ≡ false → 0 < n
 not-zero zero h = clash refl h
 not-zero (suc n) h = omega arith
 
-pub named_ok : (E : EdgeList) (T : Tally) (position : ℕ) (B : Board) → named_found E T position B ≡ Accepted → NamedOk E T position B
+pub named_ok : (E : EdgeList) (T : Tally) (position : ℕ) (B : Board) → named_found E T position B ≡ accepted → NamedOk E T position B
 unfolding named_found found_there found_missing
 named_ok E T position B h = go (ltb position T.edges) refl (both-accepted (record_found E T) _ h)
   where
-    go : (b : Bool) → ltb position T.edges ≡ b → (record_found E T ≡ Accepted) × (cond b (found_there (edge_at E position) (confidence_at E position) position T B) (found_missing T.square B) ≡ Accepted) → NamedOk E T position B
+    go : (b : Bool) → ltb position T.edges ≡ b → (record_found E T ≡ accepted) × (cond b (found_there (edge_at E position) (confidence_at E position) position T B) (found_missing T.square B) ≡ accepted) → NamedOk E T position B
     go false e k = no-refusal _ (sym (both-accepted (placing_found T.square B) _ k.1).1)
     go true e k =
         let m = both-accepted (or_else (edge_found (edge_at E position) (confidence_at E position) position) (placing_found T.square B)) _ k.1 in
@@ -333,11 +328,11 @@ named_ok E T position B h = go (ltb position T.edges) refl (both-accepted (recor
         record { kept = record-ok E T k.0; exists = ltb-true _ _ e; orientation = f.0; bit = f.1; some = omega (arith, z, y) }
 
 -- by their judgements
-pub add-taken-ok : (E : EdgeList) (T : Tally) (e : Edge) (w : Float) (B : Board) (b : Bool) → judged.Taken b ≡ judged_add E T e w B → RecordOk E T × ((T.edges < size E) × (T.edges < 8192))
+pub add-taken-ok : (E : EdgeList) (T : Tally) (e : Edge) (w : Float) (B : Board) (b : Bool) → Ok b ≡ judged_add E T e w B → RecordOk E T × ((T.edges < size E) × (T.edges < 8192))
 unfolding judged_add
 add-taken-ok E T e w B b h = add_ok E T e w B (taken-taken (add_found E T e w B) (edge_hit B e T.square) b h).0
 
-pub named-taken-ok : (E : EdgeList) (T : Tally) (position : ℕ) (B : Board) (b : Bool) → judged.Taken b ≡ judged_named E T position B → NamedOk E T position B × (b ≡ hit_at B E T.square position)
+pub named-taken-ok : (E : EdgeList) (T : Tally) (position : ℕ) (B : Board) (b : Bool) → Ok b ≡ judged_named E T position B → NamedOk E T position B × (b ≡ hit_at B E T.square position)
 unfolding judged_named
 named-taken-ok E T position B b h =
     let k = taken-taken (named_found E T position B) (hit_at B E T.square position) b h in

@@ -1,24 +1,22 @@
 -- What an edit leaves: "A refused edit changes neither list nor record."
-use Rattle.std.specs.Prelude.{◌≡◌, Bool}
+use Rattle.std.specs.Prelude.{◌≡◌, Bool, Err, Ok}
 use Rattle.std.proofs.Common.{sym, ◌∙◌}
 use Rattle.std.proofs.Math.Path.{ap}
 use Rattle.board.specs.Hits.{EdgeList}
 use Rattle.refusals.specs.declared.Refusal.{Refusal}
 use Rattle.tally.specs.declared.Tally.{Tally}
-use Rattle.tally.specs.declared.Judged.{Judged}
-use Rattle.tally.specs.declared.Judged.TheVariants as judged
-use Rattle.tally.specs.declared.TallyAnswer.{TallyAnswer}
-use Rattle.tally.specs.declared.TallyAnswer.TheVariants.{Kept, Refused}
+use Rattle.tally.specs.Answers.{Judged}
+use Rattle.tally.specs.Answers.{TallyAnswer}
 
 -- the answer: the refusal, or the record that whether the edge is a hit makes
 unfoldable pub answered : Judged → (Bool → Tally) → TallyAnswer
-answered (judged.Refused r) f = Refused r
-answered (judged.Taken hit) f = Kept (f hit)
+answered (Err r) f = Err r
+answered (Ok hit) f = Ok (f hit)
 
 -- the list: as it was, or edited
 unfoldable pub listed : Judged → EdgeList → EdgeList → EdgeList
-listed (judged.Refused r) E E' = E
-listed (judged.Taken hit) E E' = E'
+listed (Err r) E E' = E
+listed (Ok hit) E E' = E'
 
 -- WHAT AN EDIT PROMISES for all inputs, by its judgement j: its answer a, and all of the list L that it leaves
 pub record Done (j : Judged) (f : Bool → Tally) (E E' : EdgeList) (a : TallyAnswer) (L : EdgeList) : Type 0 where
@@ -26,13 +24,13 @@ pub record Done (j : Judged) (f : Bool → Tally) (E E' : EdgeList) (a : TallyAn
   pub list : L ≡ listed j E E'
 
 module _ (f : Bool → Tally) (E E' : EdgeList) (j i : Judged) (given : i ≡ j) where
-  pub edit-refused : (r : Refusal) → i ≡ judged.Refused r → Done j f E E' (Refused r) E
+  pub edit-refused : (r : Refusal) → i ≡ Err r → Done j f E E' (Err r) E
   unfolding answered listed
   edit-refused r h = record { answer = ap (λ (x : Judged). answered x f) (sym h ∙ given); list = ap (λ (x : Judged). listed x E E') (sym h ∙ given) }
 
-  pub edit-taken : (b : Bool) (T : Tally) (L : EdgeList) → i ≡ judged.Taken b → T ≡ f b → L ≡ E' → Done j f E E' (Kept T) L
+  pub edit-taken : (b : Bool) (T : Tally) (L : EdgeList) → i ≡ Ok b → T ≡ f b → L ≡ E' → Done j f E E' (Ok T) L
   unfolding answered listed
-  edit-taken b T L h k l = record { answer = ap Kept k ∙ ap (λ (x : Judged). answered x f) (sym h ∙ given); list = l ∙ ap (λ (x : Judged). listed x E E') (sym h ∙ given) }
+  edit-taken b T L h k l = record { answer = ap Ok k ∙ ap (λ (x : Judged). answered x f) (sym h ∙ given); list = l ∙ ap (λ (x : Judged). listed x E E') (sym h ∙ given) }
 
 -- any two results that the promise allows are equal
 pub edit-unique : (j : Judged) (f : Bool → Tally) (E E' : EdgeList) (a b : TallyAnswer) (L M : EdgeList) → Done j f E E' a L → Done j f E E' b M → (a ≡ b) × (L ≡ M)

@@ -1,17 +1,15 @@
 -- Request C-17: "Refusals, in this order: 2; 24 when the record's length is above the slices' or its hits and misses don't add up to it; 3 when adding to full slices or to 8,192 edges or
 -- more; the field numbers of the edge added (its position: the length), or of the one named if it exists; 7 to 9; 18 when the position to remove or flip doesn't exist; 24 also when the
 -- record has no such hit or miss to give up."
-use Rattle.std.specs.Prelude.{Bool, false, not, ◌||◌, cond, [], ◌∷◌, ℕ, ◌+◌, ltb, leb, eqb, get_or, length, Float}
+use Rattle.std.specs.Prelude.{Bool, false, not, ◌||◌, cond, [], ◌∷◌, ℕ, ◌+◌, ltb, leb, eqb, get_or, length, Float, Err, None, Ok, Option, Some}
 use Rattle.std.specs.Float.{nan}
 use Rattle.laws.specs.Words.{one_f}
 use Rattle.answer.specs.declared.Square.{Square}
 use Rattle.board.specs.declared.edge.Edge.{Edge}
 use Rattle.board.specs.Hits.{EdgeList, Board, edges, size, edge_at, edge_hit}
+use Rattle.refusals.specs.declared.EdgePlace.{EdgePlace}
 use Rattle.refusals.specs.declared.Refusal.{Refusal}
-use Rattle.refusals.specs.declared.Place.{Place}
-use Rattle.refusals.specs.declared.Place.TheVariants.{Nowhere, At}
-use Rattle.refusals.specs.declared.Admission.{Admission}
-use Rattle.refusals.specs.declared.Admission.TheVariants.{Accepted, Refused}
+use Rattle.refusals.specs.Admission.{Admission, accepted}
 use Rattle.refusals.specs.declared.ListName.TheVariants as list
 use Rattle.refusals.specs.Numbers.{numbered, edge_refusal}
 use Rattle.refusals.specs.Numbers as why
@@ -20,8 +18,7 @@ use Rattle.ranges.specs.Ranges.{in_range}
 use Rattle.findings.specs.Findings.{refused_if, or_else, first_of, first_found, settings_findings}
 use Rattle.admission.specs.Refusals.{tables_bad}
 use Rattle.tally.specs.declared.Tally.{Tally}
-use Rattle.tally.specs.declared.Judged.{Judged}
-use Rattle.tally.specs.declared.Judged.TheVariants as judged
+use Rattle.tally.specs.Answers.{Judged}
 use Rattle.tally.specs.Tally.{count_of}
 use Rattle.tally.specs.Tally as tally
 use Rattle.tally.specs.Counted.{hit_at}
@@ -41,7 +38,7 @@ full n edges = leb n edges || leb 8192 edges
 
 -- refused at a position of the only list where it applies
 abbrev pub refused_there : ℕ → ℕ → Bool → Admission
-refused_there number position bad = cond bad (Refused (edge_refusal number list.Only position)) Accepted
+refused_there number position bad = cond bad (Err (edge_refusal number list.Only position)) accepted
 
 -- "the field numbers of the edge": 4, 16, 17, 5, each with its place
 unfoldable pub edge_found : Edge → Float → ℕ → Admission
@@ -76,7 +73,7 @@ found_there e w position T B =
 
 -- where there is none
 unfoldable pub found_missing : Square → Board → Admission
-found_missing q B = or_else (placing_found q B) (Refused (numbered tally.no_such_edge))
+found_missing q B = or_else (placing_found q B) (Err (numbered tally.no_such_edge))
 
 unfoldable pub named_found : EdgeList → Tally → ℕ → Board → Admission
 named_found E T position B =
@@ -85,8 +82,8 @@ named_found E T position B =
 
 -- ---- the judgement: refused, or taken with whether the edge is a hit
 unfoldable pub taken : Admission → Bool → Judged
-taken Accepted hit = judged.Taken hit
-taken (Refused r) hit = judged.Refused r
+taken (Ok _) hit = Ok hit
+taken (Err r) hit = Err r
 
 unfoldable pub judged_edge : Edge → Float → ℕ → Square → Board → Judged
 judged_edge e w position q B = taken (or_else (edge_found e w position) (placing_found q B)) (edge_hit B e q)
@@ -107,9 +104,9 @@ judged_named E T position B = taken (named_found E T position B) (hit_at B E T.s
 abbrev pub alone : Edge → Float → EdgeList
 alone e w = edges (e.row ∷ []) (e.col ∷ []) (e.orientation ∷ []) (e.bit ∷ []) (w ∷ [])
 
-unfoldable pub moved_to : ℕ → ℕ → Place → Refusal
-moved_to position number Nowhere = numbered number
-moved_to position number (At p) = edge_refusal number list.Only position
+unfoldable pub moved_to : ℕ → ℕ → Option EdgePlace → Refusal
+moved_to position number None = numbered number
+moved_to position number (Some p) = edge_refusal number list.Only position
 
 abbrev pub moved : ℕ → Refusal → Refusal
 moved position r = moved_to position r.number r.place

@@ -3,7 +3,7 @@ use Rattle.std.specs.Prelude.{◌≡◌, Bool, not, ℕ, ◌-◌, ◌<◌, get_o
 use Rattle.std.proofs.Common.{arith}
 use Rattle.board.specs.Hits.{EdgeList, Board, edges}
 use Rattle.tally.specs.declared.Tally.{Tally}
-use Rattle.tally.specs.declared.TallyAnswer.{TallyAnswer}
+use Rattle.tally.specs.Answers.{TallyAnswer}
 use Rattle.tally.specs.Tally.{Adds, with_edge, without_edge}
 use Rattle.tally.specs.TallyLaws.{without-adds}
 use Rattle.tally.specs.Counted.{listed_as, hit_at}

@@ -2,47 +2,41 @@
 #![tactic(auto)]
 
 ghost use Rattle.std.specs.Prelude.{◌≡◌};
-ghost use Rattle.board.specs.Hits.{edges, tables};
+ghost use Rattle.board.specs.Given.{board_of};
+ghost use Rattle.board.specs.Hits.{edges};
 ghost use Rattle.tally_flip.specs.Flipped.{FlipDone};
 
-use tally::{Judged, Tally, TallyAnswer};
+use board::list::{Edges, List};
+use board::pattern::Tables;
+use tally::{Tally, TallyAnswer};
 
 // Flips the bit of the edge at a position of the list in the front of five lent slices: the new record, or a refusal that changes nothing. Only the bits are written.
 pub fn tally_flip<'a>(
-    rows: &[i32],
-    cols: &[i32],
-    orientations: &[u8],
-    bits: &mut [u8],
-    confidences: &[f32],
+    rows: &'a [i32],
+    cols: &'a [i32],
+    orientations: &'a [u8],
+    bits: &'a mut [u8],
+    confidences: &'a [f32],
     tally: Tally,
     position: u32,
-    h: &'a [u8],
-    v: &'a [u8],
+    tables: Tables,
 ) -> TallyAnswer
     ensures { FlipDone
         (edges rows.now cols.now orientations.now bits.old confidences.now)
-        tally position (tables h.now v.now) result
+        tally position (board_of tables.entry) result
         (edges rows.now cols.now orientations.now bits.new confidences.now) }
 {
-    let judged = tally_checks::judge_named(
+    let edges = Edges {
         rows,
         cols,
         orientations,
         bits,
-        confidences,
-        tally,
-        position,
-        h,
-        v,
-    );
-    match judged {
-        Judged::Refused(refusal) => TallyAnswer::Refused(refusal),
-        Judged::Taken(hit) => {
-            let i = position as usize;
-            let orientation = orientations[i];
-            bits[i] = 1 - bits[i];
-            let without = tally::without_edge(tally, orientation, hit);
-            TallyAnswer::Kept(tally::with_edge(without, orientation, !hit))
-        }
-    }
+    };
+    let list = List { edges, confidences };
+    let hit = tally_checks::judge_named(list, tally, position, tables)?;
+    let i = position as usize;
+    let orientation = orientations[i];
+    bits[i] = 1 - bits[i];
+    let without = tally::without_edge(tally, orientation, hit);
+    Ok(tally::with_edge(without, orientation, !hit))
 }

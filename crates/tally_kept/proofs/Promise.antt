@@ -1,5 +1,5 @@
 -- THE PROMISE OF C-17: "A record that, orientation by orientation, equals match statistics' count on its list's edges of that orientation before an edit equals it so on the edited list after."
-use Rattle.std.specs.Prelude.{◌≡◌, Bool, not, List, [], ◌∷◌, ℕ, zero, suc, ◌+◌, ◌-◌, ◌≤◌, ◌<◌, eqb, length, ℤ, pos, ◌+ℤ◌, Float}
+use Rattle.std.specs.Prelude.{◌≡◌, Bool, not, List, [], ◌∷◌, ℕ, zero, suc, ◌+◌, ◌-◌, ◌≤◌, ◌<◌, eqb, length, ℤ, pos, ◌+ℤ◌, Float, Err, Ok}
 use Rattle.std.proofs.Math.Path.{refl, sym, ap, ap₂}
 use Rattle.std.proofs.Common.{◌∙◌, ⊎_elim, get_or-set_same, get_or-set_other, lt-ltb, le-ltb}
 use native.Mathlib.Omega.{arith}
@@ -13,13 +13,10 @@ use Rattle.board.proofs.HitsLaws.{hit-edge}
 use Rattle.closing.specs.Closed.{closed}
 use Rattle.closing.specs.ClosedLaws.{closed-written, before_at, after-at}
 use Rattle.refusals.specs.declared.Refusal.{Refusal}
-use Rattle.refusals.specs.declared.Admission.{Admission}
-use Rattle.refusals.specs.declared.Admission.TheVariants as admission
+use Rattle.refusals.specs.Admission.{Admission}
 use Rattle.tally.specs.declared.Tally.{Tally}
-use Rattle.tally.specs.declared.Judged.{Judged}
-use Rattle.tally.specs.declared.Judged.TheVariants as judged
-use Rattle.tally.specs.declared.TallyAnswer.{TallyAnswer}
-use Rattle.tally.specs.declared.TallyAnswer.TheVariants.{Kept, Refused}
+use Rattle.tally.specs.Answers.{Judged}
+use Rattle.tally.specs.Answers.{TallyAnswer}
 use Rattle.tally.specs.Tally.{with_edge, without_edge}
 use Rattle.tally.specs.Counted.{listed_as, hit_at, tally_of}
 use Rattle.tally.proofs.CountedLaws.{skip, tally-more, tally-same, tally-without, tally-other}
@@ -150,12 +147,12 @@ module _ (B : Board) (E : EdgeList) (T : Tally) (p : ℕ) where
 
 -- ---- an edit, taken or refused
 -- what holds of the record and the list both where an edit was refused and where it was taken
-either : (j : Judged) (f : Bool → Tally) (E E' : EdgeList) (T : Tally) (P : EdgeList → Tally → Type 0) → P E T → ((b : Bool) → judged.Taken b ≡ j → P E' (f b)) → P (listed j E E') (record_after T (answered j f))
+either : (j : Judged) (f : Bool → Tally) (E E' : EdgeList) (T : Tally) (P : EdgeList → Tally → Type 0) → P E T → ((b : Bool) → Ok b ≡ j → P E' (f b)) → P (listed j E E') (record_after T (answered j f))
 unfolding answered listed
-either (judged.Refused r) f E E' T P x y = x
-either (judged.Taken b) f E E' T P x y = y b refl
+either (Err r) f E E' T P x y = x
+either (Ok b) f E E' T P x y = y b refl
 
-after : (B : Board) (j : Judged) (f : Bool → Tally) (E E' L : EdgeList) (T : Tally) (a : TallyAnswer) → Done j f E E' a L → Right B E T → ((b : Bool) → judged.Taken b ≡ j → Right B E' (f b)) → Right B L (record_after T a)
+after : (B : Board) (j : Judged) (f : Bool → Tally) (E E' L : EdgeList) (T : Tally) (a : TallyAnswer) → Done j f E E' a L → Right B E T → ((b : Bool) → Ok b ≡ j → Right B E' (f b)) → Right B L (record_after T a)
 after B j f E E' L T a d x y = rw (d.answer, d.list) (either j f E E' T (Right B) x y)
 
 -- A RECORD THAT IS RIGHT STAYS RIGHT
@@ -183,24 +180,24 @@ pub run-kept : (B : Board) (xs : List Edit) (E L : EdgeList) (T S : Tally) → R
 run-kept B xs E L T S n s = right-equals B L S (run-right B xs E L T S n (equals-right B E T s))
 
 -- A REFUSED EDIT CHANGES NOTHING of the list
-refused-list : (j : Judged) (f : Bool → Tally) (E E' : EdgeList) (r : Refusal) → Refused r ≡ answered j f → listed j E E' ≡ E
+refused-list : (j : Judged) (f : Bool → Tally) (E E' : EdgeList) (r : Refusal) → Err r ≡ answered j f → listed j E E' ≡ E
 unfolding answered listed
-refused-list (judged.Refused x) f E E' r h = refl
-refused-list (judged.Taken b) f E E' r h = let z : ◌≡◌ {A = ℕ} 0 1 = cc in absurd (omega arith)
+refused-list (Err x) f E E' r h = refl
+refused-list (Ok b) f E E' r h = let z : ◌≡◌ {A = ℕ} 0 1 = cc in absurd (omega arith)
 
-pub refused-same : (j : Judged) (f : Bool → Tally) (E E' L : EdgeList) (r : Refusal) → Done j f E E' (Refused r) L → L ≡ E
+pub refused-same : (j : Judged) (f : Bool → Tally) (E E' L : EdgeList) (r : Refusal) → Done j f E E' (Err r) L → L ≡ E
 refused-same j f E E' L r d = d.list ∙ refused-list j f E E' r d.answer
 
 -- THE RECORD THAT `tally_of` COUNTS is right, so edits can begin
-kept_of : (a : Admission) (T S : Tally) → Kept T ≡ or_kept a S → T ≡ S
-kept_of admission.Accepted T S h = cc
-kept_of (admission.Refused r) T S h = let z : ◌≡◌ {A = ℕ} 0 1 = cc in absurd (omega arith)
+kept_of : (a : Admission) (T S : Tally) → Ok T ≡ or_kept a S → T ≡ S
+kept_of (Ok _) T S h = cc
+kept_of (Err r) T S h = let z : ◌≡◌ {A = ℕ} 0 1 = cc in absurd (omega arith)
 
-pub begun-right : (B : Board) (E : EdgeList) (n : ℕ) (q : Square) (T : Tally) → Kept T ≡ tally_answer E n q B → Right B E T
+pub begun-right : (B : Board) (E : EdgeList) (n : ℕ) (q : Square) (T : Tally) → Ok T ≡ tally_answer E n q B → Right B E T
 unfolding tally_answer tally_of
 begun-right B E n q T h =
     let k : T ≡ tally_of B E q n = kept_of (begin_found E n q B) T (tally_of B E q n) h in
     k ∙ sym (ap₂ (tally_of B E) (ap (λ (x : Tally). x.square) k) (ap (λ (x : Tally). x.edges) k))
 
-pub begun-equals : (B : Board) (E : EdgeList) (n : ℕ) (q : Square) (T : Tally) → Kept T ≡ tally_answer E n q B → EqualsStatistics B E T
+pub begun-equals : (B : Board) (E : EdgeList) (n : ℕ) (q : Square) (T : Tally) → Ok T ≡ tally_answer E n q B → EqualsStatistics B E T
 begun-equals B E n q T h = right-equals B E T (begun-right B E n q T h)

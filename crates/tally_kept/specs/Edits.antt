@@ -1,10 +1,9 @@
 -- The three edits of a list with its record, as steps; and any run of them.
-use Rattle.std.specs.Prelude.{◌≡◌, List, [], ◌∷◌, ℕ, Float}
+use Rattle.std.specs.Prelude.{◌≡◌, List, [], ◌∷◌, ℕ, Float, Err, Ok}
 use Rattle.board.specs.declared.edge.Edge.{Edge}
 use Rattle.board.specs.Hits.{EdgeList, Board}
 use Rattle.tally.specs.declared.Tally.{Tally}
-use Rattle.tally.specs.declared.TallyAnswer.{TallyAnswer}
-use Rattle.tally.specs.declared.TallyAnswer.TheVariants.{Kept, Refused}
+use Rattle.tally.specs.Answers.{TallyAnswer}
 use Rattle.tally_add.specs.Added.{AddDone}
 use Rattle.tally_remove.specs.Removed.{RemoveDone}
 use Rattle.tally_flip.specs.Flipped.{FlipDone}
@@ -17,8 +16,8 @@ pub data Edit : Type 0 where
 
 -- the record after an answer: the new one, or after a refusal the one that was given
 abbrev pub record_after : Tally → TallyAnswer → Tally
-record_after T (Kept S) = S
-record_after T (Refused r) = T
+record_after T (Ok S) = S
+record_after T (Err r) = T
 
 -- what the entry point of an edit promises
 abbrev pub EditDone : Board → EdgeList → Tally → Edit → TallyAnswer → EdgeList → Type 0

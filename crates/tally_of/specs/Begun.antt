@@ -1,16 +1,14 @@
 -- Request C-17: the record of the first edges of a list, counted from nothing: 2, 24 when the length is above the slices', 3 over 8,192, then match statistics' numbers on that front.
-use Rattle.std.specs.Prelude.{List, ℕ, ◌≤◌, ◌<◌, ltb, get_or, length, take}
+use Rattle.std.specs.Prelude.{List, ℕ, ◌≤◌, ◌<◌, ltb, get_or, length, take, Err, Ok}
 use Rattle.answer.specs.declared.Square.{Square}
 use Rattle.board.specs.Hits.{EdgeList, Board, edges, size}
-use Rattle.refusals.specs.declared.Admission.{Admission}
-use Rattle.refusals.specs.declared.Admission.TheVariants as admission
+use Rattle.refusals.specs.Admission.{Admission}
 use Rattle.refusals.specs.Numbers as why
 use Rattle.checks.specs.Checks.{lengths_differ}
 use Rattle.findings.specs.Findings.{refused_if, or_else}
 use Rattle.admission.specs.Refusals.{stats_admission}
 use Rattle.tally.specs.declared.Tally.{Tally}
-use Rattle.tally.specs.declared.TallyAnswer.{TallyAnswer}
-use Rattle.tally.specs.declared.TallyAnswer.TheVariants.{Kept, Refused}
+use Rattle.tally.specs.Answers.{TallyAnswer}
 use Rattle.tally.specs.Tally as tally
 use Rattle.tally.specs.Counted.{tally_of}
 
@@ -31,8 +29,8 @@ begin_found E n q B =
 
 -- refused, or the record
 abbrev pub or_kept : Admission → Tally → TallyAnswer
-or_kept admission.Accepted T = Kept T
-or_kept (admission.Refused r) T = Refused r
+or_kept (Ok _) T = Ok T
+or_kept (Err r) T = Err r
 
 -- of a whole list
 unfoldable pub counted_all : EdgeList → Square → Board → TallyAnswer

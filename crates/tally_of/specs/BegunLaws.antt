@@ -1,5 +1,5 @@
 -- The ways in which counting a record ends, and the turns of its loop.
-use Rattle.std.specs.Prelude.{◌≡◌, refl, Bool, true, false, List, ℕ, ◌+◌, ◌≤◌, ◌<◌, take, ℤ, pos, Float}
+use Rattle.std.specs.Prelude.{◌≡◌, refl, Bool, true, false, List, ℕ, ◌+◌, ◌≤◌, ◌<◌, take, ℤ, pos, Float, Err, Ok}
 use Rattle.std.proofs.Math.Path.{sym, ap}
 use Rattle.std.proofs.Common.{ap₂, ◌∙◌, arith, get_or-take, length-take-le}
 use borrow.Author.Tests.{lt-ltb, le-ltb}
@@ -7,15 +7,13 @@ use Rattle.answer.specs.declared.Square.{Square}
 use Rattle.board.specs.declared.edge.Edge.{Edge}
 use Rattle.board.specs.Hits.{EdgeList, Board, edges, size, edge_at}
 use Rattle.refusals.specs.declared.Refusal.{Refusal}
-use Rattle.refusals.specs.declared.Admission.{Admission}
-use Rattle.refusals.specs.declared.Admission.TheVariants as admission
+use Rattle.refusals.specs.Admission.{Admission, accepted}
 use Rattle.refusals.specs.Numbers.{numbered}
 use Rattle.refusals.specs.Numbers as why
 use Rattle.checks.specs.Checks.{lengths_differ}
 use Rattle.findings.specs.Findings.{or_else}
 use Rattle.admission.specs.Refusals.{stats_admission}
 use Rattle.tally.specs.declared.Tally.{Tally}
-use Rattle.tally.specs.declared.TallyAnswer.TheVariants.{Kept, Refused}
 use Rattle.tally.specs.Tally as tally
 use Rattle.tally.specs.Tally.{Adds, with_edge}
 use Rattle.tally.specs.TallyLaws.{with-adds}
@@ -67,32 +65,32 @@ module _ (E : EdgeList) (q : Square) (B : Board) where
   counting-done T i c h = let e : i ≡ size E = omega (arith, c.inside) in c.so_far ∙ ap (tally_of B E q) e
 
 -- a list that match statistics accept has orientations 0 and 1
-pub accepted-sides : (E : EdgeList) (t row col : ℕ) (B : Board) → stats_admission E t row col B ≡ admission.Accepted → Sides E.orientations
+pub accepted-sides : (E : EdgeList) (t row col : ℕ) (B : Board) → stats_admission E t row col B ≡ accepted → Sides E.orientations
 accepted-sides E t row col B h = bytes_ok 1 E.orientations (stats-tests-of E t row col B h).list.orientations
 
 -- ---- a whole list
 module _ (E : EdgeList) (q : Square) (B : Board) (a : Admission) (given : a ≡ stats_admission E q.transform q.row q.col B) where
-  pub all-refused : (r : Refusal) → a ≡ admission.Refused r → Refused r ≡ counted_all E q B
+  pub all-refused : (r : Refusal) → a ≡ Err r → Err r ≡ counted_all E q B
   unfolding counted_all
   all-refused r h = ap (λ (x : Admission). or_kept x (tally_of B E q (size E))) (sym h ∙ given)
 
-  pub all-kept : (T : Tally) → a ≡ admission.Accepted → T ≡ tally_of B E q (size E) → Kept T ≡ counted_all E q B
+  pub all-kept : (T : Tally) → a ≡ accepted → T ≡ tally_of B E q (size E) → Ok T ≡ counted_all E q B
   unfolding counted_all
-  all-kept T h k = ap Kept k ∙ ap (λ (x : Admission). or_kept x (tally_of B E q (size E))) (sym h ∙ given)
+  all-kept T h k = ap Ok k ∙ ap (λ (x : Admission). or_kept x (tally_of B E q (size E))) (sym h ∙ given)
 
 -- ---- the front of a list
 module _ (E : EdgeList) (n : ℕ) (q : Square) (B : Board) where
-  pub begin-lengths : lengths_differ E ≡ true → Refused (numbered why.lengths_differ) ≡ tally_answer E n q B
+  pub begin-lengths : lengths_differ E ≡ true → Err (numbered why.lengths_differ) ≡ tally_answer E n q B
   unfolding tally_answer begin_found or_else
   begin-lengths h = sym (rw h)
 
   module _ (d : lengths_differ E ≡ false) where
-    pub begin-long : size E < n → Refused (numbered tally.bad_record) ≡ tally_answer E n q B
+    pub begin-long : size E < n → Err (numbered tally.bad_record) ≡ tally_answer E n q B
     unfolding tally_answer begin_found or_else
     begin-long l = sym (rw (d, lt-ltb (size E) n l))
 
     module _ (fits : n ≤ size E) where
-      pub begin-many : 8192 < n → Refused (numbered why.list_size) ≡ tally_answer E n q B
+      pub begin-many : 8192 < n → Err (numbered why.list_size) ≡ tally_answer E n q B
       unfolding tally_answer begin_found or_else
       begin-many l = sym (rw (d, le-ltb (size E) n fits, lt-ltb 8192 n l))
 

@@ -4,7 +4,7 @@ use Rattle.laws.specs.Words.{zero_f}
 use Rattle.board.specs.Hits.{EdgeList, Board, edges}
 use Rattle.closing.specs.Closed.{closed}
 use Rattle.tally.specs.declared.Tally.{Tally}
-use Rattle.tally.specs.declared.TallyAnswer.{TallyAnswer}
+use Rattle.tally.specs.Answers.{TallyAnswer}
 use Rattle.tally.specs.Tally.{without_edge}
 use Rattle.tally.specs.Counted.{listed_as}
 use Rattle.tally_checks.specs.Judged.{judged_named}

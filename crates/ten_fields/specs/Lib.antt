@@ -1,1 +1,2 @@
 pub mod TenFields
+pub mod Answers

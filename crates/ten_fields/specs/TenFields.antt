@@ -1,27 +1,24 @@
 -- Document 01's answer of ten fields, from the answers of request C-12: "The old fields stay derivable and equal to the Rust."
-use Rattle.std.specs.Prelude.{cond, ℕ, ltb, pos, Float}
+use Rattle.std.specs.Prelude.{cond, ℕ, ltb, pos, Float, Err, Ok}
 use Rattle.std.specs.Float.{nan, binary32}
 use Rattle.std.specs.Float.Ieee.{of_int}
 use Rattle.answer.specs.declared.Decoded.{Decoded}
 use Rattle.answer.specs.declared.SoftDecoded.{SoftDecoded}
-use Rattle.answer.specs.declared.Answer.{Answer}
-use Rattle.answer.specs.declared.Answer.TheVariants as hard
-use Rattle.answer.specs.declared.SoftAnswer.{SoftAnswer}
-use Rattle.answer.specs.declared.SoftAnswer.TheVariants as soft
+use Rattle.answer.specs.Answers.{Answer}
+use Rattle.answer.specs.Answers.{SoftAnswer}
 use Rattle.answer.specs.declared.AnyAnswer.{AnyAnswer}
 use Rattle.answer.specs.declared.AnyAnswer.TheVariants as any
 use Rattle.ten_fields.specs.declared.TenFields.{TenFields}
-use Rattle.ten_fields.specs.declared.TenAnswer.{TenAnswer}
-use Rattle.ten_fields.specs.declared.TenAnswer.TheVariants.{Found, Refused}
+use Rattle.ten_fields.specs.Answers.{TenAnswer}
 
 -- a hard answer, and a soft one, as one of either decoder's
 abbrev pub any_of_hard : Answer → AnyAnswer
-any_of_hard (hard.Found d) = any.Hard d
-any_of_hard (hard.Refused r) = any.Refused r
+any_of_hard (Ok d) = any.Hard d
+any_of_hard (Err r) = any.Refused r
 
 abbrev pub any_of_soft : SoftAnswer → AnyAnswer
-any_of_soft (soft.Found d) = any.Soft d
-any_of_soft (soft.Refused r) = any.Refused r
+any_of_soft (Ok d) = any.Soft d
+any_of_soft (Err r) = any.Refused r
 
 -- a count as an f32: every whole number up to 2^24 is one. (Above it, where no count of an answer is, NaN.)
 unfoldable pub as_score : ℕ → Float
@@ -61,6 +58,6 @@ ten_of_soft d = record {
 
 -- the answer of either decoder as document 01 has it
 abbrev pub ten_fields : AnyAnswer → TenAnswer
-ten_fields (any.Hard d) = Found (ten_of_hard d)
-ten_fields (any.Soft d) = Found (ten_of_soft d)
-ten_fields (any.Refused r) = Refused r
+ten_fields (any.Hard d) = Ok (ten_of_hard d)
+ten_fields (any.Soft d) = Ok (ten_of_soft d)
+ten_fields (any.Refused r) = Err r

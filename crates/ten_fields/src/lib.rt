@@ -23,19 +23,15 @@ pub struct TenFields {
 }
 
 // The answer of document 01.
-#[derive(Clone, Copy)]
-pub enum TenAnswer {
-    Found(TenFields),
-    Refused(Refusal),
-}
+pub type TenAnswer = Result<TenFields, Refusal>;
 
 // A hard answer as one of either decoder's.
 pub fn any_of_hard(answer: Answer) -> AnyAnswer
     ensures { result ≡ any_of_hard answer }
 {
     match answer {
-        Answer::Found(d) => AnyAnswer::Hard(d),
-        Answer::Refused(refusal) => AnyAnswer::Refused(refusal),
+        Ok(d) => AnyAnswer::Hard(d),
+        Err(refusal) => AnyAnswer::Refused(refusal),
     }
 }
 
@@ -44,8 +40,8 @@ pub fn any_of_soft(answer: SoftAnswer) -> AnyAnswer
     ensures { result ≡ any_of_soft answer }
 {
     match answer {
-        SoftAnswer::Found(d) => AnyAnswer::Soft(d),
-        SoftAnswer::Refused(refusal) => AnyAnswer::Refused(refusal),
+        Ok(d) => AnyAnswer::Soft(d),
+        Err(refusal) => AnyAnswer::Refused(refusal),
     }
 }
 
@@ -107,8 +103,8 @@ pub fn ten_fields(answer: AnyAnswer) -> TenAnswer
     ensures { result ≡ ten_fields answer }
 {
     match answer {
-        AnyAnswer::Hard(d) => TenAnswer::Found(ten_of_hard(d)),
-        AnyAnswer::Soft(d) => TenAnswer::Found(ten_of_soft(d)),
-        AnyAnswer::Refused(refusal) => TenAnswer::Refused(refusal),
+        AnyAnswer::Hard(d) => Ok(ten_of_hard(d)),
+        AnyAnswer::Soft(d) => Ok(ten_of_soft(d)),
+        AnyAnswer::Refused(refusal) => Err(refusal),
     }
 }

@@ -2,11 +2,13 @@
 #![tactic(auto)]
 
 ghost use Rattle.std.specs.Prelude.{◌≡◌, false, [], ◌*◌, ◌≤◌, ◌<◌};
-ghost use Rattle.board.specs.Hits.{edges, tables};
 ghost use Rattle.board.specs.Sides.{period_of};
 ghost use Rattle.classes.specs.Classes.{class_hits, CountReady};
 ghost use Rattle.tops.specs.Tops.{pushed, pushed_three, top_to, raised, short_tops};
+ghost use Rattle.board.specs.Given.{board_of, edges_of};
 
+use board::list::Edges;
+use board::pattern::Tables;
 use classes::{Three, period_of};
 
 // What one side comes to: the most hits of a class, the first class that has them, and the most hits of another class.
@@ -50,20 +52,11 @@ fn push_three(top: Top, long: usize, x: Three) -> Top
 }
 
 // The best and the second-best class of one side under the transform t.
-pub fn side_top(
-    rows: &[i32],
-    cols: &[i32],
-    orientations: &[u8],
-    bits: &[u8],
-    t: u8,
-    horizontal: bool,
-    h: &[u8],
-    v: &[u8],
-) -> Top
-    requires { CountReady (tables h.now v.now) (edges rows.now cols.now orientations.now bits.now []) t }
-    ensures { result ≡ top_to (class_hits (tables h.now v.now) (edges rows.now cols.now orientations.now bits.now []) t horizontal) (period_of (tables h.now v.now) horizontal * 3) }
+pub fn side_top(edges: Edges, t: u8, horizontal: bool, tables: Tables) -> Top
+    requires { CountReady (board_of tables) (edges_of edges) t }
+    ensures { result ≡ top_to (class_hits (board_of tables.entry) (edges_of edges.entry) t horizontal) (period_of (board_of tables.entry) horizontal * 3) }
 {
-    let period = period_of(h, v, horizontal);
+    let period = period_of(tables, horizontal);
     let mut top = Top {
         best: 0,
         at: 0,
@@ -71,17 +64,7 @@ pub fn side_top(
     };
     let mut long: usize = 0;
     while long < period {
-        let x = classes::long_hits(
-            rows,
-            cols,
-            orientations,
-            bits,
-            t,
-            horizontal,
-            long as u32,
-            h,
-            v,
-        );
+        let x = classes::long_hits(edges, t, horizontal, long as u32, tables);
         top = push_three(top, long, x);
         long += 1;
     }
@@ -109,23 +92,15 @@ fn raise(top: Three, x: Three) -> Three
 }
 
 // Of each short residue of the vertical side, the most hits of a class that has it.
-pub fn short_tops(
-    rows: &[i32],
-    cols: &[i32],
-    orientations: &[u8],
-    bits: &[u8],
-    t: u8,
-    h: &[u8],
-    v: &[u8],
-) -> Three
-    requires { CountReady (tables h.now v.now) (edges rows.now cols.now orientations.now bits.now []) t }
-    ensures { result ≡ short_tops (tables h.now v.now) (edges rows.now cols.now orientations.now bits.now []) t (period_of (tables h.now v.now) false) }
+pub fn short_tops(edges: Edges, t: u8, tables: Tables) -> Three
+    requires { CountReady (board_of tables) (edges_of edges) t }
+    ensures { result ≡ short_tops (board_of tables.entry) (edges_of edges.entry) t (period_of (board_of tables.entry) false) }
 {
-    let period = v.len();
+    let period = tables.v.len();
     let mut top = Three { a: 0, b: 0, c: 0 };
     let mut long: usize = 0;
     while long < period {
-        let x = classes::long_hits(rows, cols, orientations, bits, t, false, long as u32, h, v);
+        let x = classes::long_hits(edges, t, false, long as u32, tables);
         top = raise(top, x);
         long += 1;
     }

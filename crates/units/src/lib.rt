@@ -3,10 +3,12 @@
 #![tactic(auto)]
 
 ghost use Rattle.std.specs.Prelude.{◌≡◌, ◌+◌, ◌^◌, ◌<◌, length, get_or, set};
-ghost use Rattle.board.specs.Hits.{edges, tables};
 ghost use Rattle.units.specs.Units.{UnitsReady, UnitsBuilt};
 ghost use Rattle.units.specs.UnitParts.{UnitsFillReady, UnitsFilled, RunReadyU, RunCreditedU, FamilyReadyU, FamilyCreditedU, SideReadyU, SideBuiltU};
+ghost use Rattle.board.specs.Given.{board_of, list_of};
 
+use board::list::List;
+use board::pattern::Tables;
 use laws::Periods;
 use room::Side;
 
@@ -19,27 +21,17 @@ fn add_at(units: &mut [u64], k: usize, x: u64)
 }
 
 // Adds each edge's value to its group. The groups stand from `base` on.
-fn fill_units(
-    rows: &[i32],
-    cols: &[i32],
-    orientations: &[u8],
-    bits: &[u8],
-    confidences: &[f32],
-    t: u8,
-    periods: Periods,
-    base: usize,
-    units: &mut [u64],
-)
-    requires { UnitsFillReady periods.h periods.v (edges rows.now cols.now orientations.now bits.now confidences.now) t base units.old }
-    ensures { UnitsFilled periods.h periods.v (edges rows.now cols.now orientations.now bits.now confidences.now) t base (length rows.now) units.old units.new }
+fn fill_units(list: List, t: u8, periods: Periods, base: usize, units: &mut [u64])
+    requires { UnitsFillReady periods.h periods.v (list_of list) t base units.old }
+    ensures { UnitsFilled periods.h periods.v (list_of list.entry) t base (length list.entry.edges.rows.now) units.old units.new }
 {
     let matrix = lookup::matrix_of(t);
     let h = laws::modulus_of(periods.h as u32);
     let v = laws::modulus_of(periods.v as u32);
-    for i in 0..rows.len() {
-        let edge = board::edge::edge_at(rows, cols, orientations, bits, i);
+    for i in 0..list.edges.rows.len() {
+        let edge = list.edges.edge_at(i);
         let p = groups::groups::group_place(edge, t, matrix, h, v);
-        let value = unit_terms::value_of(confidences[i]);
+        let value = unit_terms::value_of(list.confidences[i]);
         add_at(units, base + p as usize, value);
     }
 }
@@ -71,19 +63,19 @@ fn credit_unit_run(
 }
 
 // Folds one family of a side and credits it to the side's cells, in two runs, as `credit_family` does counts.
-fn credit_unit_held<'a>(h: &'a [u8], v: &'a [u8], side: Side, family: usize, units: &mut [u64])
-    requires { FamilyReadyU (tables h.now v.now) side family units.old }
-    ensures { FamilyCreditedU (tables h.now v.now) side family units.old units.new }
+fn credit_unit_held(tables: Tables, side: Side, family: usize, units: &mut [u64])
+    requires { FamilyReadyU (board_of tables) side family units.old }
+    ensures { FamilyCreditedU (board_of tables.entry) side family units.old units.new }
 {
     let orientation = side.orientation;
     let stride = side.stride;
     let across = side.across;
     let cells = side.cells;
     let terms = unit_terms::fold_values(units, side.groups + family * 6);
-    let part = board::pattern::patterns_from(h, v, orientation, family);
+    let part = tables.patterns_from(orientation, family);
     let n = part.len();
     credit_unit_run(units, terms, part, n, cells, stride, across);
-    let whole = board::pattern::patterns_from(h, v, orientation, 0);
+    let whole = tables.patterns_from(orientation, 0);
     credit_unit_run(
         units,
         terms,
@@ -96,61 +88,41 @@ fn credit_unit_held<'a>(h: &'a [u8], v: &'a [u8], side: Side, family: usize, uni
 }
 
 // Credits one family of a side. A family that holds no edge stores nothing.
-fn credit_unit_family<'a>(h: &'a [u8], v: &'a [u8], side: Side, family: usize, units: &mut [u64])
-    requires { FamilyReadyU (tables h.now v.now) side family units.old }
-    ensures { FamilyCreditedU (tables h.now v.now) side family units.old units.new }
+fn credit_unit_family(tables: Tables, side: Side, family: usize, units: &mut [u64])
+    requires { FamilyReadyU (board_of tables) side family units.old }
+    ensures { FamilyCreditedU (board_of tables.entry) side family units.old units.new }
 {
     if unit_terms::values_held(units, side.groups + family * 6) != 0 {
-        credit_unit_held(h, v, side, family, units);
+        credit_unit_held(tables, side, family, units);
     }
 }
 
 // Adds all families of one side to its cells. The cells were cleared, and the groups stand.
-fn build_unit_side<'a>(h: &'a [u8], v: &'a [u8], side: Side, units: &mut [u64])
-    requires { SideReadyU (tables h.now v.now) side units.old }
-    ensures { SideBuiltU (tables h.now v.now) side units.old units.new }
+fn build_unit_side(tables: Tables, side: Side, units: &mut [u64])
+    requires { SideReadyU (board_of tables) side units.old }
+    ensures { SideBuiltU (board_of tables.entry) side units.old units.new }
 {
-    let period = board::pattern::patterns_from(h, v, side.orientation, 0).len();
+    let period = tables.patterns_from(side.orientation, 0).len();
     for family in 0..period {
-        credit_unit_family(h, v, side, family, units);
+        credit_unit_family(tables, side, family, units);
     }
 }
 
 // The values of one transform: the used room is cleared, the groups are filled, then the horizontal cells are built, then the vertical ones. A hit adds its
 // value, and a miss nothing.
-pub fn build_units<'a>(
-    rows: &[i32],
-    cols: &[i32],
-    orientations: &[u8],
-    bits: &[u8],
-    confidences: &[f32],
-    t: u8,
-    h: &'a [u8],
-    v: &'a [u8],
-    units: &mut [u64],
-)
-    requires { UnitsReady (tables h.now v.now) (edges rows.now cols.now orientations.now bits.now confidences.now) t units.old }
-    ensures { UnitsBuilt (tables h.now v.now) (edges rows.now cols.now orientations.now bits.now confidences.now) t units.old units.new }
+pub fn build_units(list: List, t: u8, tables: Tables, units: &mut [u64])
+    requires { UnitsReady (board_of tables) (list_of list) t units.old }
+    ensures { UnitsBuilt (board_of tables.entry) (list_of list.entry) t units.old units.new }
 {
     let periods = Periods {
-        h: h.len(),
-        v: v.len(),
+        h: tables.h.len(),
+        v: tables.v.len(),
     };
     let end = room::used_by_tables(periods);
-    clearing::clear_u64(units, end);
+    clearing::clear(units, end);
     let horizontal = room::horizontal(periods);
-    fill_units(
-        rows,
-        cols,
-        orientations,
-        bits,
-        confidences,
-        t,
-        periods,
-        horizontal.groups,
-        units,
-    );
-    build_unit_side(h, v, horizontal, units);
+    fill_units(list, t, periods, horizontal.groups, units);
+    build_unit_side(tables, horizontal, units);
     let vertical = room::vertical(periods);
-    build_unit_side(h, v, vertical, units);
+    build_unit_side(tables, vertical, units);
 }

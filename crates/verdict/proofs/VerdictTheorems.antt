@@ -1,6 +1,6 @@
 -- What a verdict tells, in the winners' own numbers (demands 2 and 3 on this crate's definitions): found exactly when the winners agree and the gate is passed; a
 -- found answer tells the winner's square and hits, and the runner-up's. A refusal has its own number.
-use Rattle.std.specs.Prelude.{◌≡◌, Bool, ◌&&◌, ℕ, ◌-◌, eqb}
+use Rattle.std.specs.Prelude.{◌≡◌, Bool, ◌&&◌, ℕ, ◌-◌, eqb, Ok}
 use Rattle.std.proofs.Math.Path.{refl, subst}
 use Rattle.std.proofs.Math.Bool.{true, false, cond}
 use Rattle.std.proofs.Common.{eq-eqb, eqb-true}
@@ -13,7 +13,6 @@ use Rattle.scan.specs.declared.scan.RunnerUp.{RunnerUp}
 use Rattle.figures.specs.Gate.{passed}
 use Rattle.answer.specs.declared.Square.{Square}
 use Rattle.answer.specs.declared.Decoded.{Decoded}
-use Rattle.answer.specs.declared.Answer.TheVariants.{Found}
 use Rattle.verdict.specs.Verdict.{refused_by, agreed, decoded_of, judged}
 use Rattle.verdict.specs.Answers.{answers, never_both}
 
@@ -69,7 +68,7 @@ none-holds false x z p = refl
 -- ---- hard: the logical winner w under the transform t, with its runner-up, and the physical winner p under the transform s
 module _ (t : ℕ) (w : Candidate) (runner : RunnerUp) (s : ℕ) (p : Candidate) (edges : ℕ) where
   -- WINNERS THAT AGREE AND PASS ARE FOUND
-  pub judged-complete : Agree t w.placing s p.placing → passed edges w.hits runner.hits ≡ true → (d : Decoded) × (judged t w runner s p edges ≡ Found d)
+  pub judged-complete : Agree t w.placing s p.placing → passed edges w.hits runner.hits ≡ true → (d : Decoded) × (judged t w runner s p edges ≡ Ok d)
   unfolding judged agreed
   judged-complete a g = (decoded_of t w runner edges, both_hold (test t w.placing s p.placing) (passed edges w.hits runner.hits) _ _ _ (of_agree t w.placing s p.placing a) g)
 
@@ -90,16 +89,16 @@ module _ (t : ℕ) (w : Candidate) (runner : RunnerUp) (s : ℕ) (p : Candidate)
     pub margin : d.margin_hits ≡ w.hits - runner.hits
 
   -- what is found is told as document 01 says
-  pub judged-is : (d : Decoded) → judged t w runner s p edges ≡ Found d → decoded_of t w runner edges ≡ d
+  pub judged-is : (d : Decoded) → judged t w runner s p edges ≡ Ok d → decoded_of t w runner edges ≡ d
   unfolding judged
   judged-is d h = go (agreed t w s p) (passed edges w.hits runner.hits) h
     where
-      go : (a b : Bool) → cond a (cond b (Found (decoded_of t w runner edges)) (refused_by why.not_far_ahead)) (refused_by why.lists_disagree) ≡ Found d → decoded_of t w runner edges ≡ d
+      go : (a b : Bool) → cond a (cond b (Ok (decoded_of t w runner edges)) (refused_by why.not_far_ahead)) (refused_by why.lists_disagree) ≡ Ok d → decoded_of t w runner edges ≡ d
       go true true k = cc
       go true false k = absurd (never_both answers d (numbered why.not_far_ahead) k)
       go false b k = absurd (never_both answers d (numbered why.lists_disagree) k)
 
-  by-gate : (d : Decoded) (b : Bool) → passed edges w.hits runner.hits ≡ b → Agree t w.placing s p.placing → cond b (Found (decoded_of t w runner edges)) (refused_by why.not_far_ahead) ≡ Found d → Judged d
+  by-gate : (d : Decoded) (b : Bool) → passed edges w.hits runner.hits ≡ b → Agree t w.placing s p.placing → cond b (Ok (decoded_of t w runner edges)) (refused_by why.not_far_ahead) ≡ Ok d → Judged d
   unfolding decoded_of
   by-gate d true g a k =
       let q : decoded_of t w runner edges ≡ d = cc in
@@ -111,11 +110,11 @@ module _ (t : ℕ) (w : Candidate) (runner : RunnerUp) (s : ℕ) (p : Candidate)
       })
   by-gate d false g a k = absurd (never_both answers d (numbered why.not_far_ahead) k)
 
-  by-agreed : (d : Decoded) (b : Bool) → test t w.placing s p.placing ≡ b → cond b (cond (passed edges w.hits runner.hits) (Found (decoded_of t w runner edges)) (refused_by why.not_far_ahead)) (refused_by why.lists_disagree) ≡ Found d → Judged d
+  by-agreed : (d : Decoded) (b : Bool) → test t w.placing s p.placing ≡ b → cond b (cond (passed edges w.hits runner.hits) (Ok (decoded_of t w runner edges)) (refused_by why.not_far_ahead)) (refused_by why.lists_disagree) ≡ Ok d → Judged d
   by-agreed d true e k = by-gate d (passed edges w.hits runner.hits) refl (agree_of t w.placing s p.placing e) k
   by-agreed d false e k = absurd (never_both answers d (numbered why.lists_disagree) k)
 
   -- FOUND MEANS TRUE
-  pub judged-sound : (d : Decoded) → judged t w runner s p edges ≡ Found d → Judged d
+  pub judged-sound : (d : Decoded) → judged t w runner s p edges ≡ Ok d → Judged d
   unfolding judged agreed
   judged-sound d h = by-agreed d (test t w.placing s p.placing) refl h

@@ -1,13 +1,9 @@
 -- What holds of answers, hard or soft: one is refused or found and never both, two numbers are two refusals, and found means accepted.
-use Rattle.std.specs.Prelude.{◌≡◌, refl, ◌⊎◌, ℕ}
+use Rattle.std.specs.Prelude.{◌≡◌, refl, ◌⊎◌, ℕ, Err, Ok, Result}
 use Rattle.std.proofs.Common.{sym, ap, inl, inr, arith}
 use Rattle.refusals.specs.declared.Refusal.{Refusal}
-use Rattle.refusals.specs.declared.Admission.{Admission}
-use Rattle.refusals.specs.declared.Admission.TheVariants as admission
+use Rattle.refusals.specs.Admission.{Admission, accepted}
 use Rattle.refusals.specs.Numbers.{numbered}
-use Rattle.answer.specs.declared.Decoded.{Decoded}
-use Rattle.answer.specs.declared.Answer.{Answer}
-use Rattle.answer.specs.declared.Answer.TheVariants.{Found, Refused}
 use Rattle.verdict.specs.Verdict.{when_accepted}
 
 -- an answer is made in one of two ways, not in both, and a refusal can be told from it
@@ -16,13 +12,13 @@ pub record Answers {Answer Told : Type 0} (refusing : Refusal → Answer) (findi
   pub apart : (told : Told) (r : Refusal) → finding told ≡ refusing r → ⊥
   pub once : (r s : Refusal) → refusing r ≡ refusing s → r ≡ s
 
--- hard answers are so made
-pub answers : Answers Refused Found
-answers = record { either = either; apart = λ d r e. let z : ◌≡◌ {A = ℕ} 0 1 = cc in omega arith; once = λ r s e. cc }
+-- so are all: of whatever is found, an answer is that or a refusal
+pub answers : {Told : Type 0} → Answers {Answer = Result Told Refusal} {Told = Told} Err Ok
+answers {Told} = record { either = either; apart = λ d r e. let z : ◌≡◌ {A = ℕ} 0 1 = cc in omega arith; once = λ r s e. cc }
   where
-    either : (a : Answer) → ((d : Decoded) × (a ≡ Found d)) ⊎ ((r : Refusal) × (a ≡ Refused r))
-    either (Found d) = inl (d, refl)
-    either (Refused r) = inr (r, refl)
+    either : (a : Result Told Refusal) → ((d : Told) × (a ≡ Ok d)) ⊎ ((r : Refusal) × (a ≡ Err r))
+    either (Ok d) = inl (d, refl)
+    either (Err r) = inr (r, refl)
 
 module _ {Answer Told : Type 0} {refusing : Refusal → Answer} {finding : Told → Answer} (ways : Answers refusing finding) where
   -- a refusal is no found answer
@@ -38,6 +34,6 @@ module _ {Answer Told : Type 0} {refusing : Refusal → Answer} {finding : Told 
   numbers_apart m n d e = absurd (d (ap (λ (x : Refusal). x.number) (ways.once (numbered m) (numbered n) e)))
 
   -- what is found was accepted, and x is it
-  pub found-only : (a : Admission) (x : Answer) (told : Told) → finding told ≡ when_accepted refusing a x → (a ≡ admission.Accepted) × (x ≡ finding told)
-  found-only admission.Accepted x told e = (refl, sym e)
-  found-only (admission.Refused r) x told e = absurd (ways.apart told r e)
+  pub found-only : (a : Admission) (x : Answer) (told : Told) → finding told ≡ when_accepted refusing a x → (a ≡ accepted) × (x ≡ finding told)
+  found-only (Ok _) x told e = (refl, sym e)
+  found-only (Err r) x told e = absurd (ways.apart told r e)

@@ -3,16 +3,16 @@ ghost use Rattle.std.specs.Prelude.{◌≡◌, ◌≤◌, ◌<◌};
 ghost use Rattle.verdict.specs.Verdict.{refused_by, agreed, decoded_of, judged};
 
 use answer::{Answer, Decoded, Square};
-use refusals::{Place, Refusal};
+use refusals::Refusal;
 use scan::scan::{Candidate, RunnerUp};
 
 // A refusal by its number.
 pub fn refuse(number: u32) -> Answer
     ensures { result ≡ refused_by number }
 {
-    Answer::Refused(Refusal {
+    Err(Refusal {
         number,
-        place: Place::Nowhere,
+        place: None,
     })
 }
 
@@ -71,5 +71,5 @@ pub fn judge(t: u8, w: Candidate, runner: RunnerUp, s: u8, p: Candidate, edges: 
     if !figures::passes(edges, w.hits, runner.hits) {
         return refuse(refusals::NOT_FAR_AHEAD);
     }
-    Answer::Found(decoded(t, w, runner, edges))
+    Ok(decoded(t, w, runner, edges))
 }

@@ -1,15 +1,13 @@
 -- C-18, can this placing still pass? "Answer yes or no, and stop reading once the limit is broken with every remaining edge a hit, or holds with every one a miss. The answer equals that of
 -- match statistics' rate on the full list. Edges are checked only as far as read, and the answer says how many that was .. The empty list answers by rate 1."
-use Rattle.std.specs.Prelude.{Bool, true, false, not, ◌||◌, cond, ℕ, ◌+◌, ◌-◌, eqb, Float}
+use Rattle.std.specs.Prelude.{Bool, true, false, not, ◌||◌, cond, ℕ, ◌+◌, ◌-◌, eqb, Float, Err, Ok}
 use Rattle.std.specs.Float.Ieee.{le}
 use Rattle.laws.specs.Words.{first, count}
 use Rattle.board.specs.Hits.{EdgeList, Board, size, hit}
-use Rattle.refusals.specs.declared.Admission.{Admission}
-use Rattle.refusals.specs.declared.Admission.TheVariants as admission
+use Rattle.refusals.specs.Admission.{Admission}
 use Rattle.refusals.specs.declared.ListName.TheVariants as list
 use Rattle.refusals.specs.Numbers.{edge_refusal}
-use Rattle.within_answer.specs.declared.WithinAnswer.{WithinAnswer}
-use Rattle.within_answer.specs.declared.WithinAnswer.TheVariants.{Judged, Refused}
+use Rattle.within_answer.specs.Answers.{WithinAnswer}
 use Rattle.within_admission.specs.WithinAdmission.{fault_at, within_admission}
 use Rattle.stats.specs.Stats.{stats_rate}
 use Rattle.within.specs.declared.Stop.{Stop}
@@ -26,9 +24,9 @@ certain n limit i hits = allowed n limit hits || not (allowed n limit (hits + (n
 -- what is told of a list that was left at a stop: yes or no with the number of edges read, where that is certain, else the fault of the edge there
 unfoldable pub concluded : EdgeList → Float → Stop → WithinAnswer
 concluded E limit s =
-    cond (allowed (size E) limit s.hits) (Judged (record { within = true; read = s.read }))
-    (cond (allowed (size E) limit (s.hits + (size E - s.read))) (Refused (edge_refusal (fault_at E s.read) list.Only s.read))
-    (Judged (record { within = false; read = s.read })))
+    cond (allowed (size E) limit s.hits) (Ok (record { within = true; read = s.read }))
+    (cond (allowed (size E) limit (s.hits + (size E - s.read))) (Err (edge_refusal (fault_at E s.read) list.Only s.read))
+    (Ok (record { within = false; read = s.read })))
 
 -- how many of the first i edges are hits
 unfoldable pub hits_to : EdgeList → ℕ → ℕ → ℕ → Board → ℕ → ℕ
@@ -53,8 +51,8 @@ module _ (E : EdgeList) (t row col : ℕ) (B : Board) (limit : Float) where
 
 -- an accepted call is judged
 abbrev pub or_judged : Admission → WithinAnswer → WithinAnswer
-or_judged admission.Accepted a = a
-or_judged (admission.Refused r) a = Refused r
+or_judged (Ok _) a = a
+or_judged (Err r) a = Err r
 
 -- THE ANSWER, for all inputs
 unfoldable pub within_answer : EdgeList → ℕ → ℕ → ℕ → Board → Float → WithinAnswer

@@ -1,5 +1,5 @@
 -- The steps of the walk, and the ways in which it ends.
-use Rattle.std.specs.Prelude.{◌≡◌, refl, Bool, true, false, ◌||◌, eqb, Float}
+use Rattle.std.specs.Prelude.{◌≡◌, refl, Bool, true, false, ◌||◌, eqb, Float, Err, Ok}
 use Rattle.std.proofs.Math.Path.{sym, ap, ap₂}
 use Rattle.std.proofs.Common.{◌∙◌, ⊎_elim, arith}
 use Rattle.std.proofs.Math.Bool.{not}
@@ -12,12 +12,10 @@ use Rattle.laws.specs.Fold.{fold-zero, fold_more}
 use Rattle.laws.specs.Counting.{count-le}
 use Rattle.board.specs.Hits.{EdgeList, Board, size, hit}
 use Rattle.refusals.specs.declared.Refusal.{Refusal}
-use Rattle.refusals.specs.declared.Admission.{Admission}
-use Rattle.refusals.specs.declared.Admission.TheVariants as admission
+use Rattle.refusals.specs.Admission.{Admission, accepted}
 use Rattle.refusals.specs.declared.ListName.TheVariants as list
 use Rattle.refusals.specs.Numbers.{edge_refusal}
-use Rattle.within_answer.specs.declared.WithinAnswer.{WithinAnswer}
-use Rattle.within_answer.specs.declared.WithinAnswer.TheVariants.{Judged, Refused}
+use Rattle.within_answer.specs.Answers.{WithinAnswer}
 use Rattle.within_admission.specs.WithinAdmission.{fault_at, within_admission}
 use Rattle.within.specs.declared.Stop.{Stop}
 use Rattle.within.specs.Within.{allowed, certain, concluded, hits_to, stops_at, read_to, stop_of, judged_of, or_judged, within_answer}
@@ -102,25 +100,25 @@ module _ (E : EdgeList) (t row col : ℕ) (B : Board) (limit : Float) where
 
 -- ---- what is told
 module _ (E : EdgeList) (limit : Float) (s : Stop) where
-  pub told-yes : allowed (size E) limit s.hits ≡ true → Judged (record { within = true; read = s.read }) ≡ concluded E limit s
+  pub told-yes : allowed (size E) limit s.hits ≡ true → Ok (record { within = true; read = s.read }) ≡ concluded E limit s
   unfolding concluded
   told-yes e = sym (rw e refl)
 
   module _ (e : allowed (size E) limit s.hits ≡ false) where
-    pub told-fault : (k : ℕ) → k ≡ fault_at E s.read → allowed (size E) limit (s.hits + (size E - s.read)) ≡ true → Refused (edge_refusal k list.Only s.read) ≡ concluded E limit s
+    pub told-fault : (k : ℕ) → k ≡ fault_at E s.read → allowed (size E) limit (s.hits + (size E - s.read)) ≡ true → Err (edge_refusal k list.Only s.read) ≡ concluded E limit s
     unfolding concluded
-    told-fault k q f = ap (λ (x : ℕ). Refused (edge_refusal x list.Only s.read)) q ∙ sym (rw (e, f) refl)
+    told-fault k q f = ap (λ (x : ℕ). Err (edge_refusal x list.Only s.read)) q ∙ sym (rw (e, f) refl)
 
-    pub told-no : allowed (size E) limit (s.hits + (size E - s.read)) ≡ false → Judged (record { within = false; read = s.read }) ≡ concluded E limit s
+    pub told-no : allowed (size E) limit (s.hits + (size E - s.read)) ≡ false → Ok (record { within = false; read = s.read }) ≡ concluded E limit s
     unfolding concluded
     told-no f = sym (rw (e, f) refl)
 
 -- ---- the two ends
 module _ (E : EdgeList) (t row col : ℕ) (B : Board) (limit : Float) (a : Admission) (e : a ≡ within_admission E t row col B limit) where
-  pub within-refused : (r : Refusal) → a ≡ admission.Refused r → Refused r ≡ within_answer E t row col B limit
+  pub within-refused : (r : Refusal) → a ≡ Err r → Err r ≡ within_answer E t row col B limit
   unfolding within_answer
   within-refused r n = ap (λ (x : Admission). or_judged x (judged_of E t row col B limit)) (sym n ∙ e)
 
-  pub within-judged : (s : Stop) (r : WithinAnswer) → a ≡ admission.Accepted → s ≡ stop_of E t row col B limit → r ≡ concluded E limit s → r ≡ within_answer E t row col B limit
+  pub within-judged : (s : Stop) (r : WithinAnswer) → a ≡ accepted → s ≡ stop_of E t row col B limit → r ≡ concluded E limit s → r ≡ within_answer E t row col B limit
   unfolding within_answer judged_of
   within-judged s r z k d = d ∙ ap (concluded E limit) k ∙ ap (λ (x : Admission). or_judged x (concluded E limit (stop_of E t row col B limit))) (sym z ∙ e)

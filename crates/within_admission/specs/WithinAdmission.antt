@@ -5,7 +5,7 @@ use Rattle.laws.specs.Words.{one_f}
 use Rattle.board.specs.declared.edge.Edge.{Edge}
 use Rattle.board.specs.Hits.{EdgeList, Board, size, edge_at}
 use Rattle.board.specs.Domain.{BoardOk}
-use Rattle.refusals.specs.declared.Admission.{Admission}
+use Rattle.refusals.specs.Admission.{Admission}
 use Rattle.refusals.specs.Numbers as why
 use Rattle.checks.specs.Checks.{far, lengths_differ, size_bad, origin_bad}
 use Rattle.ranges.specs.Ranges.{in_range}

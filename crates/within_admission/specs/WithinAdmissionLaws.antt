@@ -1,5 +1,5 @@
 -- The ways in which a call is refused or taken on; what an accepted call is known to be; and an edge without a fault.
-use Rattle.std.specs.Prelude.{◌≡◌, refl, Bool, true, false, not, ◌||◌, cond, ℕ, ◌*◌, ◌≤◌, ◌<◌, ltb, eqb, get_or, ℤ, pos, negsuc, nat_abs, Float}
+use Rattle.std.specs.Prelude.{◌≡◌, refl, Bool, true, false, not, ◌||◌, cond, ℕ, ◌*◌, ◌≤◌, ◌<◌, ltb, eqb, get_or, ℤ, pos, negsuc, nat_abs, Float, Err}
 use Rattle.std.proofs.Math.Path.{sym}
 use Rattle.std.proofs.Common.{arith}
 use Rattle.std.proofs.Math.ListN.{length}
@@ -10,7 +10,6 @@ use Rattle.laws.specs.Words.{one_f}
 use Rattle.board.specs.declared.edge.Edge.{Edge}
 use Rattle.board.specs.Hits.{EdgeList, Board, size, edge_at}
 use Rattle.board.specs.Domain.{EdgeOk}
-use Rattle.refusals.specs.declared.Admission.TheVariants.{Accepted, Refused}
 use Rattle.refusals.specs.Numbers.{numbered}
 use Rattle.refusals.specs.Numbers as why
 use Rattle.checks.specs.Checks.{far, lengths_differ, size_bad, origin_bad}
@@ -20,6 +19,7 @@ use Rattle.findings.specs.FindingsLaws.{both-accepted, if-accepted, clean_of, fe
 use Rattle.admission.specs.Refusals.{tables_bad}
 use Rattle.admission.specs.Accepted.{board-ok}
 use Rattle.within_admission.specs.WithinAdmission.{fault_of, fault_at, setting_bad, within_admission, WithinAccepted}
+use Rattle.refusals.specs.Admission.{accepted}
 
 -- ---- an edge without a fault
 near : (z : ℤ) → far z ≡ false → nat_abs z ≤ 1000000
@@ -96,11 +96,11 @@ module _ (e : Edge) (w : Float) where
 
 -- ---- the call
 module _ (E : EdgeList) (t row col : ℕ) (B : Board) (limit : Float) where
-  pub call-lengths : lengths_differ E ≡ true → Refused (numbered why.lengths_differ) ≡ within_admission E t row col B limit
+  pub call-lengths : lengths_differ E ≡ true → Err (numbered why.lengths_differ) ≡ within_admission E t row col B limit
   unfolding within_admission or_else
   call-lengths h = sym (rw h refl)
 
-  pub call-size : lengths_differ E ≡ false → size_bad 0 (size E) ≡ true → Refused (numbered why.list_size) ≡ within_admission E t row col B limit
+  pub call-size : lengths_differ E ≡ false → size_bad 0 (size E) ≡ true → Err (numbered why.list_size) ≡ within_admission E t row col B limit
   unfolding within_admission or_else
   call-size d h = sym (rw (d, h) refl)
 
@@ -110,7 +110,7 @@ module _ (E : EdgeList) (t row col : ℕ) (B : Board) (limit : Float) where
   call-settings tables setting p q d h = rw (p, q) (sym (rw (d, h) refl))
 
   -- WHAT AN ACCEPTED CALL IS
-  pub within-accepted : within_admission E t row col B limit ≡ Accepted → WithinAccepted E t row col B limit
+  pub within-accepted : within_admission E t row col B limit ≡ accepted → WithinAccepted E t row col B limit
   unfolding within_admission settings_findings lengths_differ origin_bad
   within-accepted h =
       let n = size E in

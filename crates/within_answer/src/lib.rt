@@ -11,8 +11,4 @@ pub struct LimitTest {
 }
 
 // The answer of the test.
-#[derive(Clone, Copy)]
-pub enum WithinAnswer {
-    Judged(LimitTest),
-    Refused(Refusal),
-}
+pub type WithinAnswer = Result<LimitTest, Refusal>;

@@ -1,5 +1,5 @@
 -- C-18: the number read is the least for which the answer is certain; the answer is that of match statistics' rate on the full list; and what was not read does not matter.
-use Rattle.std.specs.Prelude.{◌≡◌, Bool, ◌||◌, eqb, get_or, length, Float}
+use Rattle.std.specs.Prelude.{◌≡◌, Bool, ◌||◌, eqb, get_or, length, Float, Err, Ok}
 use Rattle.std.proofs.Math.Path.{refl, sym, ap}
 use Rattle.std.proofs.Common.{ap₂, ◌∙◌, true≢false}
 use Rattle.std.proofs.Math.Bool.{true, false, not, cond}
@@ -18,13 +18,11 @@ use Rattle.board.specs.declared.edge.Edge.{Edge}
 use Rattle.board.specs.Hits.{EdgeList, Board, size, edge_at, edge_hit, hit, hits}
 use Rattle.board.proofs.HitsLaws.{hit-edge}
 use Rattle.refusals.specs.declared.Refusal.{Refusal}
-use Rattle.refusals.specs.declared.Admission.{Admission}
-use Rattle.refusals.specs.declared.Admission.TheVariants as admission
+use Rattle.refusals.specs.Admission.{Admission, accepted}
 use Rattle.refusals.specs.declared.ListName.TheVariants as list
 use Rattle.refusals.specs.Numbers.{edge_refusal}
 use Rattle.answer.specs.declared.MatchStats.{MatchStats}
-use Rattle.answer.specs.declared.StatsAnswer.{StatsAnswer}
-use Rattle.answer.specs.declared.StatsAnswer.TheVariants as stats
+use Rattle.answer.specs.Answers.{StatsAnswer}
 use Rattle.checks.specs.Checks.{far_at, bad_coordinate, first_bad_coordinate}
 use Rattle.ranges.specs.Ranges.{bad_byte, bad_confidence, first_bad_byte, first_bad_confidence, in_range}
 use Rattle.findings.specs.Findings.{or_else, first_of, first_found, settings_findings}
@@ -33,8 +31,7 @@ use Rattle.admission.specs.Refusals.{stats_admission}
 use Rattle.admission.specs.Accepted.{stats-tests-of}
 use Rattle.stats.specs.Stats.{stats_of, stats_answer, or_counted}
 use Rattle.within_answer.specs.declared.LimitTest.{LimitTest}
-use Rattle.within_answer.specs.declared.WithinAnswer.{WithinAnswer}
-use Rattle.within_answer.specs.declared.WithinAnswer.TheVariants.{Judged, Refused}
+use Rattle.within_answer.specs.Answers.{WithinAnswer}
 use Rattle.within_admission.specs.WithinAdmission.{fault_of, fault_at, within_admission}
 use Rattle.within_admission.specs.WithinAdmissionLaws.{no-fault, within-accepted}
 use Rattle.within.specs.declared.Stop.{Stop}
@@ -45,19 +42,19 @@ use Rattle.within_equal.proofs.RateLaws.{more-allowed, fewer-not, one-allows, ra
 
 -- ---- a judged answer is no refusal, and has one test
 abbrev test_of : WithinAnswer → LimitTest → LimitTest
-test_of (Judged j) d = j
-test_of (Refused r) d = d
+test_of (Ok j) d = j
+test_of (Err r) d = d
 
 abbrev is_judged : WithinAnswer → Bool
-is_judged (Judged j) = true
-is_judged (Refused r) = false
+is_judged (Ok j) = true
+is_judged (Err r) = false
 
-one-test : (i j : LimitTest) → Judged i ≡ Judged j → i ≡ j
+one-test : (i j : LimitTest) → ◌≡◌ {A = WithinAnswer} (Ok i) (Ok j) → i ≡ j
 one-test i j e = ap (λ (a : WithinAnswer). test_of a i) e
 
 abbrev refusal_of : WithinAnswer → Refusal → Refusal
-refusal_of (Judged j) d = d
-refusal_of (Refused r) d = r
+refusal_of (Ok j) d = d
+refusal_of (Err r) d = r
 
 -- ---- what is told at a stop
 module _ (E : EdgeList) (limit : Float) (s : Stop) where
@@ -65,36 +62,36 @@ module _ (E : EdgeList) (limit : Float) (s : Stop) where
   n = size E
 
   -- certain: yes or no
-  judged-when : certain n limit s.read s.hits ≡ true → concluded E limit s ≡ Judged (record { within = allowed n limit s.hits; read = s.read })
+  judged-when : certain n limit s.read s.hits ≡ true → concluded E limit s ≡ Ok (record { within = allowed n limit s.hits; read = s.read })
   unfolding concluded certain
   judged-when e = go (allowed n limit s.hits) (allowed n limit (s.hits + (n - s.read))) e
     where
       go : (a b : Bool) → (a || not b) ≡ true
-          → cond a (Judged (record { within = true; read = s.read })) (cond b (Refused (edge_refusal (fault_at E s.read) list.Only s.read)) (Judged (record { within = false; read = s.read })))
-          ≡ Judged (record { within = a; read = s.read })
+          → cond {A = WithinAnswer} a (Ok (record { within = true; read = s.read })) (cond b (Err (edge_refusal (fault_at E s.read) list.Only s.read)) (Ok (record { within = false; read = s.read })))
+          ≡ Ok (record { within = a; read = s.read })
       go true b h = refl
       go false true h = clash h refl
       go false false h = refl
 
   -- not certain: the edge there
-  refused-when : certain n limit s.read s.hits ≡ false → concluded E limit s ≡ Refused (edge_refusal (fault_at E s.read) list.Only s.read)
+  refused-when : certain n limit s.read s.hits ≡ false → concluded E limit s ≡ Err (edge_refusal (fault_at E s.read) list.Only s.read)
   unfolding concluded certain
   refused-when e = go (allowed n limit s.hits) (allowed n limit (s.hits + (n - s.read))) e
     where
       go : (a b : Bool) → (a || not b) ≡ false
-          → cond a (Judged (record { within = true; read = s.read })) (cond b (Refused (edge_refusal (fault_at E s.read) list.Only s.read)) (Judged (record { within = false; read = s.read })))
-          ≡ Refused (edge_refusal (fault_at E s.read) list.Only s.read)
+          → cond {A = WithinAnswer} a (Ok (record { within = true; read = s.read })) (cond b (Err (edge_refusal (fault_at E s.read) list.Only s.read)) (Ok (record { within = false; read = s.read })))
+          ≡ Err (edge_refusal (fault_at E s.read) list.Only s.read)
       go true b h = clash refl h
       go false true h = refl
       go false false h = clash refl h
 
-  told-judged : (j : LimitTest) → concluded E limit s ≡ Judged j → (certain n limit s.read s.hits ≡ true) × (j ≡ record { within = allowed n limit s.hits; read = s.read })
+  told-judged : (j : LimitTest) → concluded E limit s ≡ Ok j → (certain n limit s.read s.hits ≡ true) × (j ≡ record { within = allowed n limit s.hits; read = s.read })
   told-judged j e = ⊎_elim
       (λ t. (t, one-test j _ (sym e ∙ judged-when t)))
       (λ t. absurd (true≢false (ap is_judged (sym e ∙ refused-when t))))
       (cases (certain n limit s.read s.hits))
 
-  told-refused : (r : Refusal) → concluded E limit s ≡ Refused r → (certain n limit s.read s.hits ≡ false) × (r ≡ edge_refusal (fault_at E s.read) list.Only s.read)
+  told-refused : (r : Refusal) → concluded E limit s ≡ Err r → (certain n limit s.read s.hits ≡ false) × (r ≡ edge_refusal (fault_at E s.read) list.Only s.read)
   told-refused r e = ⊎_elim
       (λ t. absurd (true≢false (ap is_judged (sym (judged-when t) ∙ e))))
       (λ t. (t, ap (λ (a : WithinAnswer). refusal_of a r) (sym e ∙ refused-when t)))
@@ -110,9 +107,9 @@ certain-end n limit h = let e : h + (n - n) ≡ h = omega arith in ap (λ (k : �
     go false = refl
 
 -- ---- the answer of a call that was accepted
-answer-parts : (a : Admission) (x : WithinAnswer) (j : LimitTest) → or_judged a x ≡ Judged j → (a ≡ admission.Accepted) × (x ≡ Judged j)
-answer-parts admission.Accepted x j e = (refl, e)
-answer-parts (admission.Refused r) x j e = absurd (true≢false (ap is_judged (sym e)))
+answer-parts : (a : Admission) (x : WithinAnswer) (j : LimitTest) → or_judged a x ≡ Ok j → (a ≡ accepted) × (x ≡ Ok j)
+answer-parts (Ok _) x j e = (refl, e)
+answer-parts (Err r) x j e = absurd (true≢false (ap is_judged (sym e)))
 
 module _ (E : EdgeList) (t row col : ℕ) (B : Board) (limit : Float) where
   abbrev r : ℕ
@@ -143,7 +140,7 @@ module _ (E : EdgeList) (t row col : ℕ) (B : Board) (limit : Float) where
       (compared r (size E))
 
   -- THE NUMBER READ IS THE LEAST: after what was read the answer is certain, and after fewer edges it is not
-  pub least-read : (j : LimitTest) → within_answer E t row col B limit ≡ Judged j → LeastRead E t row col B limit j
+  pub least-read : (j : LimitTest) → within_answer E t row col B limit ≡ Ok j → LeastRead E t row col B limit j
   unfolding within_answer judged_of stop_of
   least-read j e =
       let a = answer-parts (within_admission E t row col B limit) (judged_of E t row col B limit) j e in
@@ -151,17 +148,17 @@ module _ (E : EdgeList) (t row col : ℕ) (B : Board) (limit : Float) where
       rw k.1 (record { inside = read-inside; enough = k.0; not_before = before-open; good = before-good; answer = refl })
 
   -- A BAD EDGE IS REFUSED ONLY WHERE IT IS REACHED: by its number and its place, and no answer was certain before it
-  pub reached : within_admission E t row col B limit ≡ admission.Accepted → (x : Refusal) → within_answer E t row col B limit ≡ Refused x
+  pub reached : within_admission E t row col B limit ≡ accepted → (x : Refusal) → within_answer E t row col B limit ≡ Err x
       → (p : ℕ) × (x ≡ edge_refusal (fault_at E p) list.Only p) × Reached E t row col B limit p
   unfolding within_answer judged_of stop_of
   reached h x e =
-      let f : concluded E limit (stop_of E t row col B limit) ≡ Refused x = ap (λ (a : Admission). or_judged a (judged_of E t row col B limit)) (sym h) ∙ e in
+      let f : concluded E limit (stop_of E t row col B limit) ≡ Err x = ap (λ (a : Admission). or_judged a (judged_of E t row col B limit)) (sym h) ∙ e in
       let k = told-refused E limit (stop_of E t row col B limit) x f in
       let s = at-stop k.0 in
       (r, k.1, record { inside = s.0; bad = s.1; undecided = λ i l. ⊎_elim (λ m. before-open i m) (λ m. let q : i ≡ r = omega arith in rw q k.0) (compared i r); good = before-good })
 
   -- a judged call was accepted
-  pub judged-accepted : (j : LimitTest) → within_answer E t row col B limit ≡ Judged j → within_admission E t row col B limit ≡ admission.Accepted
+  pub judged-accepted : (j : LimitTest) → within_answer E t row col B limit ≡ Ok j → within_admission E t row col B limit ≡ accepted
   unfolding within_answer
   judged-accepted j e = (answer-parts (within_admission E t row col B limit) (judged_of E t row col B limit) j e).0
 
@@ -184,7 +181,7 @@ module _ (E : EdgeList) (t row col : ℕ) (B : Board) (limit : Float) where
         no false false f g = refl
 
   -- the answer is of all edges, also where some were not read
-  pub of-all-edges : (j : LimitTest) → within_answer E t row col B limit ≡ Judged j → j.within ≡ allowed (size E) limit (hits B E t row col)
+  pub of-all-edges : (j : LimitTest) → within_answer E t row col B limit ≡ Ok j → j.within ≡ allowed (size E) limit (hits B E t row col)
   of-all-edges j e =
       let L = least-read j e in
       let a = within-accepted E t row col B limit (judged-accepted j e) in
@@ -192,35 +189,35 @@ module _ (E : EdgeList) (t row col : ℕ) (B : Board) (limit : Float) where
 
   -- ---- a list that match statistics take
   abbrev counted_of : StatsAnswer → MatchStats → MatchStats
-  counted_of (stats.Counted s) d = s
-  counted_of (stats.Refused x) d = d
+  counted_of (Ok s) d = s
+  counted_of (Err x) d = d
 
   abbrev is_counted : StatsAnswer → Bool
-  is_counted (stats.Counted s) = true
-  is_counted (stats.Refused x) = false
+  is_counted (Ok s) = true
+  is_counted (Err x) = false
 
-  stats-parts : (s : MatchStats) → stats_answer E t row col B ≡ stats.Counted s → (stats_admission E t row col B ≡ admission.Accepted) × (s ≡ stats_of E t row col B)
+  stats-parts : (s : MatchStats) → stats_answer E t row col B ≡ Ok s → (stats_admission E t row col B ≡ accepted) × (s ≡ stats_of E t row col B)
   unfolding stats_answer
   stats-parts s e = go (stats_admission E t row col B) e
     where
-      go : (a : Admission) → or_counted a (stats_of E t row col B) ≡ stats.Counted s → (a ≡ admission.Accepted) × (s ≡ stats_of E t row col B)
-      go admission.Accepted h = (refl, sym (ap (λ (x : StatsAnswer). counted_of x s) h))
-      go (admission.Refused x) h = absurd (true≢false (ap is_counted (sym h)))
+      go : (a : Admission) → or_counted a (stats_of E t row col B) ≡ Ok s → (a ≡ accepted) × (s ≡ stats_of E t row col B)
+      go (Ok _) h = (refl, sym (ap (λ (x : StatsAnswer). counted_of x s) h))
+      go (Err x) h = absurd (true≢false (ap is_counted (sym h)))
 
   -- its rate is the one that is held to the limit
-  pub stats-allowed : (s : MatchStats) → stats_answer E t row col B ≡ stats.Counted s → allowed (size E) limit (hits B E t row col) ≡ le s.error_rate limit
+  pub stats-allowed : (s : MatchStats) → stats_answer E t row col B ≡ Ok s → allowed (size E) limit (hits B E t row col) ≡ le s.error_rate limit
   unfolding allowed stats_of
   stats-allowed s e = ap (λ (x : MatchStats). le x.error_rate limit) (sym (stats-parts s e).1)
 
   -- it is accepted here too
-  pub stats-admitted : (s : MatchStats) → stats_answer E t row col B ≡ stats.Counted s → in_range one_f limit ≡ true → within_admission E t row col B limit ≡ admission.Accepted
+  pub stats-admitted : (s : MatchStats) → stats_answer E t row col B ≡ Ok s → in_range one_f limit ≡ true → within_admission E t row col B limit ≡ accepted
   unfolding within_admission first_found first_of or_else settings_findings
   stats-admitted s e h =
       let k = stats-tests-of E t row col B (stats-parts s e).0 in
       rw (k.list.lengths, k.list.sizes, k.transform, k.tables, k.origin, h) refl
 
   -- and none of its edges is bad
-  stats-good : (s : MatchStats) → stats_answer E t row col B ≡ stats.Counted s → (i : ℕ) → i < size E → fault_at E i ≡ 0
+  stats-good : (s : MatchStats) → stats_answer E t row col B ≡ Ok s → (i : ℕ) → i < size E → fault_at E i ≡ 0
   unfolding first_bad_coordinate first_bad_byte first_bad_confidence
   stats-good s e i l =
       let k = (stats-tests-of E t row col B (stats-parts s e).0).list in
@@ -235,15 +232,15 @@ module _ (E : EdgeList) (t row col : ℕ) (B : Board) (limit : Float) where
       })
 
   -- AS MATCH STATISTICS: of a list that they take the answer is yes exactly where their rate is at most the limit
-  pub as-match-stats : (s : MatchStats) → stats_answer E t row col B ≡ stats.Counted s → in_range one_f limit ≡ true
-      → within_answer E t row col B limit ≡ Judged (record { within = le s.error_rate limit; read = read_to E t row col B limit })
+  pub as-match-stats : (s : MatchStats) → stats_answer E t row col B ≡ Ok s → in_range one_f limit ≡ true
+      → within_answer E t row col B limit ≡ Ok (record { within = le s.error_rate limit; read = read_to E t row col B limit })
   unfolding within_answer judged_of stop_of
   as-match-stats s e h =
       let a = stats-admitted s e h in
       let c : certain_after E t row col B limit r ≡ true = ⊎_elim (λ y. y) (λ y. let z = at-stop y in absurd (z.1 (stats-good s e r z.0))) (cases (certain_after E t row col B limit r)) in
       let w = judged-when E limit (stop_of E t row col B limit) c in
-      let k : within_answer E t row col B limit ≡ Judged (record { within = allowed (size E) limit (hits_to E t row col B r); read = r }) = ap (λ (x : Admission). or_judged x (judged_of E t row col B limit)) a ∙ w in
-      k ∙ ap (λ (b : Bool). Judged (record { within = b; read = r })) (of-all-edges _ k ∙ stats-allowed s e)
+      let k : within_answer E t row col B limit ≡ Ok (record { within = allowed (size E) limit (hits_to E t row col B r); read = r }) = ap (λ (x : Admission). or_judged x (judged_of E t row col B limit)) a ∙ w in
+      k ∙ ap (λ (b : Bool). Ok (record { within = b; read = r })) (of-all-edges _ k ∙ stats-allowed s e)
 
 -- ---- lists that agree on what was read
 module _ (E F : EdgeList) (t row col : ℕ) (B : Board) (limit : Float) (m : ℕ) (same : Agree m E F) where
@@ -261,8 +258,8 @@ module _ (E F : EdgeList) (t row col : ℕ) (B : Board) (limit : Float) (m : ℕ
   agree-fault i l = ap₂ fault_of (same.edge i l) (same.confidence i l)
 
 -- NOTHING ELSE WAS READ: a list of the same length that agrees on the edges read has the same answer, whatever stands in its other edges
-pub nothing-else-read : (E F : EdgeList) (t row col : ℕ) (B : Board) (limit : Float) (j : LimitTest) → within_answer E t row col B limit ≡ Judged j → Agree j.read E F
-    → within_admission F t row col B limit ≡ admission.Accepted → within_answer F t row col B limit ≡ Judged j
+pub nothing-else-read : (E F : EdgeList) (t row col : ℕ) (B : Board) (limit : Float) (j : LimitTest) → within_answer E t row col B limit ≡ Ok j → Agree j.read E F
+    → within_admission F t row col B limit ≡ accepted → within_answer F t row col B limit ≡ Ok j
 unfolding within_answer judged_of stop_of read_to stops_at
 nothing-else-read E F t row col B limit j e same h =
     let L = least-read E t row col B limit j e in
@@ -274,7 +271,7 @@ nothing-else-read E F t row col B limit j e same h =
     let s : stop_of F t row col B limit ≡ record { read = m; hits = hits_to F t row col B m } = ap (λ (k : ℕ). record { read = k; hits = hits_to F t row col B k }) q in
     let w = judged-when F limit (record { read = m; hits = hits_to F t row col B m }) c in
     let b : allowed (size F) limit (hits_to F t row col B m) ≡ j.within = ap₂ (λ (n k : ℕ). allowed n limit k) same.size (agree-hits E F t row col B limit m same m (omega arith)) ∙ sym L.answer in
-    ap (λ (x : Admission). or_judged x (judged_of F t row col B limit)) h ∙ ap (concluded F limit) s ∙ w ∙ ap (λ (x : Bool). Judged (record { within = x; read = m })) b
+    ap (λ (x : Admission). or_judged x (judged_of F t row col B limit)) h ∙ ap (concluded F limit) s ∙ w ∙ ap (λ (x : Bool). Ok (record { within = x; read = m })) b
   where
     neither : (a : Bool) (k : ℕ) → a ≡ false → k ≡ 0 → (a || not (eqb k 0)) ≡ false
     neither a k p z = rw (p, eq-eqb k 0 z) refl
@@ -283,23 +280,23 @@ nothing-else-read E F t row col B limit j e same h =
     either a b p = rw p refl
 
 -- ---- nothing to read
-module _ (E : EdgeList) (t row col : ℕ) (B : Board) (limit : Float) (h : within_admission E t row col B limit ≡ admission.Accepted) where
+module _ (E : EdgeList) (t row col : ℕ) (B : Board) (limit : Float) (h : within_admission E t row col B limit ≡ accepted) where
   -- an answer that is certain at once
-  at_once : (b : Bool) → certain_after E t row col B limit 0 ≡ true → allowed (size E) limit (hits_to E t row col B 0) ≡ b → within_answer E t row col B limit ≡ Judged (record { within = b; read = 0 })
+  at_once : (b : Bool) → certain_after E t row col B limit 0 ≡ true → allowed (size E) limit (hits_to E t row col B 0) ≡ b → within_answer E t row col B limit ≡ Ok (record { within = b; read = 0 })
   unfolding within_answer judged_of stop_of read_to stops_at
   at_once b c q =
       let z : read_to E t row col B limit ≡ 0 = first-least (stops_at E t row col B limit) (size E) 0 (omega arith) (λ i l. absurd (omega arith)) (λ l. rw c refl) in
       let s : stop_of E t row col B limit ≡ record { read = 0; hits = hits_to E t row col B 0 } = ap (λ (k : ℕ). record { read = k; hits = hits_to E t row col B k }) z in
       ap (λ (x : Admission). or_judged x (judged_of E t row col B limit)) h ∙ ap (concluded E limit) s ∙ judged-when E limit (record { read = 0; hits = hits_to E t row col B 0 }) c
-      ∙ ap (λ (x : Bool). Judged (record { within = x; read = 0 })) q
+      ∙ ap (λ (x : Bool). Ok (record { within = x; read = 0 })) q
 
   -- THE EMPTY LIST answers by rate 1
-  pub empty-by-one : size E ≡ 0 → within_answer E t row col B limit ≡ Judged (record { within = le one_f limit; read = 0 })
+  pub empty-by-one : size E ≡ 0 → within_answer E t row col B limit ≡ Ok (record { within = le one_f limit; read = 0 })
   unfolding allowed
   empty-by-one z = at_once (le one_f limit) (rw z (certain-end 0 limit (hits_to E t row col B 0))) (ap (λ (x : Float). le x limit) (rate-none (size E) (hits_to E t row col B 0) z))
 
   -- WITH THE LIMIT 1 nothing is read: every rate is within it
-  pub one-reads-nothing : limit ≡ one_f → within_answer E t row col B limit ≡ Judged (record { within = true; read = 0 })
+  pub one-reads-nothing : limit ≡ one_f → within_answer E t row col B limit ≡ Ok (record { within = true; read = 0 })
   unfolding certain
   one-reads-nothing q =
       let f = (within-accepted E t row col B limit h).columns.few in

@@ -4,7 +4,7 @@ use mathlib.Core.List.{[]}
 use Prim.Native.Nat.{◌<◌, ◌≤◌}
 use native.Mathlib.Omega.{arith}
 use lib.ListN.{length}
-use Rattle.board.specs.Hits.{Board, edges, tables}
+use Rattle.board.specs.Hits.{Board}
 use Rattle.board.specs.Sides.{period_of}
 use Rattle.board.specs.Domain.{BoardOk}
 use Rattle.board.specs.DomainLaws.{edge-ok}
@@ -12,6 +12,7 @@ use Rattle.laws.specs.Modulus.{modulus_of}
 use Rattle.classes.specs.declared.Three.{Three}
 use Rattle.classes.specs.ClassesLaws.{so_far, so-far-none, so_far_more, so-far-few, so-far-all}
 use Rattle.classes.proofs.long_hits.Goals as goal
+use Rattle.board.specs.Given.{board_of, edges_of}
 
 pub matrix_of-matrix-requires : goal.matrix_of-matrix-requires
 matrix_of-matrix-requires c = c.requires.0.transform
@@ -29,12 +30,12 @@ period_of-requires c = tt
 
 pub overflow_cast-period_of : goal.overflow_cast-period_of
 overflow_cast-period_of c =
-    let length-in : (3 < c.period_of.result) × (c.period_of.result ≤ 500) = rw c.period_of.ensures (sized (tables c.args.h.now c.args.v.now) c.requires.0.board c.args.horizontal) in
+    let length-in : (3 < c.period_of.result) × (c.period_of.result ≤ 500) = rw c.period_of.ensures (sized (board_of c.args.tables) c.requires.0.board c.args.horizontal) in
     omega (arith, (length-in).1)
 
 pub modulus_of-period-requires : goal.modulus_of-period-requires
 modulus_of-period-requires c =
-    let length-in : (3 < c.period_of.result) × (c.period_of.result ≤ 500) = rw c.period_of.ensures (sized (tables c.args.h.now c.args.v.now) c.requires.0.board c.args.horizontal) in
+    let length-in : (3 < c.period_of.result) × (c.period_of.result ≤ 500) = rw c.period_of.ensures (sized (board_of c.args.tables) c.requires.0.board c.args.horizontal) in
     (omega (arith, (length-in).0), (length-in).1)
 
 pub loop-i-init : goal.loop-i-init
@@ -49,12 +50,12 @@ edge_at-edge-requires c =
 pub count_edge-sum-requires : goal.count_edge-sum-requires
 count_edge-sum-requires c =
     let p = c.requires in
-    let f = so-far-few (tables c.args.h.now c.args.v.now) (let a = c.args in edges a.rows.now a.cols.now a.orientations.now a.bits.now []) c.args.t c.args.horizontal c.args.long (c.loop-i.i) in
+    let f = so-far-few (board_of c.args.tables) (let a = c.args in edges_of a.edges) c.args.t c.args.horizontal c.args.long (c.loop-i.i) in
     let i = c.loop-i.invariant.1 in
     let n = c.loop-i-test.true in
     let m = p.0.list.few in record {
       board_ok = (p.0.board, c.modulus_of-period.ensures ∙ ap modulus_of c.period_of.ensures);
-      edge_ok = (edge-ok (let a = c.args in edges a.rows.now a.cols.now a.orientations.now a.bits.now []) _ p.0.list p.0.transform (c.loop-i.i) n _ c.edge_at-edge.ensures, c.matrix_of-matrix.ensures, c.is_straight-straight.ensures, p.1);
+      edge_ok = (edge-ok (let a = c.args in edges_of a.edges) _ p.0.list p.0.transform (c.loop-i.i) n _ c.edge_at-edge.ensures, c.matrix_of-matrix.ensures, c.is_straight-straight.ensures, p.1);
       a_bound = (omega (arith, ap (λ (s : Three). s.a) i, f.0, n, m), omega (arith, ap (λ (s : Three). s.b) i, f.1, n, m), omega (arith, ap (λ (s : Three). s.c) i, f.2, n, m));
     }
 
@@ -62,9 +63,9 @@ pub overflow_step-i : goal.overflow_step-i
 overflow_step-i c = omega (arith, c.loop-i-test.true, c.requires.0.list.few)
 
 pub loop-i-preserved : goal.loop-i-preserved
-loop-i-preserved c = (omega arith, so_far_more (tables c.args.h.now c.args.v.now) (let a = c.args in edges a.rows.now a.cols.now a.orientations.now a.bits.now []) c.args.t c.args.horizontal c.args.long (c.loop-i.i) c.loop-i.sum _ _ c.loop-i.invariant.1 c.edge_at-edge.ensures c.count_edge-sum.ensures)
+loop-i-preserved c = (omega arith, so_far_more (board_of c.args.tables) (let a = c.args in edges_of a.edges) c.args.t c.args.horizontal c.args.long (c.loop-i.i) c.loop-i.sum _ _ c.loop-i.invariant.1 c.edge_at-edge.ensures c.count_edge-sum.ensures)
 
 pub returns : goal.returns
 returns c =
-    let e : c.loop-i.i ≡ length c.args.rows.now = omega (arith, c.loop-i.invariant.0, c.loop-i-test.false) in
+    let e : c.loop-i.i ≡ length c.args.edges.rows.now = omega (arith, c.loop-i.invariant.0, c.loop-i-test.false) in
     c.loop-i.invariant.1 ∙ ap (so_far _ _ _ _ _) e ∙ so-far-all _ _ _ _ _

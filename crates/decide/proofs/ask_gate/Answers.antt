@@ -3,10 +3,10 @@ use mathlib.Core.Path.{sym, ◌∙◌}
 use Rattle.decide.proofs.ask_gate.Goals as goal
 
 pub returns-then-passes : goal.returns-then-passes
-returns-then-passes c = rw (c.in-Selected.is, sym c.passes.ensures ∙ c.if-passes.true)
+returns-then-passes c = rw (c.in-Ok.is, sym c.passes.ensures ∙ c.if-passes.true)
 
-pub returns-in-Refused : goal.returns-in-Refused
-returns-in-Refused c = rw c.in-Refused.is
+pub returns-in-Err : goal.returns-in-Err
+returns-in-Err c = rw c.in-Err.is
 
 pub returns-else-passes : goal.returns-else-passes
-returns-else-passes c = rw (c.in-Selected.is, sym c.passes.ensures ∙ c.if-passes.false)
+returns-else-passes c = rw (c.in-Ok.is, sym c.passes.ensures ∙ c.if-passes.false)

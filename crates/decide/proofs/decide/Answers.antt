@@ -8,4 +8,4 @@ pub returns : goal.returns
 returns c =
     let d = c.select-selection.ensures in
     let a = c.args in
-    record { answer = c.ask_gate.ensures ∙ ap (gated (length a.rows.now)) d.answer; rooms = d.rooms }
+    record { answer = c.ask_gate.ensures ∙ ap (gated (length a.list.edges.rows.now)) d.answer; rooms = d.rooms }

@@ -1,51 +1,48 @@
+use Rattle.std.proofs.lemmas.Result.{err_from_is_err_and}
 use mathlib.Core.Path.{sym, ◌∙◌}
 use lib.Ieee.{of_bits}
-use Rattle.board.specs.Hits.{edges, tables}
-use Rattle.admission.specs.Calls.{hard_call}
 use Rattle.exact_core.specs.ExactReady.{ready-logical, ready-physical, judge-ready}
 use Rattle.exact_core.specs.ExactCoreLaws.{still-room, core-refused, core-physical-refused, core-judged}
 use Rattle.exact_core.proofs.exact_core.Goals as goal
+use Rattle.admission.specs.CallsGiven.{hard_call_of}
 
 -- the start, seen from the first selection; the first selection, seen from the second
 
-pub select_exact-logical-requires : goal.select_exact-logical-requires
-select_exact-logical-requires c =
+pub select_exact-requires : goal.select_exact-requires
+select_exact-requires c =
     ready-logical ((let a = c.args in
-    hard_call (edges a.lrows.now a.lcols.now a.lorientations.now a.lbits.now a.lconfidences.now)
-    (edges a.prows.now a.pcols.now a.porientations.now a.pbits.now a.pconfidences.now) a.transforms.now (tables a.h.now a.v.now) a.error_limit)) _ _ c.requires _ c.requires.room.1
+    hard_call_of a.call)) _ _ c.requires _ c.requires.room.1
 
-pub select_exact-physical-requires : goal.select_exact-physical-requires
+pub select_exact-requires-2 : goal.select_exact-requires-2
 unfolding of_bits
-select_exact-physical-requires c =
+select_exact-requires-2 c =
     ready-physical ((let a = c.args in
-    hard_call (edges a.lrows.now a.lcols.now a.lorientations.now a.lbits.now a.lconfidences.now)
-    (edges a.prows.now a.pcols.now a.porientations.now a.pbits.now a.pconfidences.now) a.transforms.now (tables a.h.now a.v.now) a.error_limit)) _ _ c.requires _ (still-room ((let a = c.args in
-    hard_call (edges a.lrows.now a.lcols.now a.lorientations.now a.lbits.now a.lconfidences.now)
-    (edges a.prows.now a.pcols.now a.porientations.now a.pbits.now a.pconfidences.now) a.transforms.now (tables a.h.now a.v.now) a.error_limit)) _ _ c.requires c.args.units.now c.requires.room.1 _ c.select_exact-logical.result c.select_exact-logical.ensures)
+    hard_call_of a.call)) _ _ c.requires _ (still-room ((let a = c.args in
+    hard_call_of a.call)) _ _ c.requires c.args.units.now c.requires.room.1 _ c.select_exact.result c.select_exact.ensures)
 
 pub judge_winners-requires : goal.judge_winners-requires
 unfolding of_bits
 judge_winners-requires c =
     judge-ready ((let a = c.args in
-    hard_call (edges a.lrows.now a.lcols.now a.lorientations.now a.lbits.now a.lconfidences.now)
-    (edges a.prows.now a.pcols.now a.porientations.now a.pbits.now a.pconfidences.now) a.transforms.now (tables a.h.now a.v.now) a.error_limit)) _ _ c.requires c.in-Selected.w c.in-Selected.runner (sym c.select_exact-logical.ensures.answer ∙ c.in-Selected.is) c.in-Selected-physical.p _ (sym c.select_exact-physical.ensures.answer ∙ c.in-Selected-physical.is)
+    hard_call_of a.call)) _ _ c.requires c.in_ok-w.w c.in_ok-w.runner (sym c.select_exact.ensures.answer ∙ c.in_ok-w.was) c.in_ok-p.p _ (sym c.select_exact-2.ensures.answer ∙ c.in_ok-p.was)
 
-pub returns-in-Refused : goal.returns-in-Refused
-returns-in-Refused c =
-    core-refused ((let a = c.args in
-    hard_call (edges a.lrows.now a.lcols.now a.lorientations.now a.lbits.now a.lconfidences.now)
-    (edges a.prows.now a.pcols.now a.porientations.now a.pbits.now a.pconfidences.now) a.transforms.now (tables a.h.now a.v.now) a.error_limit)) _ _ c.requires c.args.units.now c.requires.room.1 _ c.select_exact-logical.result c.select_exact-logical.ensures _ c.in-Refused.is
+pub returns-in_err-w : goal.returns-in_err-w
+returns-in_err-w c =
+    let p = err_from_is_err_and c.from_residual.result c.from_residual.ensures.1 in
+    rw (p.1, p.2)
+    (core-refused ((let a = c.args in
+    hard_call_of a.call)) _ _ c.requires c.args.units.now c.requires.room.1 _ c.select_exact.result c.select_exact.ensures _ c.in_err-w.was)
 
-pub returns-in-Refused-physical : goal.returns-in-Refused-physical
+pub returns-in_err-p : goal.returns-in_err-p
 unfolding of_bits
-returns-in-Refused-physical c =
-    core-physical-refused ((let a = c.args in
-    hard_call (edges a.lrows.now a.lcols.now a.lorientations.now a.lbits.now a.lconfidences.now)
-    (edges a.prows.now a.pcols.now a.porientations.now a.pbits.now a.pconfidences.now) a.transforms.now (tables a.h.now a.v.now) a.error_limit)) _ _ c.requires c.args.units.now c.requires.room.1 _ c.select_exact-logical.result c.select_exact-logical.ensures c.in-Selected.w c.in-Selected.runner c.in-Selected.is _ c.select_exact-physical.result c.select_exact-physical.ensures _ c.in-Refused-physical.is
+returns-in_err-p c =
+    let p = err_from_is_err_and c.from_residual-in_err-p.result c.from_residual-in_err-p.ensures.1 in
+    rw (p.1, p.2)
+    (core-physical-refused ((let a = c.args in
+    hard_call_of a.call)) _ _ c.requires c.args.units.now c.requires.room.1 _ c.select_exact.result c.select_exact.ensures c.in_ok-w.w c.in_ok-w.runner c.in_ok-w.was _ c.select_exact-2.result c.select_exact-2.ensures _ c.in_err-p.was)
 
-pub returns-in-Selected-physical : goal.returns-in-Selected-physical
+pub returns : goal.returns
 unfolding of_bits
-returns-in-Selected-physical c =
+returns c =
     core-judged ((let a = c.args in
-    hard_call (edges a.lrows.now a.lcols.now a.lorientations.now a.lbits.now a.lconfidences.now)
-    (edges a.prows.now a.pcols.now a.porientations.now a.pbits.now a.pconfidences.now) a.transforms.now (tables a.h.now a.v.now) a.error_limit)) _ _ c.requires c.args.units.now c.requires.room.1 _ c.select_exact-logical.result c.select_exact-logical.ensures c.in-Selected.w c.in-Selected.runner c.in-Selected.is _ c.select_exact-physical.result c.select_exact-physical.ensures c.in-Selected-physical.p _ _ c.in-Selected-physical.is c.judge_winners.ensures
+    hard_call_of a.call)) _ _ c.requires c.args.units.now c.requires.room.1 _ c.select_exact.result c.select_exact.ensures c.in_ok-w.w c.in_ok-w.runner c.in_ok-w.was _ c.select_exact-2.result c.select_exact-2.ensures c.in_ok-p.p _ _ c.in_ok-p.was c.judge_winners.ensures

@@ -1,12 +1,12 @@
+use Rattle.std.specs.Prelude.{Ok}
 use mathlib.Core.Path.{sym, ap, ◌∙◌}
 use borrow.Author.Tests.{eq-eqb, ne_eqb}
-use Rattle.exact_answer.specs.declared.ExactAnswer.TheVariants.{Found}
 use Rattle.exact_verdict.specs.ExactVerdict.{exact_judged}
 use Rattle.exact_verdict.proofs.judge_exact.Goals as goal
 
 pub returns-then-passes : goal.returns-then-passes
 unfolding exact_judged
-returns-then-passes c = ap Found c.decoded_exact-found.ensures ∙ sym (simp (eq-eqb _ _ c.if-t-s.true, eq-eqb _ _ c.if-w-p.true, eq-eqb _ _ c.if-w-p-2.true, sym c.passes.ensures ∙ c.if-passes.true))
+returns-then-passes c = ap Ok c.decoded_exact-found.ensures ∙ sym (simp (eq-eqb _ _ c.if-t-s.true, eq-eqb _ _ c.if-w-p.true, eq-eqb _ _ c.if-w-p-2.true, sym c.passes.ensures ∙ c.if-passes.true))
 
 pub returns-then-w-p-2 : goal.returns-then-w-p-2
 unfolding exact_judged

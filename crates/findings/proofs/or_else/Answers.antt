@@ -2,8 +2,8 @@
 use Rattle.findings.specs.FindingsLaws.{else-accepted, else-refused}
 use Rattle.findings.proofs.or_else.Goals as goal
 
-pub returns-in-Accepted : goal.returns-in-Accepted
-returns-in-Accepted c = else-accepted _ _ c.in-Accepted.is
+pub returns-in-Ok : goal.returns-in-Ok
+returns-in-Ok c = else-accepted _ _ c.in-Ok.is
 
-pub returns-in-Refused : goal.returns-in-Refused
-returns-in-Refused c = else-refused _ _ _ c.in-Refused.is
+pub returns-in-Err : goal.returns-in-Err
+returns-in-Err c = else-refused _ _ _ c.in-Err.is

@@ -1,46 +1,39 @@
 use lib.Ieee.{of_bits}
-use Rattle.board.specs.Hits.{edges, tables}
-use Rattle.admission.specs.Calls.{hard_call}
+use Rattle.std.proofs.lemmas.Result.{err_from_is_err_and}
 use Rattle.hard.proofs.Ready.{logical-winner, physical-winner}
+use Rattle.admission.specs.CallsGiven.{hard_call_of}
 use Rattle.hard_core.specs.HardLaws.{core-refused, core-physical-refused, core-judged}
 use Rattle.hard_core.proofs.hard_core.Goals as goal
 
-pub bounds-transforms-at : goal.bounds-transforms-at
-bounds-transforms-at c =
-    let a = c.args in
-    let call = hard_call (edges a.lrows.now a.lcols.now a.lorientations.now a.lbits.now a.lconfidences.now) (edges a.prows.now a.pcols.now a.porientations.now a.pbits.now a.pconfidences.now) a.transforms.now (tables a.h.now a.v.now) a.error_limit in
-    (logical-winner call a.counts.now a.weights.now c.requires c.select-logical.result _ _ c.select-logical.ensures.answer c.in-Selected.is).0
+pub returns-in_err-w : goal.returns-in_err-w
+returns-in_err-w c =
+    let p = err_from_is_err_and c.from_residual.result c.from_residual.ensures.1 in
+    rw (p.1, p.2) (core-refused (hard_call_of c.args.call) _ _ c.requires _ _ c.select.result c.select.ensures _ c.in_err-w.was)
 
-pub bounds-transforms-other : goal.bounds-transforms-other
+pub returns-in_err-p : goal.returns-in_err-p
 unfolding of_bits
-bounds-transforms-other c =
+returns-in_err-p c =
+    let p = err_from_is_err_and c.from_residual-in_err-p.result c.from_residual-in_err-p.ensures.1 in
+    rw (p.1, p.2) (core-physical-refused (hard_call_of c.args.call) _ _ c.requires _ _ c.select.result c.select.ensures _ _ c.in_ok-w.was _ _ c.select-2.result c.select-2.ensures _ c.in_err-p.was)
+
+pub bounds-call-at : goal.bounds-call-at
+bounds-call-at c =
     let a = c.args in
-    let call = hard_call (edges a.lrows.now a.lcols.now a.lorientations.now a.lbits.now a.lconfidences.now) (edges a.prows.now a.pcols.now a.porientations.now a.pbits.now a.pconfidences.now) a.transforms.now (tables a.h.now a.v.now) a.error_limit in
-    physical-winner call a.counts.now a.weights.now c.requires c.select-physical.result _ _ c.select-physical.ensures.answer c.in-Selected-physical.is
+    (logical-winner (hard_call_of a.call) a.counts.now a.weights.now c.requires c.select.result _ _ c.select.ensures.answer c.in_ok-w.was).0
+
+pub bounds-call-other : goal.bounds-call-other
+unfolding of_bits
+bounds-call-other c =
+    let a = c.args in
+    physical-winner (hard_call_of a.call) a.counts.now a.weights.now c.requires c.select-2.result _ _ c.select-2.ensures.answer c.in_ok-p.was
 
 pub judge-requires : goal.judge-requires
 judge-requires c =
     let a = c.args in
-    let call = hard_call (edges a.lrows.now a.lcols.now a.lorientations.now a.lbits.now a.lconfidences.now) (edges a.prows.now a.pcols.now a.porientations.now a.pbits.now a.pconfidences.now) a.transforms.now (tables a.h.now a.v.now) a.error_limit in
-    let w = logical-winner call a.counts.now a.weights.now c.requires c.select-logical.result _ _ c.select-logical.ensures.answer c.in-Selected.is in
+    let w = logical-winner (hard_call_of a.call) a.counts.now a.weights.now c.requires c.select.result _ _ c.select.ensures.answer c.in_ok-w.was in
     (w.1, w.2, c.requires.logical.few)
 
-pub returns-in-Refused : goal.returns-in-Refused
-returns-in-Refused c =
-    let a = c.args in
-    let call = hard_call (edges a.lrows.now a.lcols.now a.lorientations.now a.lbits.now a.lconfidences.now) (edges a.prows.now a.pcols.now a.porientations.now a.pbits.now a.pconfidences.now) a.transforms.now (tables a.h.now a.v.now) a.error_limit in
-    core-refused call _ _ c.requires _ _ c.select-logical.result c.select-logical.ensures _ c.in-Refused.is
-
-pub returns-in-Refused-physical : goal.returns-in-Refused-physical
+pub returns : goal.returns
 unfolding of_bits
-returns-in-Refused-physical c =
-    let a = c.args in
-    let call = hard_call (edges a.lrows.now a.lcols.now a.lorientations.now a.lbits.now a.lconfidences.now) (edges a.prows.now a.pcols.now a.porientations.now a.pbits.now a.pconfidences.now) a.transforms.now (tables a.h.now a.v.now) a.error_limit in
-    core-physical-refused call _ _ c.requires _ _ c.select-logical.result c.select-logical.ensures _ _ c.in-Selected.is _ _ c.select-physical.result c.select-physical.ensures _ c.in-Refused-physical.is
-
-pub returns-in-Selected-physical : goal.returns-in-Selected-physical
-unfolding of_bits
-returns-in-Selected-physical c =
-    let a = c.args in
-    let call = hard_call (edges a.lrows.now a.lcols.now a.lorientations.now a.lbits.now a.lconfidences.now) (edges a.prows.now a.pcols.now a.porientations.now a.pbits.now a.pconfidences.now) a.transforms.now (tables a.h.now a.v.now) a.error_limit in
-    core-judged call _ _ c.requires _ _ c.select-logical.result c.select-logical.ensures _ _ c.in-Selected.is _ _ c.select-physical.result c.select-physical.ensures _ _ _ c.in-Selected-physical.is c.judge.ensures
+returns c =
+    core-judged (hard_call_of c.args.call) _ _ c.requires _ _ c.select.result c.select.ensures _ _ c.in_ok-w.was _ _ c.select-2.result c.select-2.ensures _ _ _ c.in_ok-p.was c.judge.ensures

@@ -1,13 +1,13 @@
+use Rattle.std.specs.Prelude.{Ok}
 use mathlib.Core.Path.{sym, ap, ◌∙◌}
 use borrow.Author.Tests.{eq-eqb, ne_eqb}
 use Rattle.figures.specs.Gate.{passed}
-use Rattle.part_answer.specs.declared.PartAnswer.TheVariants.{Found}
 use Rattle.part_verdict.specs.PartVerdict.{part_judged}
 use Rattle.part_verdict.proofs.judge_part.Goals as goal
 
 pub returns-then-passes : goal.returns-then-passes
 unfolding part_judged
-returns-then-passes c = let a = c.args in ap Found c.decoded_part-found.ensures ∙ sym (simp (eq-eqb _ _ c.if-t-s.true, eq-eqb _ _ c.if-w-p.true, eq-eqb _ _ c.if-w-p-2.true, ap (passed a.edges a.w.hits) (sym c.hits_shown-behind.ensures) ∙ sym c.passes.ensures ∙ c.if-passes.true))
+returns-then-passes c = let a = c.args in ap Ok c.decoded_part-found.ensures ∙ sym (simp (eq-eqb _ _ c.if-t-s.true, eq-eqb _ _ c.if-w-p.true, eq-eqb _ _ c.if-w-p-2.true, ap (passed a.edges a.w.hits) (sym c.hits_shown-behind.ensures) ∙ sym c.passes.ensures ∙ c.if-passes.true))
 
 pub returns-then-w-p-2 : goal.returns-then-w-p-2
 unfolding part_judged

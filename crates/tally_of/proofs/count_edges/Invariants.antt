@@ -1,10 +1,10 @@
 use Prim.Native.Nat.{◌-◌}
-use Rattle.board.specs.Hits.{edges, tables}
 use Rattle.tally_of.specs.BegunLaws.{Counting}
 use Rattle.tally_of.proofs.count_edges.Given as goal
+use Rattle.board.specs.Given.{board_of, list_of}
 
 abbrev pub invariant-loop-i : goal.invariant-loop-i
-invariant-loop-i l = Counting (edges l.rows l.cols l.orientations l.bits l.confidences) l.square (tables l.h l.v) l.tally l.i
+invariant-loop-i l = Counting (list_of l.list) l.square (board_of l.tables) l.tally l.i
 
 abbrev pub decreases-loop-i : goal.decreases-loop-i
 decreases-loop-i l = l.i-end - l.i

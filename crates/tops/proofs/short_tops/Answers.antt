@@ -3,10 +3,10 @@ use mathlib.Core.List.{[]}
 use Prim.Native.Nat.{◌<◌}
 use native.Mathlib.Omega.{arith}
 use lib.ListN.{length}
-use Rattle.board.specs.Hits.{edges, tables}
 use Rattle.tops.specs.Tops.{short_tops}
 use Rattle.tops.specs.TopsLaws.{short_none, short-more}
 use Rattle.tops.proofs.short_tops.Goals as goal
+use Rattle.board.specs.Given.{board_of, edges_of}
 
 pub loop-long-init : goal.loop-long-init
 loop-long-init c = (omega arith, short_none _ _ _)
@@ -28,9 +28,9 @@ overflow_add-long c =
     omega (arith, small)
 
 pub loop-long-preserved : goal.loop-long-preserved
-loop-long-preserved c = (omega arith, short-more (tables c.args.h.now c.args.v.now) (let a = c.args in edges a.rows.now a.cols.now a.orientations.now a.bits.now []) c.args.t c.loop-long.long _ _ _ c.loop-long.invariant.1 c.long_hits-x.ensures c.raise-top.ensures)
+loop-long-preserved c = (omega arith, short-more (board_of c.args.tables) (let a = c.args in edges_of a.edges) c.args.t c.loop-long.long _ _ _ c.loop-long.invariant.1 c.long_hits-x.ensures c.raise-top.ensures)
 
 pub returns : goal.returns
 returns c =
-    let e : c.loop-long.long ≡ length c.args.v.now = omega (arith, c.loop-long.invariant.0, c.loop-long-test.false) in
+    let e : c.loop-long.long ≡ length c.args.tables.v.now = omega (arith, c.loop-long.invariant.0, c.loop-long-test.false) in
     c.loop-long.invariant.1 ∙ ap (short_tops _ _ _) e

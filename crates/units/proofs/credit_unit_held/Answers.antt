@@ -4,16 +4,17 @@ use mathlib.Core.Bool.{Bool}
 use mathlib.Core.List.{List}
 use Prim.Native.Nat.{ℕ, ◌+◌, ◌*◌, ◌-◌}
 use lib.ListN.{length, drop, length-drop}
-use Rattle.board.specs.Hits.{Board, tables}
+use Rattle.board.specs.Hits.{Board}
 use Rattle.board.specs.Sides.{table_of}
 use Rattle.room.specs.Room.{is_horizontal}
 use Rattle.units.specs.UnitParts.{RunCreditedU}
 use Rattle.units.specs.UnitPartsLaws.{first-ready_u, second-ready_u, family-credited_u}
 use Rattle.units.proofs.credit_unit_held.Goals as goal
+use Rattle.board.specs.Given.{board_of}
 
 pub credit_unit_run-requires : goal.credit_unit_run-requires
 credit_unit_run-requires c =
-    let B : Board = tables c.args.h.now c.args.v.now in
+    let B : Board = board_of c.args.tables in
     let s : Bool = is_horizontal c.args.side in
     let ps : List ℕ = table_of B s in
     let read : c.patterns_from-part.result.now ≡ drop c.args.family ps = c.patterns_from-part.ensures in
@@ -21,7 +22,7 @@ credit_unit_run-requires c =
 
 pub credit_unit_run-requires-2 : goal.credit_unit_run-requires-2
 credit_unit_run-requires-2 c =
-    let B : Board = tables c.args.h.now c.args.v.now in
+    let B : Board = board_of c.args.tables in
     let s : Bool = is_horizontal c.args.side in
     let ps : List ℕ = table_of B s in
     let read : c.patterns_from-part.result.now ≡ drop c.args.family ps = c.patterns_from-part.ensures in
@@ -31,7 +32,7 @@ credit_unit_run-requires-2 c =
 
 pub returns : goal.returns
 returns c =
-    let B : Board = tables c.args.h.now c.args.v.now in
+    let B : Board = board_of c.args.tables in
     let s : Bool = is_horizontal c.args.side in
     let ps : List ℕ = table_of B s in
     let read : c.patterns_from-part.result.now ≡ drop c.args.family ps = c.patterns_from-part.ensures in

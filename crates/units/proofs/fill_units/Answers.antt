@@ -5,7 +5,7 @@ use native.Mathlib.Omega.{arith}
 use lib.ListN.{length, get_or}
 use Rattle.laws.specs.declared.Modulus.{Modulus}
 use Rattle.laws.specs.Modulus.{modulus-n, modulus-ok}
-use Rattle.board.specs.Hits.{EdgeList, edges}
+use Rattle.board.specs.Hits.{EdgeList}
 use Rattle.room.specs.Room.{row_length}
 use Rattle.groups.specs.Fill.{place_at}
 use Rattle.groups.specs.FillLaws.{place-held}
@@ -13,10 +13,11 @@ use Rattle.units.specs.Units.{value_at}
 use Rattle.units.specs.UnitParts.{UnitsFillReady}
 use Rattle.units.specs.UnitPartsLaws.{ready-held_u, filled-held_u, units-none, unit-room, units-more}
 use Rattle.units.proofs.fill_units.Goals as goal
+use Rattle.board.specs.Given.{list_of}
 
 pub loop-i-init : goal.loop-i-init
 loop-i-init c =
-    let E : EdgeList = edges c.args.rows.now c.args.cols.now c.args.orientations.now c.args.bits.now c.args.confidences.now in
+    let E : EdgeList = list_of c.args.list in
     let h : Modulus = c.modulus_of-h.result in
     let v : Modulus = c.modulus_of-v.result in
     let h-is : h.n ≡ c.args.periods.h = modulus-n _ _ c.modulus_of-h.ensures in
@@ -33,7 +34,7 @@ group_place-p-requires-clause-modulus_ok c = (
 
 pub add_at-requires : goal.add_at-requires
 add_at-requires c =
-    let E : EdgeList = edges c.args.rows.now c.args.cols.now c.args.orientations.now c.args.bits.now c.args.confidences.now in
+    let E : EdgeList = list_of c.args.list in
     let h : Modulus = c.modulus_of-h.result in
     let v : Modulus = c.modulus_of-v.result in
     let h-is : h.n ≡ c.args.periods.h = modulus-n _ _ c.modulus_of-h.ensures in
@@ -49,7 +50,7 @@ add_at-requires c =
 
 pub loop-i-preserved : goal.loop-i-preserved
 loop-i-preserved c =
-    let E : EdgeList = edges c.args.rows.now c.args.cols.now c.args.orientations.now c.args.bits.now c.args.confidences.now in
+    let E : EdgeList = list_of c.args.list in
     let h : Modulus = c.modulus_of-h.result in
     let v : Modulus = c.modulus_of-v.result in
     let h-is : h.n ≡ c.args.periods.h = modulus-n _ _ c.modulus_of-h.ensures in
@@ -64,11 +65,11 @@ loop-i-preserved c =
 
 pub returns : goal.returns
 returns c =
-    let E : EdgeList = edges c.args.rows.now c.args.cols.now c.args.orientations.now c.args.bits.now c.args.confidences.now in
+    let E : EdgeList = list_of c.args.list in
     let h : Modulus = c.modulus_of-h.result in
     let v : Modulus = c.modulus_of-v.result in
     let h-is : h.n ≡ c.args.periods.h = modulus-n _ _ c.modulus_of-h.ensures in
     let v-is : v.n ≡ c.args.periods.v = modulus-n _ _ c.modulus_of-v.ensures in
     let l = c.loop-i in
-    let e : l.i ≡ length c.args.rows.now = omega (arith, l.invariant.0, c.loop-i-test.false) in
+    let e : l.i ≡ length c.args.list.edges.rows.now = omega (arith, l.invariant.0, c.loop-i-test.false) in
     filled-held_u _ _ _ _ E c.args.t c.args.base h-is v-is _ _ e _ _ l.invariant.1

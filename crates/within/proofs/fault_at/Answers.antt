@@ -6,4 +6,4 @@ use Rattle.within_admission.specs.WithinAdmission.{fault_of}
 use Rattle.within.proofs.fault_at.Goals as goal
 
 pub returns : goal.returns
-returns c = let a = c.args in c.fault_of.ensures ∙ ap (λ (e : Edge). fault_of e (get_or a.confidences.now a.i nan)) c.edge_at-edge.ensures
+returns c = let a = c.args in c.fault_of.ensures ∙ ap (λ (e : Edge). fault_of e (get_or a.list.confidences.now a.i nan)) c.edge_at-edge.ensures

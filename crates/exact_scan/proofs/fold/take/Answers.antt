@@ -1,7 +1,7 @@
 use Rattle.exact_scan.proofs.fold.take.Goals as goal
 
-pub returns-in-Nobody : goal.returns-in-Nobody
-returns-in-Nobody c = rw c.in-Nobody.is
+pub returns-in-None : goal.returns-in-None
+returns-in-None c = rw c.in-None.is
 
-pub returns-in-One : goal.returns-in-One
-returns-in-One c = rw (c.in-One.is, c.better-best.ensures)
+pub returns-in-Some : goal.returns-in-Some
+returns-in-Some c = rw (c.in-Some.is, c.better-best.ensures)

@@ -1,14 +1,14 @@
 use Rattle.margin.specs.Choice.{soft_chosen}
 use Rattle.margin.proofs.slots.finish.Goals as goal
 
-pub returns-in-Free : goal.returns-in-Free
+pub returns-in-None : goal.returns-in-None
 unfolding soft_chosen
-returns-in-Free c = rw c.in-Free.is
+returns-in-None c = rw c.in-None.is
 
-pub returns-in-Free-b : goal.returns-in-Free-b
+pub returns-in-None-b : goal.returns-in-None-b
 unfolding soft_chosen
-returns-in-Free-b c = rw (c.in-Held.is, c.in-Free-b.is)
+returns-in-None-b c = rw (c.in-Some.is, c.in-None-b.is)
 
-pub returns-in-Held-b : goal.returns-in-Held-b
+pub returns-in-Some-b : goal.returns-in-Some-b
 unfolding soft_chosen
-returns-in-Held-b c = rw (c.in-Held.is, c.in-Held-b.is)
+returns-in-Some-b c = rw (c.in-Some.is, c.in-Some-b.is)

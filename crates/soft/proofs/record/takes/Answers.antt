@@ -1,10 +1,10 @@
 use Rattle.soft.specs.Scan.{yields}
 use Rattle.soft.proofs.record.takes.Goals as goal
 
-pub returns-in-Free : goal.returns-in-Free
+pub returns-in-None : goal.returns-in-None
 unfolding yields
-returns-in-Free c = rw c.in-Free.is
+returns-in-None c = rw c.in-None.is
 
-pub returns-in-Held : goal.returns-in-Held
+pub returns-in-Some : goal.returns-in-Some
 unfolding yields
-returns-in-Held c = rw c.in-Held.is
+returns-in-Some c = rw c.in-Some.is

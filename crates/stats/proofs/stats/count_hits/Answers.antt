@@ -2,12 +2,12 @@ use mathlib.Core.Path.{◌≡◌, ap, ◌∙◌}
 use native.Mathlib.Omega.{arith}
 use lib.ListN.{length}
 use lib.Ieee.{of_bits}
-use Rattle.board.specs.Hits.{edges, tables}
 use Rattle.board.proofs.HitsLaws.{hit-edge}
 use Rattle.board.specs.DomainLaws.{edges-ok}
 use Rattle.figures.specs.declared.Fit.{Fit}
 use Rattle.stats.specs.StatsLaws.{so_far, so-far-none, so_far_more, so-far-few, so-far-all}
 use Rattle.stats.proofs.stats.count_hits.Goals as goal
+use Rattle.board.specs.Given.{board_of, list_of}
 
 pub matrix_of-matrix-requires : goal.matrix_of-matrix-requires
 matrix_of-matrix-requires c = c.requires.transform
@@ -26,17 +26,17 @@ hit_at-hit-requires c =
       row_bound = (omega (arith, p.origin.0, p.board.h.few), omega (arith, p.origin.1));
     }
 
-pub offset_bounds-confidences-i : goal.offset_bounds-confidences-i
-offset_bounds-confidences-i c = omega (arith, c.loop-i-test.true, c.requires.list.few)
+pub offset_bounds-list-i : goal.offset_bounds-list-i
+offset_bounds-list-i c = omega (arith, c.loop-i-test.true, c.requires.list.few)
 
-pub bounds-confidences-i : goal.bounds-confidences-i
-bounds-confidences-i c = omega (arith, c.loop-i-test.true, c.requires.list.confidences)
+pub bounds-list-i : goal.bounds-list-i
+bounds-list-i c = omega (arith, c.loop-i-test.true, c.requires.list.confidences)
 
 pub add_edge-sum-requires : goal.add_edge-sum-requires
 add_edge-sum-requires c =
     let a = c.args in
-    let E = edges a.rows.now a.cols.now a.orientations.now a.bits.now a.confidences.now in
-    let B = tables a.h.now a.v.now in
+    let E = list_of a.list in
+    let B = board_of a.tables in
     let q = a.square in
     let e : c.loop-i.sum.hits ≡ (so_far E q.transform q.row q.col B c.loop-i.i).hits = ap (λ (s : Fit). s.hits) c.loop-i.invariant.1 in
     omega (arith, so-far-few E q.transform q.row q.col B c.loop-i.i, c.loop-i-test.true, c.requires.list.few)
@@ -47,13 +47,13 @@ overflow_step-i c = omega (arith, c.loop-i-test.true, c.requires.list.few)
 pub loop-i-preserved : goal.loop-i-preserved
 loop-i-preserved c =
     let a = c.args in
-    let E = edges a.rows.now a.cols.now a.orientations.now a.bits.now a.confidences.now in
-    let B = tables a.h.now a.v.now in
+    let E = list_of a.list in
+    let B = board_of a.tables in
     let q = a.square in
     let i = c.loop-i.i in
     (omega arith, so_far_more E q.transform q.row q.col B i c.loop-i.sum _ c.hit_at-hit.result c.loop-i.invariant.1 (c.hit_at-hit.ensures ∙ hit-edge B E q.transform q.row q.col i) c.add_edge-sum.ensures)
 
 pub returns : goal.returns
 returns c =
-    let e : c.loop-i.i ≡ length c.args.rows.now = omega (arith, c.loop-i.invariant.0, c.loop-i-test.false) in
+    let e : c.loop-i.i ≡ length c.args.list.edges.rows.now = omega (arith, c.loop-i.invariant.0, c.loop-i-test.false) in
     c.loop-i.invariant.1 ∙ ap (so_far _ _ _ _ _) e ∙ so-far-all _ _ _ _ _

@@ -2,13 +2,13 @@
 use mathlib.Core.Path.{◌≡◌}
 use Prim.Native.Nat.{◌≤◌, ◌-◌}
 use lib.ListN.{length}
-use Rattle.board.specs.Hits.{edges, tables}
 use Rattle.stats.specs.StatsLaws.{so_far}
 use Rattle.stats.proofs.stats.count_hits.Given as goal
+use Rattle.board.specs.Given.{board_of, list_of}
 
 abbrev pub invariant-loop-i : goal.invariant-loop-i
 invariant-loop-i l =
-    (l.i ≤ length l.rows) × (l.sum ≡ so_far (edges l.rows l.cols l.orientations l.bits l.confidences) l.square.transform l.square.row l.square.col (tables l.h l.v) l.i)
+    (l.i ≤ length l.list.edges.rows.now) × (l.sum ≡ so_far (list_of l.list) l.square.transform l.square.row l.square.col (board_of l.tables) l.i)
 
 abbrev pub decreases-loop-i : goal.decreases-loop-i
 decreases-loop-i l = l.i-end - l.i

@@ -2,14 +2,15 @@
 use mathlib.Core.List.{[]}
 use Prim.Native.Nat.{◌-◌, ◌≤◌}
 use lib.ListN.{length}
-use Rattle.board.specs.Hits.{edges}
 use Rattle.sums.specs.Sums.{likelihoods}
 use Rattle.sums.specs.SumParts.{SumsFilled}
 use Rattle.sums.proofs.sums.fill_sums.Given as goal
+use Rattle.board.specs.Given.{edges_of}
+use Rattle.likelihood.specs.Given.{likelihoods_of}
 
 abbrev pub invariant-loop-i : goal.invariant-loop-i
 invariant-loop-i l =
-    (l.i ≤ length l.rows) × SumsFilled l.h.n l.v.n (edges l.rows l.cols l.orientations l.bits []) (likelihoods l.matches l.mismatches) l.t l.base l.i l.initial.sums l.sums
+    (l.i ≤ length l.edges.rows.now) × SumsFilled l.h.n l.v.n (edges_of l.edges) (likelihoods_of l.likelihoods) l.t l.base l.i l.initial.sums l.sums
 
 abbrev pub decreases-loop-i : goal.decreases-loop-i
 decreases-loop-i l = l.i-end - l.i

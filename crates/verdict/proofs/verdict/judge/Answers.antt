@@ -1,6 +1,6 @@
+use Rattle.std.specs.Prelude.{Ok}
 use mathlib.Core.Path.{sym, ap, ◌∙◌}
 use Rattle.verdict.specs.Verdict.{judged}
-use Rattle.answer.specs.declared.Answer.TheVariants.{Found}
 use Rattle.verdict.proofs.verdict.judge.Goals as goal
 
 pub returns-then-not-same_square : goal.returns-then-not-same_square
@@ -13,4 +13,4 @@ returns-then-not-passes c = c.refuse-then-not-passes.ensures ∙ sym (simp (sym 
 
 pub returns : goal.returns
 unfolding judged
-returns c = ap Found c.decoded.ensures ∙ sym (simp (sym c.same_square.ensures ∙ c.if-not-same_square.false, sym c.passes.ensures ∙ c.if-not-passes.false))
+returns c = ap Ok c.decoded.ensures ∙ sym (simp (sym c.same_square.ensures ∙ c.if-not-same_square.false, sym c.passes.ensures ∙ c.if-not-passes.false))

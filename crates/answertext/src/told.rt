@@ -1,20 +1,20 @@
 // An answer of any decoder, as it is told: hard and soft decode's, exact decode's, or that of the engine without tables.
 ghost use Rattle.std.specs.Prelude.{◌≡◌};
-ghost use Rattle.answertext.specs.Told.{told_of_any, told_of_exact};
+ghost use Rattle.answertext.specs.Told.{told_of_any, told_of_exact, shown_of_told};
 
 use crate::shown::Shown;
 use answer::{AnyAnswer, Decoded, SoftDecoded};
 use exact_answer::{ExactAnswer, ExactDecoded};
 use refusals::Refusal;
 
-// How a view was decoded, by number.
-pub const HARD: u32 = 0;
-
-pub const SOFT: u32 = 1;
-
-pub const EXACT: u32 = 2;
-
-pub const LOCATED: u32 = 3;
+// How a view was decoded: by hits, by log likelihoods, exactly, or without tables.
+#[derive(Clone, Copy, PartialEq, Eq)]
+pub enum How {
+    Hard,
+    Soft,
+    Exact,
+    Located,
+}
 
 // The answer, found by one of the decoders or refused.
 #[derive(Clone, Copy)]
@@ -26,23 +26,42 @@ pub enum Told {
     Refused(Refusal),
 }
 
-// Of hard or soft decode's answer.
-pub fn of_any(answer: AnyAnswer) -> Told
-    ensures { result ≡ told_of_any answer }
-{
-    match answer {
-        AnyAnswer::Hard(d) => Told::Hard(d),
-        AnyAnswer::Soft(d) => Told::Soft(d),
-        AnyAnswer::Refused(refusal) => Told::Refused(refusal),
+// Hard or soft decode's answer.
+impl From<AnyAnswer> for Told {
+    ghost from_gives = { λ answer told. told ≡ told_of_any answer };
+
+    fn from(answer: AnyAnswer) -> Told {
+        match answer {
+            AnyAnswer::Hard(d) => Told::Hard(d),
+            AnyAnswer::Soft(d) => Told::Soft(d),
+            AnyAnswer::Refused(refusal) => Told::Refused(refusal),
+        }
     }
 }
 
-// Of exact decode's answer.
-pub fn of_exact(answer: ExactAnswer) -> Told
-    ensures { result ≡ told_of_exact answer }
-{
-    match answer {
-        ExactAnswer::Found(d) => Told::Exact(d),
-        ExactAnswer::Refused(refusal) => Told::Refused(refusal),
+// Exact decode's answer.
+impl From<ExactAnswer> for Told {
+    ghost from_gives = { λ answer told. told ≡ told_of_exact answer };
+
+    fn from(answer: ExactAnswer) -> Told {
+        match answer {
+            Ok(d) => Told::Exact(d),
+            Err(refusal) => Told::Refused(refusal),
+        }
+    }
+}
+
+impl Told {
+    // What a found answer shows; nothing of a refusal.
+    pub fn shown(self) -> Option<Shown>
+        ensures { result ≡ shown_of_told self }
+    {
+        match self {
+            Told::Hard(d) => Some(d.into()),
+            Told::Soft(d) => Some(d.into()),
+            Told::Exact(d) => Some(d.into()),
+            Told::Located(shown) => Some(shown),
+            Told::Refused(_) => None,
+        }
     }
 }

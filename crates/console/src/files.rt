@@ -1,21 +1,11 @@
 // Files by the names that a program's arguments give, read and made through std, and the messages of what fails. A name is bytes; std opens those that are UTF-8.
 ghost use Rattle.std.specs.Prelude.{◌≤◌, length};
 
-use slices::page::{blank, front, put};
-use std::env::Env;
+use crate::message::warn;
+use slices::page::Page;
 use std::fs::File;
 use std::io::{Error, ErrorKind, Read, Write};
 use std::rt::Files;
-
-// The text of argument i at the start of a word; how long it is, and 0 where there is no such argument or it is longer than a path can be.
-pub fn argument(rt: &impl Env, i: usize, word: &mut [u8; 4096]) -> usize
-    ensures { result ≤ 4096 }
-{
-    match rt.arg(i, word) {
-        Ok(n) => n,
-        Err(_) => 0,
-    }
-}
 
 // The path that a name is.
 fn path_of(name: &[u8]) -> std::io::Result<&str> {
@@ -70,37 +60,24 @@ pub fn read_full<R: Read>(file: &mut R, buf: &mut [u8]) -> usize
     done
 }
 
-// A page written as a message, to standard error. Where that fails there is nobody to tell.
-pub fn warn(rt: HostRuntime, page: &[u8; 32768], n: usize) {
-    let _ = rt.stderr().write_all(front(page, n));
-}
-
-// How far the words of an error go, before the number that std puts behind them in brackets.
-fn words_end(text: &[u8; 256]) -> usize
-    ensures { result ≤ 256 }
-{
-    for i in 0..255usize {
-        if text[i] == 0 || text[i] == b' ' && text[i + 1] == b'(' {
-            return i;
-        }
-    }
-    255
-}
-
-// The words of an error.
-fn put_reason(page: &mut [u8; 32768], at: usize, e: Error) -> usize {
+// The words of an error, before the number that std puts behind them in brackets.
+fn put_reason(page: &mut Page, e: Error) {
     let mut text = [0u8; 256];
     let mut rest: &mut [u8] = &mut text;
     let _ = write!(rest, "{e}");
-    put(page, at, &text[..words_end(&text)])
+    let end = text
+        .windows(2)
+        .position(|pair| matches!(pair, [0, _] | [b' ', b'(']))
+        .unwrap_or(255);
+    page.put(&text[..end]);
 }
 
 // The message of a call of the system that failed: what it was about, and what the system says.
 pub fn fail(rt: HostRuntime, what: &[u8], e: Error) {
-    let mut page = blank();
-    let n = put(&mut page, 0, what);
-    let n = put(&mut page, n, b": ");
-    let n = put_reason(&mut page, n, e);
-    let n = put(&mut page, n, b"\n");
-    warn(rt, &page, n);
+    let mut page = Page::blank();
+    page.put(what);
+    page.put(b": ");
+    put_reason(&mut page, e);
+    page.put(b"\n");
+    warn(rt, &page);
 }

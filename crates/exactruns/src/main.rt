@@ -6,14 +6,13 @@ mod windows; // windows, and lists in which many placings tie
 mod views; // views around 1,024 class pairs, in both modes
 mod refused; // each refusal number
 
-use console::print::print;
 use std::io;
 
 fn main(rt: HostRuntime) -> io::Result<()> {
-    print(&rt, b"== windows ==\n")?;
+    println!(rt; "== windows ==")?;
     windows::show_all(&rt)?;
-    print(&rt, b"== views around 1,024 class pairs ==\n")?;
+    println!(rt; "== views around 1,024 class pairs ==")?;
     views::show_all(&rt)?;
-    print(&rt, b"== refusals ==\n")?;
+    println!(rt; "== refusals ==")?;
     refused::show_all(&rt)
 }

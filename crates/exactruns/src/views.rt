@@ -3,9 +3,12 @@
 // class pairs. The second has eight horizontal edges, one below the other, and one vertical edge, which 25 and 41 classes fit best: 1,025 pairs. The winner of both is row 12, column 21.
 // Document 01's mode tries all origins from 1,025 pairs on, where the unit is lost beside the vertical weights, and takes row 9 of the second list. Each list is decoded with a logical
 // window cut at row 12 and with one cut at row 9: what is found shows the physical winner.
-use console::print::print;
-use runs::cut::{front_f32, front_i32, front_u8, put_window};
+use admission::call::HardCall;
+use board::list::{Edges, List};
+use board::pattern::Tables;
+use runs::cut::put_window;
 use runs::print::{print_answer, print_exact_answer};
+use slices::part::front;
 use std::io;
 
 // 2^-10, and one unit less.
@@ -15,8 +18,8 @@ const LIGHTER: f32 = 16383.0 / 16777216.0;
 
 // A table with one bit set in each of n patterns, from a place on.
 fn fill_ones(table: &mut [u8; 167], from: usize, n: usize) {
-    for i in 0..167 {
-        table[i] = one_within(i, from, n);
+    for (i, pattern) in table.iter_mut().enumerate() {
+        *pattern = one_within(i, from, n);
     }
 }
 
@@ -31,88 +34,104 @@ fn one_within(i: usize, from: usize, n: usize) -> u8 {
 // Hard decode of a window with a physical list of its own.
 fn show_hard<'a>(
     rt: &impl Print,
-    rows: &[i32],
-    cols: &[i32],
-    orientations: &[u8],
-    bits: &[u8],
-    confidences: &[f32],
-    prows: &[i32],
-    pcols: &[i32],
-    porientations: &[u8],
-    pbits: &[u8],
-    pconfidences: &[f32],
+    rows: &'a [i32],
+    cols: &'a [i32],
+    orientations: &'a [u8],
+    bits: &'a [u8],
+    confidences: &'a [f32],
+    prows: &'a [i32],
+    pcols: &'a [i32],
+    porientations: &'a [u8],
+    pbits: &'a [u8],
+    pconfidences: &'a [f32],
     h: &'a [u8],
     v: &'a [u8],
 ) -> io::Result<()> {
     let transforms = [0u8; 1];
     let mut counts = [7u32; 3006];
     let mut weights = [7.0f32; 3006];
-    print(rt, b"  hard: ")?;
-    print_answer(
-        rt,
-        decode_hard::decode_hard(
+    print!(rt; "  hard: ")?;
+    let logical = List {
+        edges: Edges {
             rows,
             cols,
             orientations,
             bits,
-            confidences,
-            prows,
-            pcols,
-            porientations,
-            pbits,
-            pconfidences,
-            &transforms,
-            h,
-            v,
-            0.25,
-            &mut counts,
-            &mut weights,
-        ),
+        },
+        confidences,
+    };
+    let physical = List {
+        edges: Edges {
+            rows: prows,
+            cols: pcols,
+            orientations: porientations,
+            bits: pbits,
+        },
+        confidences: pconfidences,
+    };
+    let call = HardCall {
+        logical,
+        physical,
+        transforms: &transforms,
+        tables: Tables { h, v },
+        error_limit: 0.25,
+    };
+    print_answer(
+        rt,
+        decode_hard::decode_hard(call, &mut counts, &mut weights),
     )
 }
 
 // Exact decode of the same.
 fn show_exact<'a>(
     rt: &impl Print,
-    rows: &[i32],
-    cols: &[i32],
-    orientations: &[u8],
-    bits: &[u8],
-    confidences: &[f32],
-    prows: &[i32],
-    pcols: &[i32],
-    porientations: &[u8],
-    pbits: &[u8],
-    pconfidences: &[f32],
+    rows: &'a [i32],
+    cols: &'a [i32],
+    orientations: &'a [u8],
+    bits: &'a [u8],
+    confidences: &'a [f32],
+    prows: &'a [i32],
+    pcols: &'a [i32],
+    porientations: &'a [u8],
+    pbits: &'a [u8],
+    pconfidences: &'a [f32],
     h: &'a [u8],
     v: &'a [u8],
 ) -> io::Result<()> {
     let transforms = [0u8; 1];
     let mut counts = [7u32; 3006];
     let mut units = [7u64; 3006];
-    print(rt, b"\n  exact: ")?;
-    print_exact_answer(
-        rt,
-        decode_exact::decode_exact(
+    print!(rt; "\n  exact: ")?;
+    let logical = List {
+        edges: Edges {
             rows,
             cols,
             orientations,
             bits,
-            confidences,
-            prows,
-            pcols,
-            porientations,
-            pbits,
-            pconfidences,
-            &transforms,
-            h,
-            v,
-            0.25,
-            &mut counts,
-            &mut units,
-        ),
+        },
+        confidences,
+    };
+    let physical = List {
+        edges: Edges {
+            rows: prows,
+            cols: pcols,
+            orientations: porientations,
+            bits: pbits,
+        },
+        confidences: pconfidences,
+    };
+    let call = HardCall {
+        logical,
+        physical,
+        transforms: &transforms,
+        tables: Tables { h, v },
+        error_limit: 0.25,
+    };
+    print_exact_answer(
+        rt,
+        decode_exact::decode_exact(call, &mut counts, &mut units),
     )?;
-    print(rt, b"\n")
+    println!(rt; "")
 }
 
 // A logical window of 45 by 45 squares cut at a row and column 21 of a board, with this physical list, in both modes.
@@ -144,11 +163,11 @@ fn show_on<'a>(
         row,
         21,
     );
-    let r = front_i32(&rows, n);
-    let c = front_i32(&cols, n);
-    let o = front_u8(&orientations, n);
-    let b = front_u8(&bits, n);
-    let f = front_f32(&ones, n);
+    let r = front(&rows, n);
+    let c = front(&cols, n);
+    let o = front(&orientations, n);
+    let b = front(&bits, n);
+    let f = front(&ones, n);
     show_hard(
         rt,
         r,
@@ -184,7 +203,7 @@ fn show_on<'a>(
 // The same under its name, on the board of these views.
 fn show(
     rt: &impl Print,
-    name: &[u8],
+    name: &str,
     row: u32,
     prows: &[i32],
     pcols: &[i32],
@@ -192,7 +211,7 @@ fn show(
     pbits: &[u8],
     pconfidences: &[f32],
 ) -> io::Result<()> {
-    print(rt, name)?;
+    print!(rt; "{name}")?;
     let mut h = [0u8; 167];
     let mut v = [0u8; 167];
     fill_ones(&mut h, 9, 32);
@@ -211,7 +230,7 @@ fn show(
 }
 
 // 1,024 class pairs.
-fn show_1024(rt: &impl Print, name: &[u8], row: u32) -> io::Result<()> {
+fn show_1024(rt: &impl Print, name: &str, row: u32) -> io::Result<()> {
     let rows = [0i32; 12];
     let cols = [0i32, 0, 0, 1, 2, 3, 4, 5, 6, 7, 8, 9];
     let orientations = [0u8, 0, 1, 1, 1, 1, 1, 1, 1, 1, 1, 1];
@@ -232,7 +251,7 @@ fn show_1024(rt: &impl Print, name: &[u8], row: u32) -> io::Result<()> {
 }
 
 // 1,025 class pairs.
-fn show_1025(rt: &impl Print, name: &[u8], row: u32) -> io::Result<()> {
+fn show_1025(rt: &impl Print, name: &str, row: u32) -> io::Result<()> {
     let rows = [0i32, 0, 1, 2, 3, 4, 5, 6, 7, 0];
     let cols = [0i32; 10];
     let orientations = [0u8, 0, 0, 0, 0, 0, 0, 0, 0, 1];
@@ -254,8 +273,8 @@ fn show_1025(rt: &impl Print, name: &[u8], row: u32) -> io::Result<()> {
 
 // Both lists with both windows.
 pub(crate) fn show_all(rt: &impl Print) -> io::Result<()> {
-    show_1024(rt, b"1024 pairs, logical window at row 12\n", 12)?;
-    show_1025(rt, b"1025 pairs, logical window at row 12\n", 12)?;
-    show_1024(rt, b"1024 pairs, logical window at row 9\n", 9)?;
-    show_1025(rt, b"1025 pairs, logical window at row 9\n", 9)
+    show_1024(rt, "1024 pairs, logical window at row 12\n", 12)?;
+    show_1025(rt, "1025 pairs, logical window at row 12\n", 12)?;
+    show_1024(rt, "1024 pairs, logical window at row 9\n", 9)?;
+    show_1025(rt, "1025 pairs, logical window at row 9\n", 9)
 }

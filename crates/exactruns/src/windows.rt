@@ -1,59 +1,61 @@
 // Exact decode of lists of our own. Both lists are the same one, each confidence is 1 and the limit is 1, where a line does not say otherwise. The lent room holds 7 before each
 // call and is longer than it need be.
-use console::print::print;
-use runs::cut::{fill_patterns, front_f32, front_i32, front_u8, put_window};
+use admission::call::HardCall;
+use board::list::{Edges, List};
+use board::pattern::Tables;
+use runs::cut::{fill_patterns, put_window};
 use runs::lent::print_unit_room;
 use runs::print::print_exact_answer;
+use slices::part::front;
 use std::io;
 
 // Exact decode of the first n edges as both lists, on a board.
 fn show<'a>(
     rt: &impl Print,
-    rows: &[i32; 8193],
-    cols: &[i32; 8193],
-    orientations: &[u8; 8193],
-    bits: &[u8; 8193],
-    confidences: &[f32; 8193],
+    rows: &'a [i32; 8193],
+    cols: &'a [i32; 8193],
+    orientations: &'a [u8; 8193],
+    bits: &'a [u8; 8193],
+    confidences: &'a [f32; 8193],
     n: usize,
-    transforms: &[u8],
+    transforms: &'a [u8],
     h: &'a [u8],
     v: &'a [u8],
 ) -> io::Result<()> {
     let mut counts = [7u32; 6007];
     let mut units = [7u64; 6007];
-    let r = front_i32(rows, n);
-    let c = front_i32(cols, n);
-    let o = front_u8(orientations, n);
-    let b = front_u8(bits, n);
-    let f = front_f32(confidences, n);
-    let answer = decode_exact::decode_exact(
-        r,
-        c,
-        o,
-        b,
-        f,
-        r,
-        c,
-        o,
-        b,
-        f,
+    let r = front(rows, n);
+    let c = front(cols, n);
+    let o = front(orientations, n);
+    let b = front(bits, n);
+    let f = front(confidences, n);
+    let list = List {
+        edges: Edges {
+            rows: r,
+            cols: c,
+            orientations: o,
+            bits: b,
+        },
+        confidences: f,
+    };
+    let call = HardCall {
+        logical: list,
+        physical: list,
         transforms,
-        h,
-        v,
-        1.0,
-        &mut counts,
-        &mut units,
-    );
-    print(rt, b": ")?;
+        tables: Tables { h, v },
+        error_limit: 1.0,
+    };
+    let answer = decode_exact::decode_exact(call, &mut counts, &mut units);
+    print!(rt; ": ")?;
     print_exact_answer(rt, answer)?;
     print_unit_room(rt, &counts, &units)?;
-    print(rt, b"\n")
+    println!(rt; "")
 }
 
 // A clean window of some squares, cut at a placing of a board whose horizontal table has `length` patterns: its first n edges decoded, with these confidences.
 fn show_cut(
     rt: &impl Print,
-    name: &[u8],
+    name: &str,
     length: usize,
     squares: u8,
     n: usize,
@@ -63,12 +65,12 @@ fn show_cut(
     transforms: &[u8],
     confidences: &[f32; 8193],
 ) -> io::Result<()> {
-    print(rt, name)?;
+    print!(rt; "{name}")?;
     let mut h = [0u8; 500];
     let mut v = [0u8; 167];
     fill_patterns(&mut h, 1);
     fill_patterns(&mut v, 2);
-    let board = slices::part::front_u8(&h, length);
+    let board = front(&h, length);
     let mut rows = [0i32; 8193];
     let mut cols = [0i32; 8193];
     let mut orientations = [0u8; 8193];
@@ -85,7 +87,7 @@ fn show_cut(
         row,
         col,
     );
-    let some = if n < count { n } else { count };
+    let some = n.min(count);
     show(
         rt,
         &rows,
@@ -103,7 +105,7 @@ fn show_cut(
 // The same of a whole window of 12 by 12 squares, with one confidence for all edges.
 fn show_window(
     rt: &impl Print,
-    name: &[u8],
+    name: &str,
     length: usize,
     transform: u8,
     row: u32,
@@ -133,7 +135,7 @@ fn boards(rt: &impl Print) -> io::Result<()> {
     let twice = [0u8, 1, 1, 3];
     show_window(
         rt,
-        b"12 by 12 under 0 at 17, 400",
+        "12 by 12 under 0 at 17, 400",
         167,
         0,
         17,
@@ -141,10 +143,10 @@ fn boards(rt: &impl Print) -> io::Result<()> {
         &all,
         1.0,
     )?;
-    show_window(rt, b"12 by 12 under 7 at 1, 2", 167, 7, 1, 2, &all, 1.0)?;
+    show_window(rt, "12 by 12 under 7 at 1, 2", 167, 7, 1, 2, &all, 1.0)?;
     show_window(
         rt,
-        b"a pole of 4, under 0 at 11, 500",
+        "a pole of 4, under 0 at 11, 500",
         4,
         0,
         11,
@@ -154,7 +156,7 @@ fn boards(rt: &impl Print) -> io::Result<()> {
     )?;
     show_window(
         rt,
-        b"a pole of 500, under 0 at 1499, 500",
+        "a pole of 500, under 0 at 1499, 500",
         500,
         0,
         1499,
@@ -164,7 +166,7 @@ fn boards(rt: &impl Print) -> io::Result<()> {
     )?;
     show_window(
         rt,
-        b"under 1 at 500, 0, listed twice",
+        "under 1 at 500, 0, listed twice",
         167,
         1,
         500,
@@ -174,7 +176,7 @@ fn boards(rt: &impl Print) -> io::Result<()> {
     )?;
     show_window(
         rt,
-        b"under 3 at 166, 167, another listed twice",
+        "under 3 at 166, 167, another listed twice",
         167,
         3,
         166,
@@ -190,7 +192,7 @@ fn lengths(rt: &impl Print) -> io::Result<()> {
     let rotations = [0u8, 1, 2, 3];
     show_cut(
         rt,
-        b"8192 edges under 0 at 17, 400",
+        "8192 edges under 0 at 17, 400",
         167,
         65,
         8192,
@@ -202,7 +204,7 @@ fn lengths(rt: &impl Print) -> io::Result<()> {
     )?;
     show_cut(
         rt,
-        b"8193 edges under 0 at 17, 400",
+        "8193 edges under 0 at 17, 400",
         167,
         65,
         8193,
@@ -214,7 +216,7 @@ fn lengths(rt: &impl Print) -> io::Result<()> {
     )?;
     show_cut(
         rt,
-        b"one edge alone",
+        "one edge alone",
         167,
         1,
         1,
@@ -228,7 +230,7 @@ fn lengths(rt: &impl Print) -> io::Result<()> {
 
 // 1,000 edges at row 0 and column 0, all of them horizontal but the second, on a board whose patterns and in a list whose bits are all 0.
 fn all_zero(rt: &impl Print) -> io::Result<()> {
-    print(rt, b"all patterns and bits 0")?;
+    print!(rt; "all patterns and bits 0")?;
     let table = [0u8; 167];
     let zeros = [0i32; 8193];
     let mut orientations = [0u8; 8193];
@@ -262,7 +264,7 @@ fn around_half_a_unit(rt: &impl Print) -> io::Result<()> {
     let first = [0u8; 1];
     show_window(
         rt,
-        b"every confidence 2^-25",
+        "every confidence 2^-25",
         167,
         0,
         17,
@@ -272,7 +274,7 @@ fn around_half_a_unit(rt: &impl Print) -> io::Result<()> {
     )?;
     show_window(
         rt,
-        b"every confidence just below 2^-25",
+        "every confidence just below 2^-25",
         167,
         0,
         17,
@@ -282,7 +284,7 @@ fn around_half_a_unit(rt: &impl Print) -> io::Result<()> {
     )?;
     show_window(
         rt,
-        b"every confidence 2^-26",
+        "every confidence 2^-26",
         167,
         0,
         17,
@@ -290,7 +292,7 @@ fn around_half_a_unit(rt: &impl Print) -> io::Result<()> {
         &first,
         QUARTER,
     )?;
-    show_window(rt, b"every confidence -0", 167, 0, 17, 400, &first, -0.0)
+    show_window(rt, "every confidence -0", 167, 0, 17, 400, &first, -0.0)
 }
 
 // A window of which single edges have other confidences: those that become no unit, and those that become 1, 2, 8,388,608 (from half a unit below 1/2) and 2^24.
@@ -305,7 +307,7 @@ fn mixed(rt: &impl Print) -> io::Result<()> {
     let first = [0u8; 1];
     show_cut(
         rt,
-        b"confidences 2^-25, below it, 2^-26, 3 * 2^-25, 1/2 - 2^-25, 1, and -0 for all others",
+        "confidences 2^-25, below it, 2^-26, 3 * 2^-25, 1/2 - 2^-25, 1, and -0 for all others",
         167,
         12,
         8193,

@@ -6,12 +6,11 @@ mod both; // one list through both engines
 mod windows; // windows of the flat board and of poles, and lists that must be refused
 mod smallest; // the smallest list of which the engines name different runners-up
 
-use console::print::print;
 use std::io;
 
 fn main(rt: HostRuntime) -> io::Result<()> {
-    print(&rt, b"== windows ==\n")?;
+    println!(rt; "== windows ==")?;
     windows::show_all(&rt)?;
-    print(&rt, b"== the smallest list with two runners-up ==\n")?;
+    println!(rt; "== the smallest list with two runners-up ==")?;
     smallest::show_all(&rt)
 }

@@ -2,11 +2,10 @@
 // set in either table, so one placing has two hits, and every other of its horizontal or of its vertical class has one. The tables' runner-up is the first other cell by cell position; the
 // located one is the first origin, row by row. One edge alone is never found, for other origins of its class have as many hits, so no smaller list shows it.
 use crate::both::show_both;
-use console::print::print;
 use std::io;
 
 pub(crate) fn show_all(rt: &impl Print) -> io::Result<()> {
-    print(rt, b"two edges on a pole of 4")?;
+    print!(rt; "two edges on a pole of 4")?;
     let mut h = [0u8; 4];
     h[1] = 1;
     let mut v = [0u8; 167];

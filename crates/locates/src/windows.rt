@@ -1,7 +1,7 @@
 // Windows that `worked` decodes with tables, windows of poles, and lists that must be refused. Each confidence is 1 and the limit is 1, where a line does not say otherwise.
 use crate::both::show_both;
-use console::print::{print, print_form};
-use runs::cut::{fill_patterns, front_f32, front_i32, front_u8, put_window};
+use runs::cut::{fill_patterns, put_window};
+use slices::part::front;
 use std::io;
 
 // A window of some squares, cut at a placing of a board whose horizontal table has `length` patterns: its first n edges, with one confidence for all and the first bit turned or not.
@@ -22,7 +22,7 @@ fn show_cut(
     let mut v = [0u8; 167];
     fill_patterns(&mut h, 1);
     fill_patterns(&mut v, 2);
-    let board = slices::part::front_u8(&h, length);
+    let board = front(&h, length);
     let mut rows = [0i32; 8193];
     let mut cols = [0i32; 8193];
     let mut orientations = [0u8; 8193];
@@ -39,17 +39,17 @@ fn show_cut(
         row,
         col,
     );
-    let some = if n < count { n } else { count };
+    let some = n.min(count);
     let first = bits[0] % 2;
     bits[0] = if turned { 1 - first } else { first };
     let confidences = [confidence; 8193];
     show_both(
         rt,
-        front_i32(&rows, some),
-        front_i32(&cols, some),
-        front_u8(&orientations, some),
-        front_u8(&bits, some),
-        front_f32(&confidences, some),
+        front(&rows, some),
+        front(&cols, some),
+        front(&orientations, some),
+        front(&bits, some),
+        front(&confidences, some),
         transforms,
         board,
         &v,
@@ -60,14 +60,14 @@ fn show_cut(
 // A clean window of 12 by 12 squares of such a board.
 fn show_window(
     rt: &impl Print,
-    name: &[u8],
+    name: &str,
     length: usize,
     transform: u8,
     row: u32,
     col: u32,
     transforms: &[u8],
 ) -> io::Result<()> {
-    print(rt, name)?;
+    print!(rt; "{name}")?;
     show_cut(
         rt, length, 12, 8193, transform, row, col, transforms, 1.0, false, 1.0,
     )
@@ -75,11 +75,9 @@ fn show_window(
 
 // The same of the flat board over all transforms, under its placing.
 fn show_clean(rt: &impl Print, transform: u8, row: u32, col: u32) -> io::Result<()> {
-    let wholes = [transform as u32, row, col];
-    let none = [0.0f32; 1];
-    print_form(rt, b"12 by 12 under % at %, %", &wholes, &none)?;
+    print!(rt; "12 by 12 under {transform} at {row}, {col}")?;
     let all = [0u8, 1, 2, 3, 4, 5, 6, 7];
-    show_window(rt, b"", 167, transform, row, col, &all)
+    show_window(rt, "", 167, transform, row, col, &all)
 }
 
 // A clean window under each transform.
@@ -100,7 +98,7 @@ fn listed_and_poles(rt: &impl Print) -> io::Result<()> {
     let rotations = [0u8, 1, 2, 3];
     show_window(
         rt,
-        b"under 1 at 500, 0, listed twice",
+        "under 1 at 500, 0, listed twice",
         167,
         1,
         500,
@@ -109,7 +107,7 @@ fn listed_and_poles(rt: &impl Print) -> io::Result<()> {
     )?;
     show_window(
         rt,
-        b"under 3 at 166, 167, another listed twice",
+        "under 3 at 166, 167, another listed twice",
         167,
         3,
         166,
@@ -118,7 +116,7 @@ fn listed_and_poles(rt: &impl Print) -> io::Result<()> {
     )?;
     show_window(
         rt,
-        b"a pole of 4, under 0 at 11, 500",
+        "a pole of 4, under 0 at 11, 500",
         4,
         0,
         11,
@@ -127,7 +125,7 @@ fn listed_and_poles(rt: &impl Print) -> io::Result<()> {
     )?;
     show_window(
         rt,
-        b"a pole of 500, under 0 at 1499, 500",
+        "a pole of 500, under 0 at 1499, 500",
         500,
         0,
         1499,
@@ -139,14 +137,14 @@ fn listed_and_poles(rt: &impl Print) -> io::Result<()> {
 // The first n edges of a window at 17, 400 over the rotations, with a confidence, the first bit turned or not, and a limit.
 fn show_list(
     rt: &impl Print,
-    name: &[u8],
+    name: &str,
     squares: u8,
     n: usize,
     confidence: f32,
     turned: bool,
     limit: f32,
 ) -> io::Result<()> {
-    print(rt, name)?;
+    print!(rt; "{name}")?;
     let rotations = [0u8, 1, 2, 3];
     show_cut(
         rt, 167, squares, n, 0, 17, 400, &rotations, confidence, turned, limit,
@@ -155,15 +153,15 @@ fn show_list(
 
 // The limits of a list's length, one edge alone, and the late refusals.
 fn lists(rt: &impl Print) -> io::Result<()> {
-    show_list(rt, b"8192 edges", 65, 8192, 1.0, false, 1.0)?;
-    show_list(rt, b"8193 edges", 65, 8193, 1.0, false, 1.0)?;
-    show_list(rt, b"one edge alone", 1, 1, 1.0, false, 1.0)?;
-    show_list(rt, b"an empty list", 12, 0, 1.0, false, 1.0)?;
-    show_list(rt, b"every confidence -0", 12, 8193, -0.0, false, 1.0)?;
-    show_list(rt, b"every confidence 1.5", 12, 8193, 1.5, false, 1.0)?;
+    show_list(rt, "8192 edges", 65, 8192, 1.0, false, 1.0)?;
+    show_list(rt, "8193 edges", 65, 8193, 1.0, false, 1.0)?;
+    show_list(rt, "one edge alone", 1, 1, 1.0, false, 1.0)?;
+    show_list(rt, "an empty list", 12, 0, 1.0, false, 1.0)?;
+    show_list(rt, "every confidence -0", 12, 8193, -0.0, false, 1.0)?;
+    show_list(rt, "every confidence 1.5", 12, 8193, 1.5, false, 1.0)?;
     show_list(
         rt,
-        b"one edge of 288 missed, limit 0.01",
+        "one edge of 288 missed, limit 0.01",
         12,
         8193,
         1.0,
@@ -172,7 +170,7 @@ fn lists(rt: &impl Print) -> io::Result<()> {
     )?;
     show_list(
         rt,
-        b"one edge of 288 missed, limit 0.001",
+        "one edge of 288 missed, limit 0.001",
         12,
         8193,
         1.0,

@@ -1,30 +1,19 @@
 // What the command says of itself.
-use console::files::warn;
-use console::page::say;
-use slices::page::{blank, put};
+use console::message::warn;
+use slices::page::Page;
 use std::io;
 
 // How it is used, in one line.
-fn put_use(page: &mut [u8; 32768], at: usize) -> usize {
-    put(
-        page,
-        at,
-        b"use: samburext [--plain] [--exact | --no-tables] [--map FILE.svg] BOARD VIEW\n",
-    )
+fn put_use(page: &mut Page) {
+    page.put(b"use: samburext [--plain] [--exact | --no-tables] [--map FILE.svg] BOARD VIEW\n");
 }
 
 // All of it, as an answer: what it is, how it is used, the files with an example, and what the answer says.
 pub fn show(rt: &impl Print) -> io::Result<()> {
-    let mut page = blank();
-    let n = put(
-        &mut page,
-        0,
-        b"samburext tells which square of a PuzzleBoard a camera faces, or refuses.\n\n",
-    );
-    let n = put_use(&mut page, n);
-    let n = put(
-        &mut page,
-        n,
+    let mut page = Page::blank();
+    page.put(b"samburext tells which square of a PuzzleBoard a camera faces, or refuses.\n\n");
+    put_use(&mut page);
+    page.put(
         b"\n\
         BOARD has two lines of digits from 0 to 7: the patterns of the horizontal edges, then of the vertical\n\
         edges. The flat board has 167 in each. A target wrapped round a pole has L in the first, L from 4 to\n\
@@ -65,13 +54,13 @@ pub fn show(rt: &impl Print) -> io::Result<()> {
         \n\
         Exit status: 0 found, 1 refused, 2 bad use or a file that cannot be read.\n",
     );
-    say(rt, &page, n)
+    rt.write_all(page.text())
 }
 
 // How it is used, as a message.
 pub fn show_use(rt: HostRuntime) {
-    let mut page = blank();
-    let n = put_use(&mut page, 0);
-    let n = put(&mut page, n, b"samburext --help says more\n");
-    warn(rt, &page, n);
+    let mut page = Page::blank();
+    put_use(&mut page);
+    page.put(b"samburext --help says more\n");
+    warn(rt, &page);
 }

@@ -6,12 +6,11 @@ mod shown; // an answer over a part, as text
 mod windows; // windows of the flat board, over parts and over the whole board
 mod refused; // each refusal number
 
-use console::print::print;
 use std::io;
 
 fn main(rt: HostRuntime) -> io::Result<()> {
-    print(&rt, b"== windows ==\n")?;
+    println!(rt; "== windows ==")?;
     windows::show_all(&rt)?;
-    print(&rt, b"== refusals ==\n")?;
+    println!(rt; "== refusals ==")?;
     refused::show_all(&rt)
 }

@@ -1,50 +1,45 @@
 // Each refusal of decode over a part. A good call is a clean 12 by 12 window at 17, 400 as both lists, over the four rotations and the 40 by 40 origins from 490, 390; each line has one fault, by
 // its refusal's number.
 use crate::shown::print_part_answer;
-use console::print::print;
+use admission::call::HardCall;
+use board::list::{Edges, List};
+use board::pattern::Tables;
 use part::Part;
-use runs::cut::{fill_patterns, front_f32, front_i32, front_u8, put_window};
+use runs::cut::{fill_patterns, put_window};
 use runs::lent::print_unit_room;
-use slices::part::{room_u32, room_u64};
+use slices::part::{front, front_mut};
 use std::io;
 
-// The faults: refusals by their numbers, and more: 1 by the u64 room, 10 by the physical list, and 9 by the part.
-const NONE: u32 = 0;
-
-const SHORT_UNITS: u32 = 101;
-
-const PHYSICAL_TEN: u32 = 110;
-
-const ROW: u32 = 191;
-
-const COLUMN: u32 = 192;
-
-const NO_ROWS: u32 = 193;
-
-const COLUMNS: u32 = 194;
-
-const LARGEST: u32 = 195;
-
-const ELSEWHERE: u32 = 196;
-
-// x if yes, else y; one function for each type.
-fn pick(yes: bool, x: usize, y: usize) -> usize {
-    if yes { x } else { y }
+// The one fault of a call: none, or that by which it is refused.
+#[derive(Clone, Copy, PartialEq, Eq)]
+enum Fault {
+    None,
+    ShortCounts,
+    ShortUnits,
+    Lengths,
+    Empty,
+    Column,
+    Orientation,
+    Bit,
+    Confidence,
+    Transform,
+    Table,
+    Limit,
+    PartRow,
+    PartColumn,
+    PartNoRows,
+    PartColumns,
+    PartLargest,
+    NoLogicalUnits,
+    Missed,
+    PartElsewhere,
+    NoPhysicalUnits,
+    Elsewhere,
+    Twice,
 }
 
-fn pick_u32(yes: bool, x: u32, y: u32) -> u32 {
-    if yes { x } else { y }
-}
-
-fn pick_f32(yes: bool, x: f32, y: f32) -> f32 {
-    if yes { x } else { y }
-}
-
-fn pick_i32(yes: bool, x: i32, y: i32) -> i32 {
-    if yes { x } else { y }
-}
-
-fn pick_u8(yes: bool, x: u8, y: u8) -> u8 {
+// x if yes, else y.
+fn pick<T: Copy>(yes: bool, x: T, y: T) -> T {
     if yes { x } else { y }
 }
 
@@ -64,68 +59,85 @@ fn cut(
 }
 
 // The part of a call with a fault.
-fn part_of(fault: u32) -> Part {
-    let row = pick_u32(fault == ELSEWHERE, 18, 490);
-    let rows = pick_u32(fault == NO_ROWS, 0, 40);
+fn part_of(fault: Fault) -> Part {
+    let row = pick(fault == Fault::PartElsewhere, 18, 490);
+    let rows = pick(fault == Fault::PartNoRows, 0, 40);
     Part {
-        row: pick_u32(fault == ROW, 501, row),
-        col: pick_u32(fault == COLUMN, 4294966796, 390),
-        rows: pick_u32(fault == LARGEST, 4294967295, rows),
-        cols: pick_u32(fault == COLUMNS, 502, 40),
+        row: pick(fault == Fault::PartRow, 501, row),
+        col: pick(fault == Fault::PartColumn, 4294966796, 390),
+        rows: pick(fault == Fault::PartLargest, 4294967295, rows),
+        cols: pick(fault == Fault::PartColumns, 502, 40),
     }
 }
 
 // The good call with a fault, on a board.
-fn decode<'a>(rt: &impl Print, fault: u32, h: &'a [u8], v: &'a [u8]) -> io::Result<()> {
+fn decode<'a>(rt: &impl Print, fault: Fault, h: &'a [u8], v: &'a [u8]) -> io::Result<()> {
     let mut rows = [0i32; 8193];
     let mut cols = [0i32; 8193];
     let mut orientations = [0u8; 8193];
     let mut bits = [0u8; 8193];
     let mut pbits = [0u8; 8193];
-    let row = if fault == 12 { 18 } else { 17 };
+    let row = if fault == Fault::Elsewhere { 18 } else { 17 };
     let m = cut(&mut rows, &mut cols, &mut orientations, &mut pbits, row);
     let n = cut(&mut rows, &mut cols, &mut orientations, &mut bits, 17);
-    cols[5] = pick_i32(fault == 4, 1000001, cols[5]);
-    pbits[6] = pick_u8(fault == 17, 2, pbits[6]);
-    bits[0] = pick_u8(fault == 11, 1 - bits[0] % 2, bits[0]);
+    cols[5] = pick(fault == Fault::Column, 1000001, cols[5]);
+    pbits[6] = pick(fault == Fault::Bit, 2, pbits[6]);
+    bits[0] = pick(fault == Fault::Missed, 1 - bits[0] % 2, bits[0]);
     let mut porientations = orientations;
-    porientations[7] = pick_u8(fault == 16, 2, porientations[7]);
+    porientations[7] = pick(fault == Fault::Orientation, 2, porientations[7]);
     let small = 1.0 / 67108864.0;
-    let mut confidences = [pick_f32(fault == 10, small, 1.0); 8193];
-    confidences[8] = pick_f32(fault == 5, 1.5, confidences[8]);
-    let pconfidences = [pick_f32(fault == PHYSICAL_TEN, small, 1.0); 8193];
-    let transforms = [pick_u8(fault == 7, 8, 0), 1, 2, pick_u8(fault == 13, 0, 3)];
+    let mut confidences = [pick(fault == Fault::NoLogicalUnits, small, 1.0); 8193];
+    confidences[8] = pick(fault == Fault::Confidence, 1.5, confidences[8]);
+    let pconfidences = [pick(fault == Fault::NoPhysicalUnits, small, 1.0); 8193];
+    let transforms = [
+        pick(fault == Fault::Transform, 8, 0),
+        1,
+        2,
+        pick(fault == Fault::Twice, 0, 3),
+    ];
     let mut counts = [7u32; 3010];
     let mut units = [7u64; 3010];
-    let some = pick(fault == 3, 0, n);
+    let some = pick(fault == Fault::Empty, 0, n);
+    let logical = List {
+        edges: Edges {
+            rows: front(&rows, some),
+            cols: front(&cols, some),
+            orientations: front(&orientations, some),
+            bits: front(&bits, some),
+        },
+        confidences: front(&confidences, some),
+    };
+    let physical = List {
+        edges: Edges {
+            rows: front(&rows, m),
+            cols: front(&cols, m),
+            orientations: front(&porientations, m),
+            bits: front(&pbits, m),
+        },
+        confidences: front(&pconfidences, pick(fault == Fault::Lengths, 1, m)),
+    };
+    let call = HardCall {
+        logical,
+        physical,
+        transforms: &transforms,
+        tables: Tables { h, v },
+        error_limit: pick(fault == Fault::Limit, 1.5, 0.001),
+    };
     let answer = decode_part::decode_part(
-        front_i32(&rows, some),
-        front_i32(&cols, some),
-        front_u8(&orientations, some),
-        front_u8(&bits, some),
-        front_f32(&confidences, some),
-        front_i32(&rows, m),
-        front_i32(&cols, m),
-        front_u8(&porientations, m),
-        front_u8(&pbits, m),
-        front_f32(&pconfidences, pick(fault == 2, 1, m)),
-        &transforms,
-        h,
-        v,
-        pick_f32(fault == 9, 1.5, 0.001),
+        call,
         part_of(fault),
-        room_u32(&mut counts, pick(fault == 1, 3005, 3010)),
-        room_u64(&mut units, pick(fault == SHORT_UNITS, 3005, 3010)),
+        front_mut(&mut counts, pick(fault == Fault::ShortCounts, 3005, 3010)),
+        front_mut(&mut units, pick(fault == Fault::ShortUnits, 3005, 3010)),
     );
-    print(rt, b": ")?;
+    print!(rt; ": ")?;
     print_part_answer(rt, answer)?;
     print_unit_room(rt, &counts, &units)?;
-    print(rt, b"\n")
+    println!(rt; "")
 }
 
 // The same under its name.
-fn show(rt: &impl Print, name: &[u8], fault: u32) -> io::Result<()> {
-    print(rt, name)?;
+fn show(rt: &impl Print, name: &str, fault: Fault) -> io::Result<()> {
+    print!(rt; "{name}")?;
     let mut h = [0u8; 167];
     let mut v = [0u8; 167];
     fill_patterns(&mut h, 1);
@@ -133,44 +145,52 @@ fn show(rt: &impl Print, name: &[u8], fault: u32) -> io::Result<()> {
     decode(
         rt,
         fault,
-        slices::part::front_u8(&h, pick(fault == 8, 166, 167)),
+        front(&h, pick(fault == Fault::Table, 166, 167)),
         &v,
     )
 }
 
 // The early refusals, in their order.
 fn early(rt: &impl Print) -> io::Result<()> {
-    show(rt, b"u32 room of 3005", 1)?;
-    show(rt, b"u64 room of 3005", SHORT_UNITS)?;
-    show(rt, b"one physical confidence", 2)?;
-    show(rt, b"an empty logical list", 3)?;
-    show(rt, b"column 1000001", 4)?;
-    show(rt, b"orientation 2", 16)?;
-    show(rt, b"bit 2", 17)?;
-    show(rt, b"confidence 1.5", 5)?;
-    show(rt, b"transform 8", 7)?;
-    show(rt, b"a horizontal table of 166, that of a pole", 8)?;
-    show(rt, b"limit 1.5", 9)?;
-    show(rt, b"a part from row 501", ROW)?;
-    show(rt, b"a part from column 4294966796", COLUMN)?;
-    show(rt, b"a part of no rows", NO_ROWS)?;
-    show(rt, b"a part of 502 columns", COLUMNS)?;
-    show(rt, b"a part of 4294967295 rows", LARGEST)
+    show(rt, "u32 room of 3005", Fault::ShortCounts)?;
+    show(rt, "u64 room of 3005", Fault::ShortUnits)?;
+    show(rt, "one physical confidence", Fault::Lengths)?;
+    show(rt, "an empty logical list", Fault::Empty)?;
+    show(rt, "column 1000001", Fault::Column)?;
+    show(rt, "orientation 2", Fault::Orientation)?;
+    show(rt, "bit 2", Fault::Bit)?;
+    show(rt, "confidence 1.5", Fault::Confidence)?;
+    show(rt, "transform 8", Fault::Transform)?;
+    show(
+        rt,
+        "a horizontal table of 166, that of a pole",
+        Fault::Table,
+    )?;
+    show(rt, "limit 1.5", Fault::Limit)?;
+    show(rt, "a part from row 501", Fault::PartRow)?;
+    show(rt, "a part from column 4294966796", Fault::PartColumn)?;
+    show(rt, "a part of no rows", Fault::PartNoRows)?;
+    show(rt, "a part of 502 columns", Fault::PartColumns)?;
+    show(rt, "a part of 4294967295 rows", Fault::PartLargest)
 }
 
 // The call without a fault, and the late refusals, in their order.
 fn late(rt: &impl Print) -> io::Result<()> {
-    show(rt, b"good", NONE)?;
-    show(rt, b"every logical confidence 2^-26", 10)?;
-    show(rt, b"one edge of 288 missed, limit 0.001", 11)?;
+    show(rt, "good", Fault::None)?;
+    show(rt, "every logical confidence 2^-26", Fault::NoLogicalUnits)?;
+    show(rt, "one edge of 288 missed, limit 0.001", Fault::Missed)?;
     show(
         rt,
-        b"a part from row 18, which does not hold the square",
-        ELSEWHERE,
+        "a part from row 18, which does not hold the square",
+        Fault::PartElsewhere,
     )?;
-    show(rt, b"every physical confidence 2^-26", PHYSICAL_TEN)?;
-    show(rt, b"physical list cut at row 18", 12)?;
-    show(rt, b"transform 0 listed twice", 13)
+    show(
+        rt,
+        "every physical confidence 2^-26",
+        Fault::NoPhysicalUnits,
+    )?;
+    show(rt, "physical list cut at row 18", Fault::Elsewhere)?;
+    show(rt, "transform 0 listed twice", Fault::Twice)
 }
 
 // All of them.

@@ -1,130 +1,60 @@
 // Windows of the flat board over parts of it, each beside exact decode of the whole board. Both lists are the same one, each confidence is 1 and the limit is 1. The lent room holds 7 before each
 // call and is longer than it need be.
 use crate::shown::print_part_answer;
-use console::print::print;
+use admission::call::HardCall;
+use board::list::{Edges, List};
+use board::pattern::Tables;
 use part::Part;
-use runs::cut::{fill_patterns, front_f32, front_i32, front_u8, put_window};
+use runs::cut::{fill_patterns, put_window};
 use runs::lent::print_unit_room;
 use runs::print::print_exact_answer;
+use slices::part::{front, front_mut};
 use std::io;
 
-// Exact decode of a list as both lists, over the whole board.
-fn show_whole<'a>(
-    rt: &impl Print,
-    rows: &[i32],
-    cols: &[i32],
-    orientations: &[u8],
-    bits: &[u8],
-    confidences: &[f32],
-    transforms: &[u8],
-    h: &'a [u8],
-    v: &'a [u8],
-) -> io::Result<()> {
+// The call with a list as both lists.
+fn call_of<'a>(list: List<'a>, transforms: &'a [u8], h: &'a [u8], v: &'a [u8]) -> HardCall<'a> {
+    HardCall {
+        logical: list,
+        physical: list,
+        transforms,
+        tables: Tables { h, v },
+        error_limit: 1.0,
+    }
+}
+
+// Exact decode of a call, over the whole board.
+fn show_whole(rt: &impl Print, call: HardCall<'_>) -> io::Result<()> {
     let mut counts = [7u32; 3010];
     let mut units = [7u64; 3010];
-    print(rt, b"\n  whole board: ")?;
+    print!(rt; "\n  whole board: ")?;
     print_exact_answer(
         rt,
-        decode_exact::decode_exact(
-            rows,
-            cols,
-            orientations,
-            bits,
-            confidences,
-            rows,
-            cols,
-            orientations,
-            bits,
-            confidences,
-            transforms,
-            h,
-            v,
-            1.0,
-            &mut counts,
-            &mut units,
-        ),
+        decode_exact::decode_exact(call, &mut counts, &mut units),
     )
 }
 
 // Decode of the same over a part, and what it left in the room.
-fn show_part<'a>(
-    rt: &impl Print,
-    rows: &[i32],
-    cols: &[i32],
-    orientations: &[u8],
-    bits: &[u8],
-    confidences: &[f32],
-    transforms: &[u8],
-    h: &'a [u8],
-    v: &'a [u8],
-    part: Part,
-) -> io::Result<()> {
+fn show_part(rt: &impl Print, call: HardCall<'_>, part: Part) -> io::Result<()> {
     let mut counts = [7u32; 3010];
     let mut units = [7u64; 3010];
-    let answer = decode_part::decode_part(
-        rows,
-        cols,
-        orientations,
-        bits,
-        confidences,
-        rows,
-        cols,
-        orientations,
-        bits,
-        confidences,
-        transforms,
-        h,
-        v,
-        1.0,
-        part,
-        &mut counts,
-        &mut units,
-    );
-    print(rt, b"\n  part: ")?;
+    let answer = decode_part::decode_part(call, part, &mut counts, &mut units);
+    print!(rt; "\n  part: ")?;
     print_part_answer(rt, answer)?;
     print_unit_room(rt, &counts, &units)?;
-    print(rt, b"\n")
+    println!(rt; "")
 }
 
-// A bit, turned or not.
-fn turned(bit: u8, yes: bool) -> u8 {
-    if yes { 1 - bit % 2 } else { bit }
-}
-
-// The first of eight bits turned, so many of them.
+// The first bits turned, so many of them.
 fn turn(bits: &mut [u8; 8193], wrong: usize) {
-    for i in 0..8usize {
-        bits[i] = turned(bits[i], i < wrong);
+    for bit in front_mut(bits, wrong) {
+        *bit = 1 - *bit % 2;
     }
-}
-
-// The first n edges as both lists: over the whole board and over a part.
-fn show_both<'a>(
-    rt: &impl Print,
-    rows: &[i32; 8193],
-    cols: &[i32; 8193],
-    orientations: &[u8; 8193],
-    bits: &[u8; 8193],
-    n: usize,
-    transforms: &[u8],
-    h: &'a [u8],
-    v: &'a [u8],
-    part: Part,
-) -> io::Result<()> {
-    let ones = [1.0f32; 8193];
-    let r = front_i32(rows, n);
-    let c = front_i32(cols, n);
-    let o = front_u8(orientations, n);
-    let b = front_u8(bits, n);
-    let f = front_f32(&ones, n);
-    show_whole(rt, r, c, o, b, f, transforms, h, v)?;
-    show_part(rt, r, c, o, b, f, transforms, h, v, part)
 }
 
 // A window of some squares cut at a placing, of which the first bits are turned: over the whole board and over a part.
 fn show(
     rt: &impl Print,
-    name: &[u8],
+    name: &str,
     squares: u8,
     wrong: usize,
     transform: u8,
@@ -133,7 +63,7 @@ fn show(
     transforms: &[u8],
     part: Part,
 ) -> io::Result<()> {
-    print(rt, name)?;
+    print!(rt; "{name}")?;
     let mut h = [0u8; 167];
     let mut v = [0u8; 167];
     fill_patterns(&mut h, 1);
@@ -155,18 +85,19 @@ fn show(
         col,
     );
     turn(&mut bits, wrong);
-    show_both(
-        rt,
-        &rows,
-        &cols,
-        &orientations,
-        &bits,
-        n,
-        transforms,
-        &h,
-        &v,
-        part,
-    )
+    let ones = [1.0f32; 8193];
+    let list = List {
+        edges: Edges {
+            rows: front(&rows, n),
+            cols: front(&cols, n),
+            orientations: front(&orientations, n),
+            bits: front(&bits, n),
+        },
+        confidences: front(&ones, n),
+    };
+    let call = call_of(list, transforms, &h, &v);
+    show_whole(rt, call)?;
+    show_part(rt, call, part)
 }
 
 // A part that starts at a row and a column and has so many rows and columns.
@@ -185,7 +116,7 @@ fn parts(rt: &impl Print) -> io::Result<()> {
     let all = [0u8, 1, 2, 3, 4, 5, 6, 7];
     show(
         rt,
-        b"12 by 12 squares under 0 at 500, 0; 20 by 20 origins from 491, 491",
+        "12 by 12 squares under 0 at 500, 0; 20 by 20 origins from 491, 491",
         12,
         0,
         0,
@@ -196,7 +127,7 @@ fn parts(rt: &impl Print) -> io::Result<()> {
     )?;
     show(
         rt,
-        b"12 by 12 squares under 7 at 0, 500; 10 by 10 origins from 495, 495",
+        "12 by 12 squares under 7 at 0, 500; 10 by 10 origins from 495, 495",
         12,
         3,
         7,
@@ -207,7 +138,7 @@ fn parts(rt: &impl Print) -> io::Result<()> {
     )?;
     show(
         rt,
-        b"3 by 3 squares under 1 at 2, 499; 6 by 6 origins from 499, 497",
+        "3 by 3 squares under 1 at 2, 499; 6 by 6 origins from 499, 497",
         3,
         0,
         1,
@@ -218,7 +149,7 @@ fn parts(rt: &impl Print) -> io::Result<()> {
     )?;
     show(
         rt,
-        b"12 by 12 squares under 0 at 17, 400; 100 by 100 origins from 18, 350, which do not hold it",
+        "12 by 12 squares under 0 at 17, 400; 100 by 100 origins from 18, 350, which do not hold it",
         12,
         0,
         0,
@@ -237,7 +168,7 @@ fn one_origin(rt: &impl Print) -> io::Result<()> {
     let alone = part_at(17, 400, 1, 1);
     show(
         rt,
-        b"2 by 2 squares under 0 at 17, 400; one origin, one transform",
+        "2 by 2 squares under 0 at 17, 400; one origin, one transform",
         2,
         0,
         0,
@@ -248,7 +179,7 @@ fn one_origin(rt: &impl Print) -> io::Result<()> {
     )?;
     show(
         rt,
-        b"the same with 3 of its 8 bits turned",
+        "the same with 3 of its 8 bits turned",
         2,
         3,
         0,
@@ -259,7 +190,7 @@ fn one_origin(rt: &impl Print) -> io::Result<()> {
     )?;
     show(
         rt,
-        b"the same with 4 of its 8 bits turned",
+        "the same with 4 of its 8 bits turned",
         2,
         4,
         0,
@@ -270,7 +201,7 @@ fn one_origin(rt: &impl Print) -> io::Result<()> {
     )?;
     show(
         rt,
-        b"4 by 4 squares; one origin, transforms 0 and 3",
+        "4 by 4 squares; one origin, transforms 0 and 3",
         4,
         0,
         0,
@@ -281,7 +212,7 @@ fn one_origin(rt: &impl Print) -> io::Result<()> {
     )?;
     show(
         rt,
-        b"4 by 4 squares; one origin, transform 0 listed twice",
+        "4 by 4 squares; one origin, transform 0 listed twice",
         4,
         0,
         0,
@@ -297,7 +228,7 @@ fn full(rt: &impl Print) -> io::Result<()> {
     let all = [0u8, 1, 2, 3, 4, 5, 6, 7];
     show(
         rt,
-        b"12 by 12 squares under 5 at 123, 456; all origins from 0, 0",
+        "12 by 12 squares under 5 at 123, 456; all origins from 0, 0",
         12,
         2,
         5,
@@ -308,7 +239,7 @@ fn full(rt: &impl Print) -> io::Result<()> {
     )?;
     show(
         rt,
-        b"the same; all origins from 124, 457",
+        "the same; all origins from 124, 457",
         12,
         2,
         5,
@@ -319,7 +250,7 @@ fn full(rt: &impl Print) -> io::Result<()> {
     )?;
     show(
         rt,
-        b"the same; all origins from 500, 250",
+        "the same; all origins from 500, 250",
         12,
         2,
         5,
@@ -330,7 +261,7 @@ fn full(rt: &impl Print) -> io::Result<()> {
     )?;
     show(
         rt,
-        b"one square under 0 at 17, 400; all origins from 500, 500",
+        "one square under 0 at 17, 400; all origins from 500, 500",
         1,
         0,
         0,

@@ -1,8 +1,11 @@
 // What the checks say of horizontal tables of 0 to 510 patterns, and how much room each asks for: the least that is not refused with 1, found by halving.
-use answer::StatsAnswer;
-use console::print::{print, print_form, print_long};
+use admission::call::{HardCall, SoftCall};
+use answer::Square;
+use board::list::{Edges, List};
+use board::pattern::Tables;
+use likelihood::Likelihoods;
 use refusals::Admission;
-use slices::part::front_u8;
+use slices::part::front;
 use std::io;
 
 // More than any length of a table, and more room or rows than any asks for.
@@ -13,8 +16,8 @@ const PLENTY: usize = 16384;
 // The number of a refusal; 0 where there is none.
 fn number_of(a: Admission) -> u32 {
     match a {
-        Admission::Accepted => 0,
-        Admission::Refused(r) => r.number,
+        Ok(()) => 0,
+        Err(r) => r.number,
     }
 }
 
@@ -26,24 +29,26 @@ fn hard_number(length: usize, counts: usize, weights: usize) -> u32 {
     let cols = [4i32; 1];
     let zeros = [0u8; 1];
     let confidences = [0.5f32; 1];
-    number_of(admission::refusal::hard_admission(
-        &rows,
-        &cols,
-        &zeros,
-        &zeros,
-        &confidences,
-        &rows,
-        &cols,
-        &zeros,
-        &zeros,
-        &confidences,
-        &zeros,
-        front_u8(&h, length),
-        &v,
-        0.5,
-        counts,
-        weights,
-    ))
+    let list = List {
+        edges: Edges {
+            rows: &rows,
+            cols: &cols,
+            orientations: &zeros,
+            bits: &zeros,
+        },
+        confidences: &confidences,
+    };
+    let call = HardCall {
+        logical: list,
+        physical: list,
+        transforms: &zeros,
+        tables: Tables {
+            h: front(&h, length),
+            v: &v,
+        },
+        error_limit: 0.5,
+    };
+    number_of(admission::refusal::hard_admission(call, counts, weights))
 }
 
 // The same of soft decode.
@@ -55,28 +60,35 @@ fn soft_number(length: usize, counts: usize, weights: usize, sums: usize) -> u32
     let zeros = [0u8; 1];
     let confidences = [0.5f32; 1];
     let likelihoods = [-0.5f32; 1];
-    number_of(soft_admission::soft_admission(
-        &rows,
-        &cols,
-        &zeros,
-        &zeros,
-        &confidences,
-        &rows,
-        &cols,
-        &zeros,
-        &zeros,
-        &confidences,
-        &likelihoods,
-        &likelihoods,
-        &zeros,
-        front_u8(&h, length),
-        &v,
-        0.5,
-        0.5,
-        counts,
-        weights,
-        sums,
-    ))
+    let list = List {
+        edges: Edges {
+            rows: &rows,
+            cols: &cols,
+            orientations: &zeros,
+            bits: &zeros,
+        },
+        confidences: &confidences,
+    };
+    let hard = HardCall {
+        logical: list,
+        physical: list,
+        transforms: &zeros,
+        tables: Tables {
+            h: front(&h, length),
+            v: &v,
+        },
+        error_limit: 0.5,
+    };
+    let likelihoods = Likelihoods {
+        matches: &likelihoods,
+        mismatches: &likelihoods,
+    };
+    let call = SoftCall {
+        hard,
+        likelihoods,
+        soft_margin: 0.5,
+    };
+    number_of(soft_admission::soft_admission(call, counts, weights, sums))
 }
 
 // What match statistics say of that edge at a row, and at a column.
@@ -87,20 +99,27 @@ fn stats_number(length: usize, row: u32, col: u32) -> u32 {
     let cols = [4i32; 1];
     let zeros = [0u8; 1];
     let confidences = [0.5f32; 1];
-    match stats::stats::match_stats(
-        &rows,
-        &cols,
-        &zeros,
-        &zeros,
-        &confidences,
-        0,
+    let list = List {
+        edges: Edges {
+            rows: &rows,
+            cols: &cols,
+            orientations: &zeros,
+            bits: &zeros,
+        },
+        confidences: &confidences,
+    };
+    let tables = Tables {
+        h: front(&h, length),
+        v: &v,
+    };
+    let square = Square {
+        transform: 0,
         row,
         col,
-        front_u8(&h, length),
-        &v,
-    ) {
-        StatsAnswer::Counted(_) => 0,
-        StatsAnswer::Refused(r) => r.number,
+    };
+    match stats::stats::match_stats(list, square, tables) {
+        Ok(_) => 0,
+        Err(r) => r.number,
     }
 }
 
@@ -184,14 +203,18 @@ fn is_shown(length: usize) -> bool {
 // The line of a length.
 fn show(rt: &impl Print, length: usize, found: [u32; 8]) -> io::Result<()> {
     if is_shown(length) {
-        print(rt, b"length ")?;
-        print_long(rt, length as u64)?;
-        let none = [0.0f32; 1];
-        print_form(
-            rt,
-            b": %, hard from % u32 and % f32 on, soft from % u32, % f32 and % i64 on, % rows and % columns\n",
-            &found,
-            &none,
+        let [
+            number,
+            counts,
+            weights,
+            soft_counts,
+            soft_weights,
+            sums,
+            rows,
+            cols,
+        ] = found;
+        println!(rt;
+            "length {length}: {number}, hard from {counts} u32 and {weights} f32 on, soft from {soft_counts} u32, {soft_weights} f32 and {sums} i64 on, {rows} rows and {cols} columns"
         )?;
     }
     Ok(())
@@ -231,16 +254,10 @@ fn add(t: Totals, found: [u32; 8]) -> Totals {
 
 // The totals, in a line.
 fn show_totals(rt: &impl Print, t: Totals) -> io::Result<()> {
-    let wholes = [t.accepted, t.refused];
-    let none = [0.0f32; 1];
-    print_form(
-        rt,
-        b"of the lengths from 0 to 510 % are accepted and % refused with 8; checksum ",
-        &wholes,
-        &none,
-    )?;
-    print_long(rt, t.sum)?;
-    print(rt, b"\n")
+    println!(rt;
+        "of the lengths from 0 to 510 {} are accepted and {} refused with 8; checksum {}",
+        t.accepted, t.refused, t.sum,
+    )
 }
 
 // Every length.

@@ -5,12 +5,11 @@
 mod lengths; // which lengths are accepted, and in how much room
 mod windows; // hard and soft decode of windows across the seam
 
-use console::print::print;
 use std::io;
 
 fn main(rt: HostRuntime) -> io::Result<()> {
-    print(&rt, b"== lengths ==\n")?;
+    println!(rt; "== lengths ==")?;
     lengths::show_all(&rt)?;
-    print(&rt, b"== windows across the seam ==\n")?;
+    println!(rt; "== windows across the seam ==")?;
     windows::show_all(&rt)
 }

@@ -1,10 +1,13 @@
 // Hard and soft decode of clean windows of poles, cut across the seam. Both lists are the same one, each confidence is 0.5, each match has a log likelihood of -0.125 and each
 // mismatch one of -4, the limit is 0.25, the four rotations are listed. The room is just enough, in arrays that hold 7 before.
-use console::print::{print, print_form};
-use runs::cut::{fill_patterns, front_f32, front_i32, front_u8, put_window};
+use admission::call::{HardCall, SoftCall};
+use board::list::{Edges, List};
+use board::pattern::Tables;
+use likelihood::Likelihoods;
+use runs::cut::{fill_patterns, put_window};
 use runs::lent::{print_room, print_sums};
 use runs::print::{print_answer, print_soft_answer};
-use slices::part::{room_f32, room_i64, room_u32};
+use slices::part::{front, front_mut};
 use std::io;
 
 // What a pole of that length asks of the u32 and of the f32 room, and of the i64 room.
@@ -19,10 +22,10 @@ fn sums_room(length: u16) -> usize {
 // Hard decode of the first n edges.
 fn show_hard<'a>(
     rt: &impl Print,
-    rows: &[i32; 8193],
-    cols: &[i32; 8193],
-    orientations: &[u8; 8193],
-    bits: &[u8; 8193],
+    rows: &'a [i32; 8193],
+    cols: &'a [i32; 8193],
+    orientations: &'a [u8; 8193],
+    bits: &'a [u8; 8193],
     n: usize,
     h: &'a [u8],
     v: &'a [u8],
@@ -32,42 +35,45 @@ fn show_hard<'a>(
     let transforms = [0u8, 1, 2, 3];
     let mut counts = [7u32; 6007];
     let mut weights = [7.0f32; 6007];
-    let r = front_i32(rows, n);
-    let c = front_i32(cols, n);
-    let o = front_u8(orientations, n);
-    let b = front_u8(bits, n);
-    let f = front_f32(&confidences, n);
+    let r = front(rows, n);
+    let c = front(cols, n);
+    let o = front(orientations, n);
+    let b = front(bits, n);
+    let f = front(&confidences, n);
+    let list = List {
+        edges: Edges {
+            rows: r,
+            cols: c,
+            orientations: o,
+            bits: b,
+        },
+        confidences: f,
+    };
+    let call = HardCall {
+        logical: list,
+        physical: list,
+        transforms: &transforms,
+        tables: Tables { h, v },
+        error_limit: 0.25,
+    };
     let answer = decode_hard::decode_hard(
-        r,
-        c,
-        o,
-        b,
-        f,
-        r,
-        c,
-        o,
-        b,
-        f,
-        &transforms,
-        h,
-        v,
-        0.25,
-        room_u32(&mut counts, room),
-        room_f32(&mut weights, room),
+        call,
+        front_mut(&mut counts, room),
+        front_mut(&mut weights, room),
     );
-    print(rt, b"  hard: ")?;
+    print!(rt; "  hard: ")?;
     print_answer(rt, answer)?;
     print_room(rt, &counts, &weights)?;
-    print(rt, b"\n")
+    println!(rt; "")
 }
 
 // Soft decode of them.
 fn show_soft<'a>(
     rt: &impl Print,
-    rows: &[i32; 8193],
-    cols: &[i32; 8193],
-    orientations: &[u8; 8193],
-    bits: &[u8; 8193],
+    rows: &'a [i32; 8193],
+    cols: &'a [i32; 8193],
+    orientations: &'a [u8; 8193],
+    bits: &'a [u8; 8193],
     n: usize,
     h: &'a [u8],
     v: &'a [u8],
@@ -81,38 +87,47 @@ fn show_soft<'a>(
     let mut counts = [7u32; 6007];
     let mut weights = [7.0f32; 6007];
     let mut sums = [7i64; 10009];
-    let r = front_i32(rows, n);
-    let c = front_i32(cols, n);
-    let o = front_u8(orientations, n);
-    let b = front_u8(bits, n);
-    let f = front_f32(&confidences, n);
+    let r = front(rows, n);
+    let c = front(cols, n);
+    let o = front(orientations, n);
+    let b = front(bits, n);
+    let f = front(&confidences, n);
+    let list = List {
+        edges: Edges {
+            rows: r,
+            cols: c,
+            orientations: o,
+            bits: b,
+        },
+        confidences: f,
+    };
+    let hard = HardCall {
+        logical: list,
+        physical: list,
+        transforms: &transforms,
+        tables: Tables { h, v },
+        error_limit: 0.25,
+    };
+    let likelihoods = Likelihoods {
+        matches: front(&matches, n),
+        mismatches: front(&mismatches, n),
+    };
+    let call = SoftCall {
+        hard,
+        likelihoods,
+        soft_margin: 0.0,
+    };
     let answer = decode_soft::decode_soft(
-        r,
-        c,
-        o,
-        b,
-        f,
-        r,
-        c,
-        o,
-        b,
-        f,
-        front_f32(&matches, n),
-        front_f32(&mismatches, n),
-        &transforms,
-        h,
-        v,
-        0.25,
-        0.0,
-        room_u32(&mut counts, room),
-        room_f32(&mut weights, room),
-        room_i64(&mut sums, sums_room),
+        call,
+        front_mut(&mut counts, room),
+        front_mut(&mut weights, room),
+        front_mut(&mut sums, sums_room),
     );
-    print(rt, b"  soft: ")?;
+    print!(rt; "  soft: ")?;
     print_soft_answer(rt, answer)?;
     print_room(rt, &counts, &weights)?;
     print_sums(rt, &sums)?;
-    print(rt, b"\n")
+    println!(rt; "")
 }
 
 // A window of so many squares cut at a placing of a pole of `cut` patterns, decoded as one of a pole of `length`: the front of the same table.
@@ -125,13 +140,8 @@ fn show(
     row: u32,
     col: u32,
 ) -> io::Result<()> {
-    let wholes = [cut as u32, transform as u32, row, col, length as u32];
-    let none = [0.0f32; 1];
-    print_form(
-        rt,
-        b"cut from a pole of % under % at %, %, read as one of %\n",
-        &wholes,
-        &none,
+    println!(rt;
+        "cut from a pole of {cut} under {transform} at {row}, {col}, read as one of {length}"
     )?;
     let mut h = [0u8; 500];
     let mut v = [0u8; 167];
@@ -147,13 +157,13 @@ fn show(
         &mut orientations,
         &mut bits,
         squares,
-        slices::part::front_u8(&h, cut as usize),
+        front(&h, cut as usize),
         &v,
         transform,
         row,
         col,
     );
-    let board = slices::part::front_u8(&h, length as usize);
+    let board = front(&h, length as usize);
     show_hard(
         rt,
         &rows,

@@ -1,26 +1,64 @@
 // The class tables and the likelihood sums of one list under one transform, in lent room.
-use refusals::Admission;
-use slices::part::{part_f32, part_i32, part_u8};
-use wordfile::columns::{FIRST, FOURTH, SECOND, SEVENTH, SIXTH, Sizes, THIRD};
+use admission::call::{HardCall, SoftCall};
+use board::list::{Edges, List};
+use board::pattern::Tables;
+use likelihood::Likelihoods;
+use wordfile::columns;
+use wordfile::columns::Column;
 
-// The lengths of the columns that belong to no list: likelihoods and the two tables.
-#[derive(Clone, Copy)]
-pub struct Lengths {
-    pub matches: usize,
-    pub mismatches: usize,
-    pub h: usize,
-    pub v: usize,
+// What tables are built of: the two pattern tables, a list with its likelihoods, and a transform.
+#[derive(Drop)]
+pub struct Case {
+    pub h: Column<u8>,
+    pub v: Column<u8>,
+    pub list: columns::List,
+    pub matches: Column<f32>,
+    pub mismatches: Column<f32>,
+    pub transform: u8,
+}
+
+impl Case {
+    // Columns with no words.
+    pub(crate) fn new() -> Case {
+        Case {
+            h: Column::new(0),
+            v: Column::new(0),
+            list: columns::List::new(),
+            matches: Column::new(0.0),
+            mismatches: Column::new(0.0),
+            transform: 0,
+        }
+    }
+}
+
+// Room for the cells of the longest pole's tables, and some more.
+#[derive(Drop)]
+pub struct Cells {
+    pub counts: [u32; 6007],
+    pub weights: [f32; 6007],
+    pub sums: [i64; 10009],
+}
+
+impl Cells {
+    // Room that holds 7.
+    pub(crate) fn new() -> Cells {
+        Cells {
+            counts: [7; 6007],
+            weights: [7.0; 6007],
+            sums: [7; 10009],
+        }
+    }
 }
 
 // Builds both where the checks of soft decode take the list, the transform, the tables and the room: 0, else the refusal's number, and nothing is built.
 fn build<'a>(
-    rows: &[i32],
-    cols: &[i32],
-    orientations: &[u8],
-    bits: &[u8],
-    confidences: &[f32],
-    matches: &[f32],
-    mismatches: &[f32],
+    rows: &'a [i32],
+    cols: &'a [i32],
+    orientations: &'a [u8],
+    bits: &'a [u8],
+    confidences: &'a [f32],
+    matches: &'a [f32],
+    mismatches: &'a [f32],
     transform: u8,
     h: &'a [u8],
     v: &'a [u8],
@@ -29,85 +67,78 @@ fn build<'a>(
     sums: &mut [i64],
 ) -> u32 {
     let transforms = [transform];
-    let admitted = soft_admission::soft_admission(
-        rows,
-        cols,
-        orientations,
-        bits,
+    let list = List {
+        edges: Edges {
+            rows,
+            cols,
+            orientations,
+            bits,
+        },
         confidences,
-        rows,
-        cols,
-        orientations,
-        bits,
-        confidences,
+    };
+    let hard = HardCall {
+        logical: list,
+        physical: list,
+        transforms: &transforms,
+        tables: Tables { h, v },
+        error_limit: 0.0,
+    };
+    let likelihoods = Likelihoods {
         matches,
         mismatches,
-        &transforms,
-        h,
-        v,
-        0.0,
-        0.0,
-        counts.len(),
-        weights.len(),
-        sums.len(),
-    );
+    };
+    let call = SoftCall {
+        hard,
+        likelihoods,
+        soft_margin: 0.0,
+    };
+    let admitted = soft_admission::soft_admission(call, counts.len(), weights.len(), sums.len());
     match admitted {
-        Admission::Refused(refusal) => refusal.number,
-        Admission::Accepted => {
-            tables::build::build_tables(
-                rows,
-                cols,
-                orientations,
-                bits,
+        Err(refusal) => refusal.number,
+        Ok(()) => {
+            let list = List {
+                edges: Edges {
+                    rows,
+                    cols,
+                    orientations,
+                    bits,
+                },
                 confidences,
-                transform,
-                h,
-                v,
-                counts,
-                weights,
-            );
-            sums::sums::build_sums(
+            };
+            let tables = Tables { h, v };
+            tables::build::build_tables(list, transform, tables, counts, weights);
+            let edges = Edges {
                 rows,
                 cols,
                 orientations,
                 bits,
+            };
+            let likelihoods = Likelihoods {
                 matches,
                 mismatches,
-                transform,
-                h,
-                v,
-                sums,
-            );
+            };
+            let tables = Tables { h, v };
+            sums::sums::build_sums(edges, likelihoods, transform, tables, sums);
             0
         }
     }
 }
 
 // The same of columns that a file gave.
-pub(crate) fn build_columns(
-    n: Sizes,
-    also: Lengths,
-    transform: u8,
-    wholes: &[i32],
-    bytes: &[u8],
-    floats: &[f32],
-    counts: &mut [u32; 6007],
-    weights: &mut [f32; 6007],
-    sums: &mut [i64; 10009],
-) -> u32 {
+pub(crate) fn build_columns(case: &Case, cells: &mut Cells) -> u32 {
     build(
-        part_i32(wholes, FIRST, n.rows),
-        part_i32(wholes, SECOND, n.cols),
-        part_u8(bytes, FIRST, n.orientations),
-        part_u8(bytes, SECOND, n.bits),
-        part_f32(floats, FIRST, n.confidences),
-        part_f32(floats, THIRD, also.matches),
-        part_f32(floats, FOURTH, also.mismatches),
-        transform,
-        part_u8(bytes, SIXTH, also.h),
-        part_u8(bytes, SEVENTH, also.v),
-        counts,
-        weights,
-        sums,
+        case.list.rows.as_slice(),
+        case.list.cols.as_slice(),
+        case.list.orientations.as_slice(),
+        case.list.bits.as_slice(),
+        case.list.confidences.as_slice(),
+        case.matches.as_slice(),
+        case.mismatches.as_slice(),
+        case.transform,
+        case.h.as_slice(),
+        case.v.as_slice(),
+        &mut cells.counts,
+        &mut cells.weights,
+        &mut cells.sums,
     )
 }

@@ -1,92 +1,58 @@
-// Cells in lent room, compared with those that a file holds: all counts, then all weights, then all sums. Each function answers how many of n cells differ, and where
-// the next word stands.
-ghost use Rattle.std.specs.Prelude.{◌≤◌};
+// Cells in lent room, compared with those that a file holds: all counts, then all weights, then all sums.
+ghost use Rattle.std.specs.Prelude.{◌≤◌, length};
 
-use console::print::bits_of;
+use console::number::bits_of;
 use std::io;
 use std::io::Read;
-use wordfile::words::{Cursor, next_word};
+use wordfile::words::Words;
 
-// How many cells differ, and where the next word stands.
-#[derive(Clone, Copy)]
-pub struct Compared {
-    pub differ: u32,
-    pub next: Cursor,
+// A cell that a file holds.
+pub(crate) trait Cell {
+    // Whether it is the next that the file holds.
+    fn is_next<F: Read + Drop>(&self, words: &mut Words<F>) -> io::Result<bool>;
 }
 
-// Counts.
-pub(crate) fn compare_counts(
-    file: &mut impl Read,
-    buf: &mut [u8; 65536],
-    c: Cursor,
-    n: usize,
-    counts: &[u32; 6007],
-) -> io::Result<Compared>
-    requires { n ≤ 6007 }
-{
-    let mut next = c;
-    let mut differ: u32 = 0;
-    for i in 0..n {
-        let w = next_word(file, buf, next)?;
-        next = w.next;
-        if w.value != counts[i] {
-            differ += 1;
-        }
+// A count, which is a word.
+impl Cell for u32 {
+    fn is_next<F: Read + Drop>(&self, words: &mut Words<F>) -> io::Result<bool> {
+        Ok(words.next_word()? == *self)
     }
-    Ok(Compared { differ, next })
 }
 
-// Weights, by their bits.
-pub(crate) fn compare_weights(
-    file: &mut impl Read,
-    buf: &mut [u8; 65536],
-    c: Cursor,
-    n: usize,
-    weights: &[f32; 6007],
-) -> io::Result<Compared>
-    requires { n ≤ 6007 }
-{
-    let mut next = c;
-    let mut differ: u32 = 0;
-    for i in 0..n {
-        let w = next_word(file, buf, next)?;
-        next = w.next;
-        if w.value != bits_of(weights[i]) {
-            differ += 1;
-        }
+// A weight, by its bits.
+impl Cell for f32 {
+    fn is_next<F: Read + Drop>(&self, words: &mut Words<F>) -> io::Result<bool> {
+        Ok(words.next_word()? == bits_of(*self))
     }
-    Ok(Compared { differ, next })
+}
+
+// A sum, which is two words.
+impl Cell for i64 {
+    fn is_next<F: Read + Drop>(&self, words: &mut Words<F>) -> io::Result<bool> {
+        let high = words.next_word()?;
+        let low = words.next_word()?;
+        Ok(whole(high, low) == *self)
+    }
 }
 
 // A sum of two words, the higher of which has the sign as its highest bit.
 fn whole(high: u32, low: u32) -> i64 {
-    let size = ((high % 2147483648) as u64) * 4294967296 + low as u64;
-    if high < 2147483648 {
-        return size as i64;
-    }
-    0 - (size as i64)
+    let size = (u64::from(high % 2147483648) * 4294967296 + u64::from(low)) as i64;
+    if high < 2147483648 { size } else { -size }
 }
 
-// Sums.
-pub(crate) fn compare_sums(
-    file: &mut impl Read,
-    buf: &mut [u8; 65536],
-    c: Cursor,
-    n: usize,
-    sums: &[i64; 10009],
-) -> io::Result<Compared>
-    requires { n ≤ 10009 }
+// How many cells differ from those that the file holds.
+pub(crate) fn count_differences<C: Cell, F: Read + Drop>(
+    words: &mut Words<F>,
+    cells: &[C],
+) -> io::Result<u32>
+    requires { length cells.now ≤ 10009 }
 {
-    let mut next = c;
-    let mut differ: u32 = 0;
-    for i in 0..n {
-        let high = next_word(file, buf, next)?;
-        let low = next_word(file, buf, high.next)?;
-        next = low.next;
-        let stored = whole(high.value, low.value);
-        if stored != sums[i] {
+    let mut differ = 0;
+    for cell in cells {
+        if !cell.is_next(words)? {
             differ += 1;
         }
     }
-    Ok(Compared { differ, next })
+    Ok(differ)
 }

@@ -3,14 +3,14 @@
 // leaves empty holds 0xffffffff. A found answer of exact decode has weight, total, rate and the runner-up's hits between edges and the runner-up's transform, and the runner-up's
 // weight at the end; weight and total are two words each, the lower one first.
 use answer::{AnyAnswer, MatchStats, StatsAnswer};
-use console::print::bits_of;
+use console::number::bits_of;
 use exact_answer::{ExactAnswer, ExactDecoded};
 use flat::flat::{NOTHING, list_of, position_of};
 use hard::select::Selection;
 use locate_answer::{LocateAnswer, Located};
 use refusals::Refusal;
 use scan::scan::{Candidate, RunnerUp};
-use ten_fields::{TenAnswer, TenFields};
+use ten_fields::TenFields;
 
 // The place of the number in an answer that is no refusal.
 const NOT_REFUSED: u32 = 0;
@@ -52,8 +52,8 @@ fn found(d: TenFields) -> [u32; 17] {
 pub(crate) fn words_of(a: AnyAnswer) -> [u32; 17] {
     let ten = ten_fields::ten_fields(a);
     match ten {
-        TenAnswer::Found(d) => found(d),
-        TenAnswer::Refused(r) => refused(r),
+        Ok(d) => found(d),
+        Err(r) => refused(r),
     }
 }
 
@@ -92,8 +92,8 @@ fn exact_found(d: ExactDecoded) -> [u32; 17] {
 // Exact decode.
 pub(crate) fn words_of_exact(a: ExactAnswer) -> [u32; 17] {
     match a {
-        ExactAnswer::Found(d) => exact_found(d),
-        ExactAnswer::Refused(r) => refused(r),
+        Ok(d) => exact_found(d),
+        Err(r) => refused(r),
     }
 }
 
@@ -123,8 +123,8 @@ fn located(d: Located) -> [u32; 17] {
 // A list located without tables.
 pub(crate) fn words_of_located(a: LocateAnswer) -> [u32; 17] {
     match a {
-        LocateAnswer::Found(d) => located(d),
-        LocateAnswer::Refused(r) => refused(r),
+        Ok(d) => located(d),
+        Err(r) => refused(r),
     }
 }
 
@@ -154,8 +154,8 @@ fn counted(m: MatchStats) -> [u32; 17] {
 // Match statistics.
 pub(crate) fn words_of_stats(a: StatsAnswer) -> [u32; 17] {
     match a {
-        StatsAnswer::Counted(m) => counted(m),
-        StatsAnswer::Refused(r) => refused(r),
+        Ok(m) => counted(m),
+        Err(r) => refused(r),
     }
 }
 
@@ -215,9 +215,7 @@ fn listed(transforms: &[u8], place: usize) -> u8 {
 // Selection before the gate.
 pub(crate) fn words_of_selection(s: Selection, transforms: &[u8], edges: u32) -> [u32; 17] {
     match s {
-        Selection::Selected(w, next) => {
-            selected(listed(transforms, w.placing.listed), w, next, edges)
-        }
-        Selection::Refused(r) => refused(r),
+        Ok((w, next)) => { selected(listed(transforms, w.placing.listed), w, next, edges) }
+        Err(r) => refused(r),
     }
 }

@@ -1,8 +1,5 @@
 // What was compared, and what differs. A tally has eighteen places for each kind (place 18 · kind + refusal number, 0 for found), the first eighteen of them for sums:
 // 0 cases, 1 cases that differ, 2 cases in which the Rust does not tell 13 from 15.
-use console::form::{put_form, put_wholes};
-use console::page::{put_word, say};
-use slices::page::{blank, put, put_byte};
 use std::io;
 
 // One more at a place.
@@ -12,10 +9,50 @@ fn bump(tally: &mut [u32; 132], at: usize) {
     }
 }
 
-// The line of a word's name: those of exact decode stand after the others'.
-fn name_of(kind: u32, i: usize) -> u32 {
-    let word = (i % 17) as u32;
-    if kind == 5 { word + 17 } else { word }
+// The name of a word of an answer.
+fn name_of(i: usize) -> &'static str {
+    match i {
+        0 => "refusal",
+        1 => "transform",
+        2 => "row",
+        3 => "column",
+        4 => "hits",
+        5 => "edges",
+        6 => "weighted score",
+        7 => "rate",
+        8 => "mean",
+        9 => "best score",
+        10 => "runner-up's score",
+        11 => "margin",
+        12 => "runner-up's transform",
+        13 => "runner-up's row",
+        14 => "runner-up's column",
+        15 => "list",
+        _ => "position",
+    }
+}
+
+// The same of exact decode's answer.
+fn exact_name_of(i: usize) -> &'static str {
+    match i {
+        0 => "refusal",
+        1 => "transform",
+        2 => "row",
+        3 => "column",
+        4 => "hits",
+        5 => "edges",
+        6 => "weight's lower word",
+        7 => "weight's upper word",
+        8 => "total's lower word",
+        9 => "total's upper word",
+        10 => "rate",
+        11 => "runner-up's hits",
+        12 => "runner-up's transform",
+        13 => "runner-up's row",
+        14 => "runner-up's column",
+        15 => "runner-up's weight's lower word, or list",
+        _ => "runner-up's weight's upper word, or position",
+    }
 }
 
 // A word that differs, by its name.
@@ -27,26 +64,12 @@ fn print_difference(
     theirs: u32,
     ours: u32,
 ) -> io::Result<()> {
-    let mut page = blank();
-    let wholes = [at, name_of(kind, i)];
-    let none = [0.0f32; 1];
-    let n = put_form(
-        &mut page,
-        0,
-        b"entry % differs in @: stored ",
-        b"refusal\ntransform\nrow\ncolumn\nhits\nedges\nweighted score\nrate\nmean\nbest score\nrunner-up's score\nmargin\n\
-        runner-up's transform\nrunner-up's row\nrunner-up's column\nlist\nposition\n\
-        refusal\ntransform\nrow\ncolumn\nhits\nedges\nweight's lower word\nweight's upper word\ntotal's lower word\ntotal's upper word\nrate\n\
-        runner-up's hits\nrunner-up's transform\nrunner-up's row\nrunner-up's column\nrunner-up's weight's lower word, or list\n\
-        runner-up's weight's upper word, or position",
-        &wholes,
-        &none,
-    );
-    let n = put_word(&mut page, n, theirs);
-    let n = put(&mut page, n, b", ours ");
-    let n = put_word(&mut page, n, ours);
-    let n = put_byte(&mut page, n, b'\n');
-    say(rt, &page, n)
+    let name = if kind == 5 {
+        exact_name_of(i)
+    } else {
+        name_of(i)
+    };
+    println!(rt; "entry {at} differs in {name}: stored {theirs:08x}, ours {ours:08x}")
 }
 
 // Whether no word differs; each that does is written.
@@ -118,38 +141,30 @@ fn count_at(tally: &[u32; 132], at: usize) -> u32 {
     if at < 132 { tally[at] } else { 0 }
 }
 
-// How many calls were refused with a number, where there are any.
-fn put_refused(page: &mut [u8; 32768], at: usize, count: u32, number: u32) -> usize {
-    if count == 0 {
-        return at;
+// The name of a kind of call.
+fn kind_name(kind: u32) -> &'static str {
+    match kind {
+        0 => "tables",
+        1 => "hard",
+        2 => "soft",
+        3 => "statistics",
+        4 => "selection",
+        5 => "exact",
+        _ => "located",
     }
-    let wholes = [count, number];
-    put_wholes(page, at, b", % refused with %", &wholes)
 }
 
-// One kind of call: how many were found, and how many refused with each number.
+// One kind of call: how many were found, and how many refused with each number, where there are any.
 fn show_kind(rt: &impl Print, tally: &[u32; 132], kind: u32) -> io::Result<()> {
-    let mut page = blank();
-    let found = [kind, count_at(tally, place_of(kind, 0))];
-    let none = [0.0f32; 1];
-    let mut n = put_form(
-        &mut page,
-        0,
-        b"@: % found",
-        b"tables\nhard\nsoft\nstatistics\nselection\nexact\nlocated",
-        &found,
-        &none,
-    );
+    let name = kind_name(kind);
+    print!(rt; "{name}: {} found", count_at(tally, place_of(kind, 0)))?;
     for number in 1..18u32 {
-        n = put_refused(
-            &mut page,
-            n,
-            count_at(tally, place_of(kind, number)),
-            number,
-        );
+        let count = count_at(tally, place_of(kind, number));
+        if count != 0 {
+            print!(rt; ", {count} refused with {number}")?;
+        }
     }
-    n = put_byte(&mut page, n, b'\n');
-    say(rt, &page, n)
+    println!(rt; "")
 }
 
 // All kinds, and the sums.
@@ -157,13 +172,6 @@ pub(crate) fn show(rt: &impl Print, tally: &[u32; 132]) -> io::Result<()> {
     for kind in 1..7u32 {
         show_kind(rt, tally, kind)?;
     }
-    let mut page = blank();
-    let wholes = [tally[2], tally[0], tally[1]];
-    let n = put_wholes(
-        &mut page,
-        0,
-        b"% cases are stored as 13 or 15\n% cases, % differ\n",
-        &wholes,
-    );
-    say(rt, &page, n)
+    println!(rt; "{} cases are stored as 13 or 15", tally[2])?;
+    println!(rt; "{} cases, {} differ", tally[0], tally[1])
 }

@@ -1,8 +1,10 @@
 // Windows cut from boards of our own: their tables, and lists of edges as a camera at a placing sees them.
-ghost use Rattle.std.specs.Prelude.{◌≡◌, ◌<◌, ◌≤◌, length, take};
+ghost use Rattle.std.specs.Prelude.{◌<◌, ◌≤◌, length};
 ghost use Rattle.runs.specs.Made.{Made};
 
-use answer::StatsAnswer;
+use answer::Square;
+use board::list::{Edges, List};
+use board::pattern::Tables;
 
 // A number that looks random, below 2^31, after x.
 fn next_random(x: u64) -> u64 {
@@ -43,20 +45,24 @@ fn true_bit<'a>(
     let orientations = [orientation; 1];
     let bits = [0u8; 1];
     let confidences = [1.0f32; 1];
-    match stats::stats::match_stats(
-        &rows,
-        &cols,
-        &orientations,
-        &bits,
-        &confidences,
+    let list = List {
+        edges: Edges {
+            rows: &rows,
+            cols: &cols,
+            orientations: &orientations,
+            bits: &bits,
+        },
+        confidences: &confidences,
+    };
+    let tables = Tables { h, v };
+    let square = Square {
         transform,
-        r,
-        c,
-        h,
-        v,
-    ) {
-        StatsAnswer::Counted(m) => { if m.hits == 1 { 0 } else { 1 } }
-        StatsAnswer::Refused(_) => 2,
+        row: r,
+        col: c,
+    };
+    match stats::stats::match_stats(list, square, tables) {
+        Ok(m) => { if m.hits == 1 { 0 } else { 1 } }
+        Err(_) => 2,
     }
 }
 
@@ -176,23 +182,4 @@ pub fn put_window<'a>(
         );
     }
     count
-}
-
-// The first n elements of a column; one function for each type.
-pub fn front_i32(xs: &[i32; 8193], n: usize) -> &[i32]
-    ensures { result.now ≡ take n xs.now }
-{
-    slices::part::front_i32(xs, n)
-}
-
-pub fn front_u8(xs: &[u8; 8193], n: usize) -> &[u8]
-    ensures { result.now ≡ take n xs.now }
-{
-    slices::part::front_u8(xs, n)
-}
-
-pub fn front_f32(xs: &[f32; 8193], n: usize) -> &[f32]
-    ensures { result.now ≡ take n xs.now }
-{
-    slices::part::front_f32(xs, n)
 }

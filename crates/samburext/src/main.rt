@@ -4,62 +4,56 @@
 mod decode; // the decoder called on what the files gave
 
 use answertext::map;
-use answertext::told::{HARD, SOFT};
 use console::files::fail;
-use options::args::Options;
+use options::args::{Misuse, Options, Request};
 use outcome::{conclude, give_up, give_up_both, give_up_soft};
 use std::io;
 use std::process::ExitCode;
 use viewfiles::files;
-use viewtext::view_file;
+use viewtext::board_file::Board;
+use viewtext::view_file::Lists;
 
-// The view of the options on a board of a pole's length whose tables are read: decoded, and the answer written.
-fn face(rt: HostRuntime, o: Options, tables: &[u8; 667], length: usize) -> io::Result<()> {
-    let mut wholes = view_file::columns_i32();
-    let mut bytes = view_file::columns_u8();
-    let mut floats = view_file::columns_f32();
-    let view = files::load_view(rt, o.view, &mut wholes, &mut bytes, &mut floats);
-    if view.what != 0 {
-        return give_up(rt, o);
+// The view of the options on a board: decoded, and the answer written.
+fn face(rt: HostRuntime, o: Options, board: &Board) -> io::Result<()> {
+    let mut lists = Lists::new();
+    let Some(view) = files::load_view(rt, o.view, &mut lists) else {
+        return give_up(rt, o.plain);
+    };
+    match decode::how_of(&lists, o.way) {
+        Err(way) => give_up_soft(rt, o, way),
+        Ok(how) => {
+            let answer = decode::decode(view.settings, how, &lists, board);
+            conclude(rt, o, answer, view, how, board.length())
+        }
     }
-    let asked = decode::asked(o);
-    let how = decode::how_of(view, asked);
-    if asked != HARD && how == SOFT {
-        return give_up_soft(rt, o);
-    }
-    let a = decode::decode(view, how, &wholes, &bytes, &floats, tables, length);
-    conclude(rt, o, a, view, how, length)
 }
 
 // The board, then the view. Where a picture cannot take its place, no answer is given.
 fn run(rt: HostRuntime, o: Options) -> io::Result<()> {
-    if o.map != 0 {
-        if !map::is_ready(rt, o.map) {
-            return give_up(rt, o);
+    if let Some(i) = o.map {
+        if !map::is_ready(rt, i) {
+            return give_up(rt, o.plain);
         }
     }
-    let mut tables = [0u8; 667];
-    let board = files::load_board(rt, o.board, &mut tables);
-    if board.what != 0 {
-        return give_up(rt, o);
+    match files::load_board(rt, o.board) {
+        Some(board) => face(rt, o, &board),
+        None => give_up(rt, o.plain),
     }
-    face(rt, o, &tables, board.length)
 }
 
 // What the command was asked for, done.
 fn obey(rt: HostRuntime) -> io::Result<()> {
-    let o = options::args::all_options(&rt);
-    if o.wrong {
-        options::help::show_use(rt);
-        return give_up(rt, o);
+    match Request::read(&rt) {
+        Ok(Request::Help) => options::help::show(&rt),
+        Ok(Request::Decode(o)) => run(rt, o),
+        Err(misused) => match misused.misuse {
+            Misuse::TwoWays => give_up_both(rt, misused.plain),
+            Misuse::Unclear => {
+                options::help::show_use(rt);
+                give_up(rt, misused.plain)
+            }
+        },
     }
-    if o.help {
-        return options::help::show(&rt);
-    }
-    if o.exact && o.no_tables {
-        return give_up_both(rt, o);
-    }
-    run(rt, o)
 }
 
 fn main(rt: HostRuntime) -> ExitCode {

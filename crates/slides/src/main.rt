@@ -3,13 +3,12 @@
 
 mod slid; // windows cut from a board, and slid
 
-use console::print::print;
 use slid::show_all;
 use std::io;
 
 fn main(rt: HostRuntime) -> io::Result<()> {
-    print(&rt, b"== the flat board ==\n")?;
+    println!(rt; "== the flat board ==")?;
     show_all(&rt, 167, 499, 3)?;
-    print(&rt, b"== a pole of 100 ==\n")?;
+    println!(rt; "== a pole of 100 ==")?;
     show_all(&rt, 100, 1, 500)
 }

@@ -1,14 +1,18 @@
 // A clean window of seven squares under each transform, and the same window with every edge moved by the same rows and columns. Both lists are the same one, each confidence is 1, the
 // limit is 0.25, and all eight transforms are listed.
-use answer::{Answer, Decoded};
-use console::print::{print, print_form, print_number};
-use runs::cut::{fill_patterns, front_f32, front_i32, front_u8, put_window};
+use admission::call::HardCall;
+use answer::Answer;
+use board::list::{Edges, List};
+use board::pattern::Tables;
+use runs::cut::{fill_patterns, put_window};
+use runs::print::At;
+use slices::part::front;
 use std::io;
 use wordfile::words::signed;
 
 // A coordinate moved by a number that is given as its word, by two's complement.
 fn moved(x: u32, by: u32) -> i32 {
-    signed(std::num::wrapping_add_u32(x, by))
+    signed(x.wrapping_add(by))
 }
 
 // The rows and columns of a window of seven squares, moved: it has seven horizontal and then seven vertical edges to a row.
@@ -19,44 +23,25 @@ fn slide(rows: &mut [i32; 8193], cols: &mut [i32; 8193], down: u32, right: u32) 
     }
 }
 
-// What a found answer says that slides, and what stays.
-fn print_found(rt: &impl Print, d: Decoded) -> io::Result<()> {
-    let square = d.square;
-    let wholes = [
-        square.transform as u32,
-        square.row,
-        square.col,
-        d.hits,
-        d.runner_up_hits,
-    ];
-    let none = [0.0f32; 1];
-    print_form(
-        rt,
-        b"transform % row % column %, hits %, runner-up hits %\n",
-        &wholes,
-        &none,
-    )
-}
-
-// The answer, in one line.
+// What a found answer says that slides, and what stays, in one line; or the number of its refusal.
 fn print_answer(rt: &impl Print, answer: Answer) -> io::Result<()> {
     match answer {
-        Answer::Found(d) => print_found(rt, d)?,
-        Answer::Refused(r) => {
-            print(rt, b"refused: ")?;
-            print_number(rt, r.number)?;
-            print(rt, b"\n")?;
-        }
+        Ok(d) => println!(rt;
+            "{}, hits {}, runner-up hits {}",
+            At(d.square),
+            d.hits,
+            d.runner_up_hits,
+        ),
+        Err(r) => println!(rt; "refused: {}", r.number),
     }
-    Ok(())
 }
 
 // Hard decode of the first n edges.
 fn decode<'a>(
-    rows: &[i32; 8193],
-    cols: &[i32; 8193],
-    orientations: &[u8; 8193],
-    bits: &[u8; 8193],
+    rows: &'a [i32; 8193],
+    cols: &'a [i32; 8193],
+    orientations: &'a [u8; 8193],
+    bits: &'a [u8; 8193],
     n: usize,
     h: &'a [u8],
     v: &'a [u8],
@@ -65,29 +50,28 @@ fn decode<'a>(
     let transforms = [0u8, 1, 2, 3, 4, 5, 6, 7];
     let mut counts = [0u32; 3006];
     let mut weights = [0.0f32; 3006];
-    let r = front_i32(rows, n);
-    let c = front_i32(cols, n);
-    let o = front_u8(orientations, n);
-    let b = front_u8(bits, n);
-    let f = front_f32(&confidences, n);
-    decode_hard::decode_hard(
-        r,
-        c,
-        o,
-        b,
-        f,
-        r,
-        c,
-        o,
-        b,
-        f,
-        &transforms,
-        h,
-        v,
-        0.25,
-        &mut counts,
-        &mut weights,
-    )
+    let r = front(rows, n);
+    let c = front(cols, n);
+    let o = front(orientations, n);
+    let b = front(bits, n);
+    let f = front(&confidences, n);
+    let list = List {
+        edges: Edges {
+            rows: r,
+            cols: c,
+            orientations: o,
+            bits: b,
+        },
+        confidences: f,
+    };
+    let call = HardCall {
+        logical: list,
+        physical: list,
+        transforms: &transforms,
+        tables: Tables { h, v },
+        error_limit: 0.25,
+    };
+    decode_hard::decode_hard(call, &mut counts, &mut weights)
 }
 
 // A window cut at a placing and slid so many rows down and columns to the right, with the shift in words of its own.
@@ -97,7 +81,7 @@ fn show(
     transform: u8,
     row: u32,
     col: u32,
-    shift: &[u8],
+    shift: &str,
     down: u32,
     right: u32,
 ) -> io::Result<()> {
@@ -105,7 +89,7 @@ fn show(
     let mut v = [0u8; 167];
     fill_patterns(&mut h, 1);
     fill_patterns(&mut v, 2);
-    let board = slices::part::front_u8(&h, length as usize);
+    let board = front(&h, length as usize);
     let mut rows = [0i32; 8193];
     let mut cols = [0i32; 8193];
     let mut orientations = [0u8; 8193];
@@ -123,28 +107,24 @@ fn show(
         col,
     );
     slide(&mut rows, &mut cols, down, right);
-    print(rt, b"  slid by ")?;
-    print(rt, shift)?;
-    print(rt, b": ")?;
+    print!(rt; "  slid by {shift}: ")?;
     print_answer(rt, decode(&rows, &cols, &orientations, &bits, n, board, &v))
 }
 
 // One transform, with shifts past both seams and below zero.
 fn show_shifts(rt: &impl Print, length: u16, transform: u8, row: u32, col: u32) -> io::Result<()> {
-    let wholes = [transform as u32, row, col];
-    let none = [0.0f32; 1];
-    print_form(rt, b"cut under % at %, %\n", &wholes, &none)?;
-    show(rt, length, transform, row, col, b"0, 0", 0, 0)?;
-    show(rt, length, transform, row, col, b"1, -2", 1, 4294967294)?;
-    show(rt, length, transform, row, col, b"-3, 5", 4294967293, 5)?;
-    show(rt, length, transform, row, col, b"250, 251", 250, 251)?;
+    println!(rt; "cut under {transform} at {row}, {col}")?;
+    show(rt, length, transform, row, col, "0, 0", 0, 0)?;
+    show(rt, length, transform, row, col, "1, -2", 1, 4294967294)?;
+    show(rt, length, transform, row, col, "-3, 5", 4294967293, 5)?;
+    show(rt, length, transform, row, col, "250, 251", 250, 251)?;
     show(
         rt,
         length,
         transform,
         row,
         col,
-        b"501, -501",
+        "501, -501",
         501,
         4294966795,
     )?;
@@ -154,7 +134,7 @@ fn show_shifts(rt: &impl Print, length: u16, transform: u8, row: u32, col: u32) 
         transform,
         row,
         col,
-        b"-1000, 999",
+        "-1000, 999",
         4294966296,
         999,
     )

@@ -1,7 +1,8 @@
 // Many edits in a row on one list of 24 places, each beside a recount of the list from nothing.
 use answer::Square;
 use board::edge::Edge;
-use console::print::{print, print_form};
+use board::list::{Edges, List};
+use board::pattern::Tables;
 use runs::cut::fill_patterns;
 use std::io;
 use tally::{Tally, TallyAnswer};
@@ -83,8 +84,8 @@ fn same(a: Tally, b: Tally) -> bool {
 // Whether a record is the one that is counted from nothing.
 fn recounted(counted: TallyAnswer, tally: Tally) -> bool {
     match counted {
-        TallyAnswer::Kept(t) => same(t, tally),
-        TallyAnswer::Refused(_) => false,
+        Ok(t) => same(t, tally),
+        Err(_) => false,
     }
 }
 
@@ -113,8 +114,7 @@ fn edit<'a>(
             tally,
             edge_of(y),
             1.0,
-            h,
-            v,
+            Tables { h, v },
         );
     }
     if kind < 24 {
@@ -126,8 +126,7 @@ fn edit<'a>(
             confidences,
             tally,
             position,
-            h,
-            v,
+            Tables { h, v },
         );
     }
     tally_flip::tally_flip(
@@ -138,15 +137,14 @@ fn edit<'a>(
         confidences,
         tally,
         position,
-        h,
-        v,
+        Tables { h, v },
     )
 }
 
 // One edit told in the course, beside a recount of the list that it left.
 fn told(course: Course, answer: TallyAnswer, counted: TallyAnswer) -> Course {
     match answer {
-        TallyAnswer::Kept(t) => {
+        Ok(t) => {
             let right = recounted(counted, t);
             Course {
                 tally: t,
@@ -155,7 +153,7 @@ fn told(course: Course, answer: TallyAnswer, counted: TallyAnswer) -> Course {
                 wrong: wronged(course.wrong, right),
             }
         }
-        TallyAnswer::Refused(_) => {
+        Err(_) => {
             let before = course.tally;
             let right = recounted(counted, before);
             Course {
@@ -193,26 +191,47 @@ fn step<'a>(
         h,
         v,
     );
-    let edges = edges_after(before, answer);
-    let counted = tally_of::tally_of(
+    let counted = recount(
         rows,
         cols,
         orientations,
         bits,
         confidences,
-        edges,
+        edges_after(before, answer),
         before.square,
-        h,
-        v,
+        Tables { h, v },
     );
     told(course, answer, counted)
+}
+
+// The tally of the first edges of the list, counted anew.
+fn recount(
+    rows: &[i32],
+    cols: &[i32],
+    orientations: &[u8],
+    bits: &[u8],
+    confidences: &[f32],
+    edges: u32,
+    square: Square,
+    tables: Tables,
+) -> TallyAnswer {
+    let list = List {
+        edges: Edges {
+            rows,
+            cols,
+            orientations,
+            bits,
+        },
+        confidences,
+    };
+    tally_of::tally_of(list, edges, square, tables)
 }
 
 // How many edges the list has after an edit.
 fn edges_after(before: Tally, answer: TallyAnswer) -> u32 {
     match answer {
-        TallyAnswer::Kept(t) => t.edges,
-        TallyAnswer::Refused(_) => before.edges,
+        Ok(t) => t.edges,
+        Err(_) => before.edges,
     }
 }
 
@@ -222,7 +241,7 @@ fn run(length: usize, square: Square, seed: u64) -> Course {
     let mut v = [0u8; 167];
     fill_patterns(&mut h, 1);
     fill_patterns(&mut v, 2);
-    let board = slices::part::front_u8(&h, length);
+    let board = slices::part::front(&h, length);
     let mut rows = [0i32; 24];
     let mut cols = [0i32; 24];
     let mut orientations = [0u8; 24];
@@ -277,26 +296,22 @@ fn show_run(
         },
         seed,
     );
-    let wholes = [course.kept, course.refused, course.wrong];
-    let none = [0.0f32; 1];
-    print_form(
-        rt,
-        b"400 edits: % kept, % refused, % records that differ from the recount; the last: ",
-        &wholes,
-        &none,
+    print!(rt;
+        "400 edits: {} kept, {} refused, {} records that differ from the recount; the last: ",
+        course.kept, course.refused, course.wrong,
     )?;
     let last = course.tally;
-    crate::show::print_tally(rt, TallyAnswer::Kept(last))
+    crate::show::print_tally(rt, Ok(last))
 }
 
 // All runs.
 pub(crate) fn show_all(rt: &impl Print) -> io::Result<()> {
-    print(rt, b"the flat board\n")?;
+    println!(rt; "the flat board")?;
     show_run(rt, 167, 0, 17, 400, 1)?;
     show_run(rt, 167, 3, 166, 167, 2)?;
     show_run(rt, 167, 5, 123, 456, 3)?;
-    print(rt, b"a pole of 4\n")?;
+    println!(rt; "a pole of 4")?;
     show_run(rt, 4, 1, 11, 500, 4)?;
-    print(rt, b"a pole of 500\n")?;
+    println!(rt; "a pole of 500")?;
     show_run(rt, 500, 6, 1499, 500, 5)
 }

@@ -5,12 +5,11 @@ mod edits; // many edits in a row, each beside a recount
 mod refused; // every refusal, and the order of two
 mod show; // a record and an answer in words
 
-use console::print::print;
 use std::io;
 
 fn main(rt: HostRuntime) -> io::Result<()> {
-    print(&rt, b"== edits in a row ==\n")?;
+    println!(rt; "== edits in a row ==")?;
     edits::show_all(&rt)?;
-    print(&rt, b"== refusals ==\n")?;
+    println!(rt; "== refusals ==")?;
     refused::show_all(&rt)
 }

@@ -1,10 +1,10 @@
 // Every refusal of an edit, and of two that apply the one that comes first. The list has three edges at row 0, column 0: two horizontal ones and a vertical one; the slices have four places.
 use answer::Square;
 use board::edge::Edge;
-use console::print::print;
+use board::pattern::Tables;
 use runs::cut::fill_patterns;
 use std::io;
-use tally::{Tally, TallyAnswer};
+use tally::Tally;
 
 // A record of the flat board at row 17, column 400 under a transform.
 fn record(transform: u8, row: u32, edges: u32, hits: u32, misses: u32, vertical: u32) -> Tally {
@@ -35,7 +35,7 @@ fn edge(row: i32, orientation: u8, bit: u8) -> Edge {
 // An edge added to the list.
 fn show_add(
     rt: &impl Print,
-    name: &[u8],
+    name: &str,
     tally: Tally,
     added: Edge,
     confidence: f32,
@@ -50,7 +50,7 @@ fn show_add(
     let mut orientations = [0u8, 0, 1, 0];
     let mut bits = [0u8, 1, 0, 0];
     let mut confidences = [1.0f32; 4];
-    print(rt, name)?;
+    print!(rt; "{name}")?;
     crate::show::print_tally(
         rt,
         tally_add::tally_add(
@@ -62,8 +62,10 @@ fn show_add(
             tally,
             added,
             confidence,
-            slices::part::front_u8(&h, length),
-            &v,
+            Tables {
+                h: slices::part::front(&h, length),
+                v: &v,
+            },
         ),
     )
 }
@@ -71,7 +73,7 @@ fn show_add(
 // The same, where the slice of bits has three places.
 fn show_short(
     rt: &impl Print,
-    name: &[u8],
+    name: &str,
     tally: Tally,
     added: Edge,
     confidence: f32,
@@ -86,7 +88,7 @@ fn show_short(
     let mut orientations = [0u8, 0, 1, 0];
     let mut bits = [0u8, 1, 0];
     let mut confidences = [1.0f32; 4];
-    print(rt, name)?;
+    print!(rt; "{name}")?;
     crate::show::print_tally(
         rt,
         tally_add::tally_add(
@@ -98,8 +100,10 @@ fn show_short(
             tally,
             added,
             confidence,
-            slices::part::front_u8(&h, length),
-            &v,
+            Tables {
+                h: slices::part::front(&h, length),
+                v: &v,
+            },
         ),
     )
 }
@@ -107,7 +111,7 @@ fn show_short(
 // An edge of the list removed, then flipped; its first edge has an orientation and a confidence.
 fn show_named(
     rt: &impl Print,
-    name: &[u8],
+    name: &str,
     tally: Tally,
     position: u32,
     orientation: u8,
@@ -123,8 +127,8 @@ fn show_named(
     let mut orientations = [orientation, 0, 1, 0];
     let mut bits = [0u8, 1, 0, 0];
     let mut confidences = [confidence; 4];
-    let board = slices::part::front_u8(&h, length);
-    print(rt, name)?;
+    let board = slices::part::front(&h, length);
+    print!(rt; "{name}")?;
     crate::show::print_tally(
         rt,
         tally_flip::tally_flip(
@@ -135,11 +139,10 @@ fn show_named(
             &confidences,
             tally,
             position,
-            board,
-            &v,
+            Tables { h: board, v: &v },
         ),
     )?;
-    print(rt, name)?;
+    print!(rt; "{name}")?;
     crate::show::print_tally(
         rt,
         tally_remove::tally_remove(
@@ -150,8 +153,7 @@ fn show_named(
             &mut confidences,
             tally,
             position,
-            board,
-            &v,
+            Tables { h: board, v: &v },
         ),
     )
 }
@@ -161,7 +163,7 @@ fn adding(rt: &impl Print) -> io::Result<()> {
     let bad = edge(2000000, 2, 2);
     show_short(
         rt,
-        b"2: slices differ: ",
+        "2: slices differ: ",
         record(8, 501, 5, 1, 1, 1),
         bad,
         1.5,
@@ -169,7 +171,7 @@ fn adding(rt: &impl Print) -> io::Result<()> {
     )?;
     show_add(
         rt,
-        b"24: longer than the slices: ",
+        "24: longer than the slices: ",
         record(8, 501, 5, 2, 2, 1),
         bad,
         1.5,
@@ -177,7 +179,7 @@ fn adding(rt: &impl Print) -> io::Result<()> {
     )?;
     show_add(
         rt,
-        b"24: counts do not add up: ",
+        "24: counts do not add up: ",
         record(8, 501, 4, 1, 1, 1),
         bad,
         1.5,
@@ -185,7 +187,7 @@ fn adding(rt: &impl Print) -> io::Result<()> {
     )?;
     show_add(
         rt,
-        b"24: counts that add up to 2^32 + 3: ",
+        "24: counts that add up to 2^32 + 3: ",
         record(8, 501, 3, 4294967295, 4, 0),
         bad,
         1.5,
@@ -193,7 +195,7 @@ fn adding(rt: &impl Print) -> io::Result<()> {
     )?;
     show_add(
         rt,
-        b"3: full slices: ",
+        "3: full slices: ",
         record(8, 501, 4, 1, 2, 1),
         bad,
         1.5,
@@ -201,7 +203,7 @@ fn adding(rt: &impl Print) -> io::Result<()> {
     )?;
     show_add(
         rt,
-        b"4: coordinate: ",
+        "4: coordinate: ",
         record(8, 501, 3, 1, 1, 1),
         bad,
         1.5,
@@ -209,7 +211,7 @@ fn adding(rt: &impl Print) -> io::Result<()> {
     )?;
     show_add(
         rt,
-        b"16: orientation: ",
+        "16: orientation: ",
         record(8, 501, 3, 1, 1, 1),
         edge(0, 2, 2),
         1.5,
@@ -217,7 +219,7 @@ fn adding(rt: &impl Print) -> io::Result<()> {
     )?;
     show_add(
         rt,
-        b"17: bit: ",
+        "17: bit: ",
         record(8, 501, 3, 1, 1, 1),
         edge(0, 1, 2),
         1.5,
@@ -225,7 +227,7 @@ fn adding(rt: &impl Print) -> io::Result<()> {
     )?;
     show_add(
         rt,
-        b"5: confidence: ",
+        "5: confidence: ",
         record(8, 501, 3, 1, 1, 1),
         edge(0, 1, 1),
         1.5,
@@ -233,7 +235,7 @@ fn adding(rt: &impl Print) -> io::Result<()> {
     )?;
     show_add(
         rt,
-        b"7: transform: ",
+        "7: transform: ",
         record(8, 501, 3, 1, 1, 1),
         edge(0, 1, 1),
         1.0,
@@ -241,7 +243,7 @@ fn adding(rt: &impl Print) -> io::Result<()> {
     )?;
     show_add(
         rt,
-        b"8: table: ",
+        "8: table: ",
         record(7, 501, 3, 1, 1, 1),
         edge(0, 1, 1),
         1.0,
@@ -249,7 +251,7 @@ fn adding(rt: &impl Print) -> io::Result<()> {
     )?;
     show_add(
         rt,
-        b"9: origin: ",
+        "9: origin: ",
         record(7, 501, 3, 1, 1, 1),
         edge(0, 1, 1),
         1.0,
@@ -257,7 +259,7 @@ fn adding(rt: &impl Print) -> io::Result<()> {
     )?;
     show_add(
         rt,
-        b"kept: ",
+        "kept: ",
         record(7, 500, 3, 1, 1, 1),
         edge(0, 1, 1),
         1.0,
@@ -269,7 +271,7 @@ fn adding(rt: &impl Print) -> io::Result<()> {
 fn naming(rt: &impl Print) -> io::Result<()> {
     show_named(
         rt,
-        b"24: counts do not add up: ",
+        "24: counts do not add up: ",
         record(8, 501, 4, 1, 1, 1),
         0,
         2,
@@ -278,7 +280,7 @@ fn naming(rt: &impl Print) -> io::Result<()> {
     )?;
     show_named(
         rt,
-        b"16: orientation: ",
+        "16: orientation: ",
         record(8, 501, 3, 1, 1, 1),
         0,
         2,
@@ -287,7 +289,7 @@ fn naming(rt: &impl Print) -> io::Result<()> {
     )?;
     show_named(
         rt,
-        b"5: confidence: ",
+        "5: confidence: ",
         record(8, 501, 3, 1, 1, 1),
         0,
         0,
@@ -296,7 +298,7 @@ fn naming(rt: &impl Print) -> io::Result<()> {
     )?;
     show_named(
         rt,
-        b"7: transform, before 18: ",
+        "7: transform, before 18: ",
         record(8, 501, 3, 1, 1, 1),
         3,
         2,
@@ -305,7 +307,7 @@ fn naming(rt: &impl Print) -> io::Result<()> {
     )?;
     show_named(
         rt,
-        b"8: table, before 18: ",
+        "8: table, before 18: ",
         record(7, 501, 3, 1, 1, 1),
         3,
         2,
@@ -314,7 +316,7 @@ fn naming(rt: &impl Print) -> io::Result<()> {
     )?;
     show_named(
         rt,
-        b"9: origin, before 18: ",
+        "9: origin, before 18: ",
         record(7, 501, 3, 1, 1, 1),
         3,
         2,
@@ -323,7 +325,7 @@ fn naming(rt: &impl Print) -> io::Result<()> {
     )?;
     show_named(
         rt,
-        b"18: no such edge: ",
+        "18: no such edge: ",
         record(7, 500, 3, 1, 1, 1),
         3,
         2,
@@ -332,20 +334,20 @@ fn naming(rt: &impl Print) -> io::Result<()> {
     )?;
     show_named(
         rt,
-        b"24: no such hit or miss to give up: ",
+        "24: no such hit or miss to give up: ",
         record(7, 500, 3, 0, 0, 3),
         0,
         0,
         1.0,
         167,
     )?;
-    show_named(rt, b"kept: ", record(7, 500, 3, 1, 1, 1), 0, 0, 1.0, 167)
+    show_named(rt, "kept: ", record(7, 500, 3, 1, 1, 1), 0, 0, 1.0, 167)
 }
 
 // All refusals.
 pub(crate) fn show_all(rt: &impl Print) -> io::Result<()> {
-    print(rt, b"adding an edge\n")?;
+    println!(rt; "adding an edge")?;
     adding(rt)?;
-    print(rt, b"flipping an edge, and removing it\n")?;
+    println!(rt; "flipping an edge, and removing it")?;
     naming(rt)
 }

@@ -1,73 +1,56 @@
 // The board and the view, read from their files. A file is read whole before any of it counts.
-ghost use Rattle.std.specs.Prelude.{◌≡◌, length};
-ghost use Rattle.viewtext.specs.Board.{Patterns, Whole};
+ghost use Rattle.std.specs.Prelude.{◌≡◌, length, true, IfSome};
+ghost use Rattle.ranges.specs.Ranges.{pole_length};
+ghost use Rattle.viewtext.specs.Board.{Patterns};
 
 use crate::report::{report, report_size};
+use console::argument::Argument;
 use console::files;
-use console::files::{argument, fail, read_full};
-use std::fs::File;
+use console::files::{fail, read_full};
 use std::io::Read;
-use viewtext::board_file;
-use viewtext::board_file::{Board, read_board};
-use viewtext::view_file::{View, read_view, unread};
+use viewtext::board_file::Board;
+use viewtext::view_file::{Lists, View, read_view};
 
-// The file that argument i names, opened for reading, or none after a message.
-fn open(rt: HostRuntime, i: usize) -> Option<File> {
-    let mut word = [0u8; 4096];
-    let n = argument(&rt, i, &mut word);
-    match files::open(&rt, &word[..n]) {
-        Ok(file) => Some(file),
+// The bytes of the file that argument i names, read into the room that is lent; none after a message where the file has more, or cannot be read.
+fn load(rt: HostRuntime, i: usize, room: &mut [u8]) -> Option<&[u8]> {
+    let name = Argument::read(&rt, i);
+    let mut file = match files::open(&rt, name.text()) {
+        Ok(file) => file,
         Err(e) => {
-            fail(rt, &word[..n], e);
+            fail(rt, name.text(), e);
+            return None;
+        }
+    };
+    let most = room.len();
+    let n = read_full(&mut file, room);
+    let mut one = [0u8; 1];
+    match file.read(&mut one) {
+        Ok(0) => Some(&room[..n]),
+        Ok(_) => {
+            report_size(rt, i, most);
+            None
+        }
+        Err(e) => {
+            fail(rt, name.text(), e);
             None
         }
     }
 }
 
-// Whether a file was read to its end; a message where it was not: it has more than `most` bytes, or it cannot be read.
-fn is_read(rt: HostRuntime, file: &mut File, i: usize, most: u32) -> bool {
-    let mut word = [0u8; 4096];
-    let n = argument(&rt, i, &mut word);
-    let mut one = [0u8; 1];
-    match file.read(&mut one) {
-        Ok(0) => true,
-        Ok(_) => {
-            report_size(rt, i, most);
-            false
-        }
-        Err(e) => {
-            fail(rt, &word[..n], e);
-            false
+// The board that argument i names, a file of at most 65,536 bytes; none after a message where it cannot be had.
+pub fn load_board(rt: HostRuntime, i: usize) -> Option<Board>
+    ensures whole { IfSome result (λ b. pole_length b.length ≡ true) }
+    ensures patterns { IfSome result (λ b. Patterns b.horizontal × Patterns b.vertical) }
+{
+    let mut room = [0u8; 65536];
+    let file = load(rt, i, &mut room)?;
+    match Board::read(file) {
+        Ok(board) => Some(board),
+        Err(fault) => {
+            report(rt, i, file, fault);
+            None
         }
     }
-}
-
-// The board of a text, with its tables filled; at fault after a message where the text is.
-fn board_of(rt: HostRuntime, i: usize, s: &[u8], tables: &mut [u8; 667]) -> Board
-    ensures whole { Whole result.what result.length }
-    ensures patterns { Patterns tables.old → Patterns tables.new }
-{
-    let board = read_board(s, tables);
-    if board.what != 0 {
-        report(rt, i, s, board.what, board.place);
-    }
-    board
-}
-
-// The board that argument i names, a file of at most 65,536 bytes, with its tables filled; at fault after a message where it cannot be had.
-pub fn load_board(rt: HostRuntime, i: usize, tables: &mut [u8; 667]) -> Board
-    ensures whole { Whole result.what result.length }
-    ensures patterns { Patterns tables.old → Patterns tables.new }
-{
-    let Some(mut file) = open(rt, i) else {
-        return board_file::unread();
-    };
-    let mut bytes = [0u8; 65536];
-    let n = read_full(&mut file, &mut bytes);
-    if !is_read(rt, &mut file, i, 65536) {
-        return board_file::unread();
-    }
-    board_of(rt, i, &bytes[..n], tables)
 }
 
 // Room for a view's file.
@@ -77,37 +60,15 @@ fn view_room() -> [u8; 1048576]
     [0; 1048576]
 }
 
-// The view that argument i names, a file of at most 1,048,576 bytes, with its edges in the columns; at fault after a message where it cannot be had.
-pub fn load_view(
-    rt: HostRuntime,
-    i: usize,
-    wholes: &mut [i32; 32768],
-    bytes: &mut [u8; 32768],
-    floats: &mut [f32; 49152],
-) -> View {
-    let Some(mut file) = open(rt, i) else {
-        return unread();
-    };
-    let mut text = view_room();
-    let n = read_full(&mut file, &mut text);
-    if !is_read(rt, &mut file, i, 1048576) {
-        return unread();
+// The view that argument i names, a file of at most 1,048,576 bytes, with its edges in the lists; none after a message where it cannot be had.
+pub fn load_view(rt: HostRuntime, i: usize, lists: &mut Lists) -> Option<View> {
+    let mut room = view_room();
+    let file = load(rt, i, &mut room)?;
+    match read_view(file, lists) {
+        Ok(view) => Some(view),
+        Err(fault) => {
+            report(rt, i, file, fault);
+            None
+        }
     }
-    view_of(rt, i, &text[..n], wholes, bytes, floats)
-}
-
-// The view of a text; at fault after a message where the text is.
-fn view_of(
-    rt: HostRuntime,
-    i: usize,
-    s: &[u8],
-    wholes: &mut [i32; 32768],
-    bytes: &mut [u8; 32768],
-    floats: &mut [f32; 49152],
-) -> View {
-    let view = read_view(s, wholes, bytes, floats);
-    if view.what != 0 {
-        report(rt, i, s, view.what, view.place);
-    }
-    view
 }

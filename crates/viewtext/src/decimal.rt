@@ -1,156 +1,132 @@
 // Numbers as a person writes them. A number is its digits, read as a whole number, over a power of ten; both stay below 2^24, where every whole number is an f32,
 // so that one division gives the f32 nearest to what is written.
-ghost use Rattle.std.specs.Prelude.{◌≡◌};
+ghost use Rattle.std.specs.Prelude.{◌≡◌, ◌<◌, ◌^◌, if◌then◌else◌, nat_eq, nat_lt, Some, None};
 ghost use Rattle.viewtext.specs.Decimal.{float_of, next_digits, next_scale};
 
-use crate::text::{Word, byte_after};
-
-// A number that was read: good if the word was one, its sign, its digits without the point, and the power of ten below them.
+// A number that was read: its sign, whether it has a point, its digits without the point, and the power of ten below them.
 #[derive(Clone, Copy)]
 pub struct Decimal {
-    pub good: bool,
-    pub minus: bool,
-    pub point: bool,
-    pub some: bool,
-    pub digits: u32,
-    pub scale: u32,
+    minus: bool,
+    point: bool,
+    digits: u32,
+    scale: u32,
+    ghost digits_fit: { digits < 2 ^ 24 },
+    ghost scale_fits: { (0 < scale) × (scale < 2 ^ 24) },
 }
 
-// Nothing read so far.
-fn begun(minus: bool) -> Decimal {
-    Decimal {
-        good: true,
-        minus,
-        point: false,
-        some: false,
-        digits: 0,
-        scale: 1,
-    }
-}
-
-// The same number, marked as no good.
-fn spoilt(d: Decimal) -> Decimal {
-    let mut out = d;
-    out.good = false;
-    out
-}
-
-// The power of ten below the digits after one digit more; 0 where that would be too large.
-fn next_scale(point: bool, scale: u32) -> u32
-    ensures { result ≡ next_scale point scale }
+// The digits with one more; none where there are too many, or where x is no digit.
+fn next_digits(digits: u32, x: u8) -> Option<u32>
+    ensures { result ≡ (if nat_lt (next_digits digits x) 16777216 then Some (next_digits digits x) else None) }
 {
-    if point {
-        if scale > 1000000 {
-            return 0;
-        }
-        return scale * 10;
+    if digits > 1677721 || x > 9 {
+        return None;
     }
-    scale
+    let next = digits * 10 + u32::from(x);
+    (next < 16777216).then_some(next)
 }
 
-// The digits with one more; 16,777,216 or more where there are too many, which no number of the command has.
-fn next_digits(digits: u32, x: u8) -> u32
-    ensures { result ≡ next_digits digits x }
+// The power of ten below the digits after one digit more; none where that would be too large.
+fn next_scale(point: bool, scale: u32) -> Option<u32>
+    requires { 0 < scale }
+    ensures { result ≡ (if nat_eq (next_scale point scale) 0 then None else Some (next_scale point scale)) }
 {
-    if digits > 1677721 {
-        return 16777216;
+    if !point {
+        return Some(scale);
     }
-    if x > 9 {
-        return 16777216;
+    if scale > 1000000 {
+        return None;
     }
-    digits * 10 + x as u32
+    Some(scale * 10)
 }
 
-// The number with one digit more, or spoilt where it has too many.
-fn with_digit(d: Decimal, x: u8) -> Decimal {
-    let digits = next_digits(d.digits, x);
-    let scale = next_scale(d.point, d.scale);
-    if digits > 16777215 || scale == 0 {
-        return spoilt(d);
-    }
-    let mut out = d;
-    out.some = true;
-    out.digits = digits;
-    out.scale = scale;
-    out
-}
-
-// The number with one byte more.
-fn with_byte(d: Decimal, b: u8) -> Decimal {
-    if b == b'.' {
-        if d.point {
-            return spoilt(d);
-        }
-        let mut out = d;
-        out.point = true;
-        return out;
-    }
-    if b < b'0' {
-        return spoilt(d);
-    }
-    with_digit(d, b - b'0')
-}
-
-// The number that stands from `from` to `to`, after its sign.
-fn unsigned(s: &[u8], from: usize, to: usize, minus: bool) -> Decimal {
-    let mut d = begun(minus);
-    let mut i = from;
-    while i < to {
-        if i >= s.len() {
-            return spoilt(d);
-        }
-        d = with_byte(d, s[i]);
-        i += 1;
-    }
-    d
-}
-
-// The number that a word is; good only if it has a digit and nothing else but a sign in front and one point.
-pub(crate) fn number(s: &[u8], w: Word) -> Decimal {
-    let from = w.from;
-    let to = w.to;
-    if from < to {
-        let minus = byte_after(s, from, 0) == b'-';
-        let d = if minus {
-            unsigned(s, from + 1, to, true)
-        } else {
-            unsigned(s, from, to, false)
+impl Decimal {
+    // The number that a word is: it has a digit, and nothing else but a sign in front and one point.
+    pub(crate) fn read(word: &[u8]) -> Option<Decimal> {
+        let (minus, unsigned) = match word {
+            [b'-', unsigned @ ..] => (true, unsigned),
+            _ => (false, word),
         };
-        if d.some {
-            return d;
+        if !unsigned.iter().any(|b| b.is_ascii_digit()) {
+            return None;
+        }
+        let start = Decimal {
+            minus,
+            point: false,
+            digits: 0,
+            scale: 1,
+        };
+        unsigned
+            .iter()
+            .try_fold(start, |number, byte| number.with_byte(*byte))
+    }
+
+    // The number with one byte more.
+    fn with_byte(self, byte: u8) -> Option<Decimal> {
+        match byte {
+            b'.' if self.point => None,
+            b'.' => Some(Decimal {
+                minus: self.minus,
+                point: true,
+                digits: self.digits,
+                scale: self.scale,
+            }),
+            b'0'..=b'9' => self.with_digit(byte - b'0'),
+            _ => None,
         }
     }
-    spoilt(begun(false))
-}
 
-// Whether a number is a whole one, written without a point, of at most the given size.
-pub(crate) fn whole_to(d: Decimal, most: u32) -> bool {
-    d.good && !d.point && d.digits <= most
-}
-
-// Whether a number lies from 0 to 1.
-pub(crate) fn is_share(d: Decimal) -> bool {
-    d.good && !d.minus && d.digits <= d.scale
-}
-
-// The f32 nearest to a number, by one division of two whole numbers that are f32 themselves.
-pub(crate) fn float(minus: bool, digits: u32, scale: u32) -> f32
-    ensures { result ≡ float_of minus digits scale }
-{
-    let x = std::num::nearest_u32_to_f32(digits) / std::num::nearest_u32_to_f32(scale);
-    if minus { 0.0 - x } else { x }
-}
-
-// Whether an f32 lies within 65,536 of 0.
-pub(crate) fn is_small(d: Decimal) -> bool {
-    let x = float(d.minus, d.digits, d.scale);
-    d.good && x >= -65536.0 && x <= 65536.0
-}
-
-// The whole number of the given sign and size, for sizes up to 1,000,000.
-pub(crate) fn signed(minus: bool, size: u32) -> i32 {
-    if size > 1000000 {
-        return 0;
+    // The number with one digit more, unless it has too many.
+    fn with_digit(self, x: u8) -> Option<Decimal> {
+        let digits = next_digits(self.digits, x)?;
+        let scale = next_scale(self.point, self.scale)?;
+        Some(Decimal {
+            minus: self.minus,
+            point: self.point,
+            digits,
+            scale,
+        })
     }
-    if minus { 0 - size as i32 } else { size as i32 }
+
+    // Whether it is a whole number, written without a point, of at most the given size.
+    pub(crate) fn is_whole_to(self, most: u32) -> bool {
+        !self.point && self.digits <= most
+    }
+
+    // Whether it has no minus in front.
+    pub(crate) fn is_unsigned(self) -> bool {
+        !self.minus
+    }
+
+    // Whether it lies from 0 to 1.
+    pub(crate) fn is_share(self) -> bool {
+        !self.minus && self.digits <= self.scale
+    }
+
+    // Whether its f32 lies within 65,536 of 0.
+    pub(crate) fn is_small(self) -> bool {
+        let x = self.to_f32();
+        x >= -65536.0 && x <= 65536.0
+    }
+
+    // The f32 nearest to it, by one division of two whole numbers that are f32 themselves.
+    pub(crate) fn to_f32(self) -> f32
+        ensures { result ≡ float_of self.minus self.digits self.scale }
+    {
+        let x = std::num::nearest_u32_to_f32(self.digits)
+            / std::num::nearest_u32_to_f32(self.scale);
+        if self.minus { 0.0 - x } else { x }
+    }
+
+    // Its digits, which are all of it where it is a whole number.
+    pub(crate) fn digits(self) -> u32
+        ensures { (result ≡ self.digits) × (result < 2 ^ 24) }
+    {
+        self.digits
+    }
+
+    // Its digits with its sign.
+    pub(crate) fn signed_digits(self) -> i32 {
+        let size = self.digits as i32;
+        if self.minus { -size } else { size }
+    }
 }

@@ -1,10 +1,12 @@
 // One list, cut from a board, through the test of its placing and through match statistics.
-use console::print::{print, print_form};
-use refusals::Admission;
-use runs::cut::{fill_patterns, front_f32, front_i32, front_u8, put_window};
-use runs::print::{print_admission, print_stats};
+use answer::Square;
+use board::list::{Edges, List};
+use board::pattern::Tables;
+use runs::cut::{fill_patterns, put_window};
+use runs::print::{print_refused, print_stats};
+use slices::part::front;
 use std::io;
-use within_answer::{LimitTest, WithinAnswer};
+use within_answer::WithinAnswer;
 
 // A bit that is turned where it is missed.
 fn turned(bit: u8, missed: bool) -> u8 {
@@ -14,71 +16,74 @@ fn turned(bit: u8, missed: bool) -> u8 {
 
 // Turns so many bits from a position on: these edges are missed.
 fn turn(bits: &mut [u8; 8193], from: usize, missed: usize) {
-    let mut i = 0;
-    while i < 8193 {
-        bits[i] = turned(
-            bits[i],
-            from <= i && i < std::num::wrapping_add_usize(from, missed),
-        );
-        i += 1;
+    for (i, bit) in bits.iter_mut().enumerate() {
+        *bit = turned(*bit, from <= i && i < from.wrapping_add(missed));
     }
 }
 
-// Spoils an edge, where there is one at the position. By the number 4 each of its fields is bad, by 16 each but the row, by 17 the bit and the confidence, by 5 the confidence alone.
+// Which fields of an edge are bad: each of them, each but the row, the bit and the confidence, or the confidence alone.
+#[derive(Clone, Copy)]
+pub(crate) enum Fields {
+    All,
+    AllButRow,
+    BitAndConfidence,
+    Confidence,
+}
+
+// A bad edge: its position, and which of its fields are bad.
+#[derive(Clone, Copy)]
+pub(crate) struct Bad {
+    pub at: usize,
+    pub fields: Fields,
+}
+
+// Spoils an edge, where there is one at the position.
 fn spoil(
     rows: &mut [i32; 8193],
     orientations: &mut [u8; 8193],
     bits: &mut [u8; 8193],
     confidences: &mut [f32; 8193],
-    at: usize,
-    number: u32,
+    bad: Bad,
 ) {
-    if at < 8193 {
-        confidences[at] = 1.5;
-        if number != 5 {
+    let Bad { at, fields } = bad;
+    if at >= 8193 {
+        return;
+    }
+    confidences[at] = 1.5;
+    match fields {
+        Fields::Confidence => {}
+        Fields::BitAndConfidence => bits[at] = 2,
+        Fields::AllButRow => {
             bits[at] = 2;
-            if number != 17 {
-                orientations[at] = 2;
-                if number != 16 {
-                    rows[at] = 1000001;
-                }
-            }
+            orientations[at] = 2;
+        }
+        Fields::All => {
+            bits[at] = 2;
+            orientations[at] = 2;
+            rows[at] = 1000001;
         }
     }
-}
-
-// What was judged.
-fn print_judged(rt: &impl Print, t: LimitTest) -> io::Result<()> {
-    let wholes = [t.read];
-    let none = [0.0f32; 1];
-    if t.within {
-        print_form(rt, b"yes after % edges", &wholes, &none)?;
-    } else {
-        print_form(rt, b"no after % edges", &wholes, &none)?;
-    }
-    Ok(())
 }
 
 // All that `within_limit` answers.
 fn print_within(rt: &impl Print, a: WithinAnswer) -> io::Result<()> {
     match a {
-        WithinAnswer::Judged(t) => print_judged(rt, t)?,
-        WithinAnswer::Refused(r) => {
-            print(rt, b"refused ")?;
-            print_admission(rt, Admission::Refused(r))?;
+        Ok(t) => {
+            let said = if t.within { "yes" } else { "no" };
+            print!(rt; "{said} after {} edges", t.read)
         }
+        Err(r) => print_refused(rt, r),
     }
-    Ok(())
 }
 
 // Both answers, under the list's name.
 fn show_both<'a>(
     rt: &impl Print,
-    rows: &[i32],
-    cols: &[i32],
-    orientations: &[u8],
-    bits: &[u8],
-    confidences: &[f32],
+    rows: &'a [i32],
+    cols: &'a [i32],
+    orientations: &'a [u8],
+    bits: &'a [u8],
+    confidences: &'a [f32],
     transform: u8,
     row: u32,
     col: u32,
@@ -86,40 +91,41 @@ fn show_both<'a>(
     v: &'a [u8],
     limit: f32,
 ) -> io::Result<()> {
-    print(rt, b"\n  ")?;
-    print_within(
-        rt,
-        within::within_limit(
+    print!(rt; "\n  ")?;
+    let list = List {
+        edges: Edges {
             rows,
             cols,
             orientations,
             bits,
-            confidences,
-            transform,
-            row,
-            col,
-            h,
-            v,
-            limit,
-        ),
-    )?;
-    print(rt, b"\n  match statistics: ")?;
-    print_stats(
-        rt,
-        stats::stats::match_stats(
+        },
+        confidences,
+    };
+    let tables = Tables { h, v };
+    let square = Square {
+        transform,
+        row,
+        col,
+    };
+    print_within(rt, within::within_limit(list, square, tables, limit))?;
+    print!(rt; "\n  match statistics: ")?;
+    let list = List {
+        edges: Edges {
             rows,
             cols,
             orientations,
             bits,
-            confidences,
-            transform,
-            row,
-            col,
-            h,
-            v,
-        ),
-    )?;
-    print(rt, b"\n")
+        },
+        confidences,
+    };
+    let tables = Tables { h, v };
+    let square = Square {
+        transform,
+        row,
+        col,
+    };
+    print_stats(rt, stats::stats::match_stats(list, square, tables))?;
+    println!(rt; "")
 }
 
 // The first n edges of a window of some squares, cut under transform 0 at row 2, column 400 of a board, with so many edges missed from a position on and one spoiled. They are tested at the placing
@@ -132,8 +138,7 @@ fn show_seen<'a>(
     n: usize,
     from: usize,
     missed: usize,
-    at: usize,
-    number: u32,
+    bad: Option<Bad>,
     transform: u8,
     row: u32,
     col: u32,
@@ -156,23 +161,24 @@ fn show_seen<'a>(
         2,
         400,
     );
-    let some = if n < count { n } else { count };
+    let some = n.min(count);
     turn(&mut bits, from, missed);
-    spoil(
-        &mut rows,
-        &mut orientations,
-        &mut bits,
-        &mut confidences,
-        at,
-        number,
-    );
+    if let Some(bad) = bad {
+        spoil(
+            &mut rows,
+            &mut orientations,
+            &mut bits,
+            &mut confidences,
+            bad,
+        );
+    }
     show_both(
         rt,
-        front_i32(&rows, some),
-        front_i32(&cols, some),
-        front_u8(&orientations, some),
-        front_u8(&bits, some),
-        front_f32(&confidences, some),
+        front(&rows, some),
+        front(&cols, some),
+        front(&orientations, some),
+        front(&bits, some),
+        front(&confidences, some),
         transform,
         row,
         col,
@@ -185,40 +191,35 @@ fn show_seen<'a>(
 // The same of a board whose horizontal table has `length` patterns, under a name.
 pub(crate) fn show_cut(
     rt: &impl Print,
-    name: &[u8],
+    name: &str,
     length: usize,
     squares: u8,
     n: usize,
     from: usize,
     missed: usize,
-    at: usize,
-    number: u32,
+    bad: Option<Bad>,
     transform: u8,
     row: u32,
     col: u32,
     limit: f32,
 ) -> io::Result<()> {
-    print(rt, name)?;
+    print!(rt; "{name}")?;
     let mut h = [0u8; 500];
     let mut v = [0u8; 167];
     fill_patterns(&mut h, 1);
     fill_patterns(&mut v, 2);
     show_seen(
         rt,
-        slices::part::front_u8(&h, length),
+        front(&h, length),
         &v,
         squares,
         n,
         from,
         missed,
-        at,
-        number,
+        bad,
         transform,
         row,
         col,
         limit,
     )
 }
-
-// No edge: past the end of every list.
-pub(crate) const NONE: usize = 9000;

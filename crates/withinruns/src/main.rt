@@ -7,14 +7,13 @@ mod stops; // windows that pass and fail at the first, a middle and the last edg
 mod edges; // bad edges before and after the stop
 mod calls; // calls that must be refused, the empty list and the longest
 
-use console::print::print;
 use std::io;
 
 fn main(rt: HostRuntime) -> io::Result<()> {
-    print(&rt, b"== where the answer is certain ==\n")?;
+    println!(rt; "== where the answer is certain ==")?;
     stops::show_all(&rt)?;
-    print(&rt, b"== bad edges ==\n")?;
+    println!(rt; "== bad edges ==")?;
     edges::show_all(&rt)?;
-    print(&rt, b"== calls ==\n")?;
+    println!(rt; "== calls ==")?;
     calls::show_all(&rt)
 }

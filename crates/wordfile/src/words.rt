@@ -1,88 +1,69 @@
-// A file as words of four bytes, the lowest first, read through a buffer of 65,536 bytes; and what a word stands for.
-ghost use Rattle.std.specs.Prelude.{◌≡◌, true, ◌%◌};
+// A file as words of four bytes, the lowest first; and what a word stands for.
+ghost use Rattle.std.specs.Prelude.{◌≡◌, ◌≤◌, true, ◌%◌};
 ghost use Rattle.wordfile.specs.Bits.{real_bits, signed_of, float_of};
 
 use std::io;
 use std::io::Read;
 
-// Where the next word stands in the buffer, and how far the buffer is filled.
-#[derive(Clone, Copy)]
-pub struct Cursor {
-    pub at: usize,
-    pub len: usize,
+// How many bytes are read at once.
+const ROOM: usize = 65536;
+
+// The words of a file: what of it is read ahead stands in the room from `at` to `end`.
+#[derive(Drop)]
+pub struct Words<F: Read + Drop> {
+    file: F,
+    room: [u8; 65536],
+    at: usize,
+    end: usize,
+    ghost within: { (at ≤ end) × (end ≤ 65536) },
 }
 
-// A word, and where the next one stands.
-#[derive(Clone, Copy)]
-pub struct Word {
-    pub value: u32,
-    pub next: Cursor,
-}
-
-// Four bytes as a number.
-fn number(a: u8, b: u8, c: u8, d: u8) -> u32 {
-    (((d as u32) * 256 + (c as u32)) * 256 + (b as u32)) * 256 + (a as u32)
-}
-
-// Whether no whole word is left in the buffer.
-fn used_up(at: usize, len: usize) -> bool {
-    if 65532 < at {
-        return true;
-    }
-    len < at + 4
-}
-
-// The buffer filled from its start until it is full or the file ends: how far.
-fn fill(file: &mut impl Read, buf: &mut [u8; 65536]) -> io::Result<usize> {
-    let mut done = 0;
-    while done < buf.len() {
-        let n = file.read(&mut buf[done..])?;
-        if n == 0 {
-            break;
+impl<F: Read + Drop> Words<F> {
+    // The words of a file, from where it stands.
+    pub fn new(file: F) -> Words<F> {
+        Words {
+            file,
+            room: [0; ROOM],
+            at: 0,
+            end: 0,
         }
-        done += n;
     }
-    Ok(done)
-}
 
-// The buffer filled again from the file.
-fn refill(file: &mut impl Read, buf: &mut [u8; 65536]) -> io::Result<Cursor> {
-    let len = fill(file, buf)?;
-    Ok(Cursor { at: 0, len })
-}
+    // The room filled from its start until it is full or the file ends.
+    fn fill(&mut self) -> io::Result<()> {
+        self.at = 0;
+        self.end = 0;
+        while self.end < ROOM {
+            let n = self.file.read(&mut self.room[self.end..])?;
+            if n == 0 {
+                break;
+            }
+            self.end += n;
+        }
+        Ok(())
+    }
 
-// The buffer with a word in it, where the file has one.
-fn ready(file: &mut impl Read, buf: &mut [u8; 65536], c: Cursor) -> io::Result<Cursor> {
-    if used_up(c.at, c.len) {
-        return refill(file, buf);
+    // The next word; 0 past the end of the file.
+    pub fn next_word(&mut self) -> io::Result<u32> {
+        if self.end - self.at < 4 {
+            self.fill()?;
+        }
+        match self.room[self.at..self.end].first_chunk() {
+            Some(word) => {
+                let word = u32::from_le_bytes(*word);
+                self.at += 4;
+                Ok(word)
+            }
+            None => Ok(0),
+        }
     }
-    Ok(c)
-}
-
-// The next word; 0 past the end of the file.
-pub fn next_word(file: &mut impl Read, buf: &mut [u8; 65536], c: Cursor) -> io::Result<Word> {
-    let d = ready(file, buf, c)?;
-    let at = d.at;
-    let len = d.len;
-    if used_up(at, len) {
-        return Ok(Word { value: 0, next: d });
-    }
-    if 65532 < at {
-        return Ok(Word { value: 0, next: d });
-    }
-    let value = number(buf[at], buf[at + 1], buf[at + 2], buf[at + 3]);
-    let next = Cursor { at: at + 4, len };
-    Ok(Word { value, next })
 }
 
 // A word as a coordinate, by two's complement.
 pub fn signed(x: u32) -> i32
     ensures { result ≡ signed_of x }
 {
-    if x < 2147483648 {
-        return x as i32;
-    }
-    -1 - ((4294967295 - x) as i32)
+    x.cast_signed()
 }
 
 // A float's bits that are no NaN's.
@@ -104,10 +85,7 @@ fn real(x: u32) -> bool
 pub fn float(x: u32) -> f32
     ensures { result ≡ float_of x }
 {
-    if real(x) {
-        return float_of(x);
-    }
-    0.0 / 0.0
+    if real(x) { float_of(x) } else { f32::NAN }
 }
 
 // A word as a byte: its lowest.

@@ -4,7 +4,9 @@ ghost use Rattle.std.specs.Prelude.{◌≡◌, ◌<◌, ◌≤◌, length};
 ghost use Rattle.board.specs.Hits.{edges, tables};
 ghost use Rattle.tables.specs.Built.{TablesReady};
 
-use console::print::{bits_of, print, print_form, print_long};
+use board::list::{Edges, List};
+use board::pattern::Tables;
+use console::number::{Bits, bits_of};
 use runs::cut::fill_patterns;
 use std::io;
 
@@ -21,9 +23,9 @@ fn checksum(counts: &[u32], weights: &[f32], n: usize) -> u64
     requires { (n ≤ length counts.now) × (n ≤ length weights.now) }
 {
     let mut sum: u64 = 0;
-    for i in 0..n {
-        sum = stir(sum, counts[i]);
-        sum = stir(sum, bits_of(weights[i]));
+    for (count, weight) in counts[..n].iter().zip(&weights[..n]) {
+        sum = stir(sum, *count);
+        sum = stir(sum, bits_of(*weight));
     }
     sum
 }
@@ -32,11 +34,7 @@ fn checksum(counts: &[u32], weights: &[f32], n: usize) -> u64
 fn print_cell(rt: &impl Print, counts: &[u32], weights: &[f32], k: usize) -> io::Result<()>
     requires { (k < length counts.now) × (k < length weights.now) }
 {
-    print(rt, b"cell ")?;
-    print_long(rt, k as u64)?;
-    let wholes = [counts[k]];
-    let floats = [weights[k]];
-    print_form(rt, b": % ^\n", &wholes, &floats)
+    println!(rt; "cell {k}: {} {}", counts[k], Bits(weights[k]))
 }
 
 // Some cells, and the checksum of all.
@@ -46,19 +44,17 @@ fn print_cells(rt: &impl Print, counts: &[u32], weights: &[f32]) -> io::Result<(
     for j in 0..6 {
         print_cell(rt, counts, weights, j * 200)?;
     }
-    print(rt, b"all ")?;
-    print_long(rt, checksum(counts, weights, 1002))?;
-    print(rt, b"\n")
+    println!(rt; "all {}", checksum(counts, weights, 1002))
 }
 
 // The tables of transform t, built and written.
 fn show<'a>(
     rt: &impl Print,
-    rows: &[i32],
-    cols: &[i32],
-    orientations: &[u8],
-    bits: &[u8],
-    confidences: &[f32],
+    rows: &'a [i32],
+    cols: &'a [i32],
+    orientations: &'a [u8],
+    bits: &'a [u8],
+    confidences: &'a [f32],
     t: u8,
     h: &'a [u8],
     v: &'a [u8],
@@ -69,21 +65,18 @@ fn show<'a>(
     requires counts_len { (length counts.old ≡ 3006) × (length weights.old ≡ 3006) }
     ensures { (length counts.new ≡ 3006) × (length weights.new ≡ 3006) }
 {
-    print(rt, b"transform ")?;
-    print_long(rt, t as u64)?;
-    print(rt, b"\n")?;
-    tables::build::build_tables(
-        rows,
-        cols,
-        orientations,
-        bits,
+    println!(rt; "transform {t}")?;
+    let list = List {
+        edges: Edges {
+            rows,
+            cols,
+            orientations,
+            bits,
+        },
         confidences,
-        t,
-        h,
-        v,
-        counts,
-        weights,
-    );
+    };
+    let tables = Tables { h, v };
+    tables::build::build_tables(list, t, tables, counts, weights);
     print_cells(rt, counts, weights)
 }
 

@@ -1,74 +1,60 @@
 // Runs the functions of `likelihood` on document 01's numbers and on the numbers at their edges.
 ghost use Rattle.std.specs.Prelude.{◌^◌, ◌≤◌, unsigned_abs};
 
-use console::print::{print, print_float};
-use runs::print::{print_line, print_whole};
+use console::number::Bits;
 use std::io;
 
-// What the likelihood x is quantised to.
-fn print_quantised(rt: &impl Print, x: f32) -> io::Result<()> {
+// The likelihood x by its name, and the whole number that it is quantised to.
+fn quantise(rt: &impl Print, name: &str, x: f32) -> io::Result<()> {
+    print!(rt; "quantise {name}: ")?;
     if likelihood::is_likelihood(x) {
-        print_whole(rt, likelihood::quantize_ll(x))?;
+        println!(rt; "{}", likelihood::quantize_ll(x))
     } else {
-        print(rt, b"refused")?;
+        println!(rt; "refused")
     }
-    Ok(())
-}
-
-// The likelihood x by its name, the k-th, and the whole number that it becomes.
-fn quantise(rt: &impl Print, k: u32, x: f32) -> io::Result<()> {
-    print(rt, b"quantise ")?;
-    print_line(
-        rt,
-        b"-2^-25\n-2^-26\n-65536\n65536\n2^-25\n2^-25 - 2^-49\n5 * 2^-25\n-7 * 2^-25\n\
-        2^-24\n-0.7\n1\n0\n-0\n2^-149\n\
-        65536 - 2^-8\n65536 + 2^-7\n-65536 - 2^-7\ninfinity\n-infinity\nNaN",
-        k,
-    )?;
-    print(rt, b": ")?;
-    print_quantised(rt, x)?;
-    print(rt, b"\n")
 }
 
 // A sum and the bits of the f32 that it returns to.
 fn back(rt: &impl Print, sum: i64) -> io::Result<()>
     requires { unsigned_abs sum ≤ 2 ^ 53 }
 {
-    print(rt, b"back ")?;
-    print_whole(rt, sum)?;
-    print(rt, b": ")?;
-    print_float(rt, likelihood::dequantize_ll(sum))?;
-    print(rt, b"\n")
+    println!(rt; "back {sum}: {}", Bits(likelihood::dequantize_ll(sum)))
 }
 
-// Halves and the ends of the range; whole numbers, 0 and the smallest floats; the last that are taken, and what is refused. Their names stand in the same order.
-fn quantise_all(rt: &impl Print) -> io::Result<()> {
-    let xs = [
-        -1.0f32 / 33554432.0,
-        -1.0 / 67108864.0,
-        -65536.0,
-        65536.0,
-        1.0 / 33554432.0,
-        16777215.0 / 562949953421312.0,
-        5.0 / 33554432.0,
-        -7.0 / 33554432.0,
-        1.0 / 16777216.0,
-        -0.7,
-        1.0,
-        0.0,
-        -0.0,
+// Halves and the ends of the range.
+fn quantise_halves(rt: &impl Print) -> io::Result<()> {
+    quantise(rt, "-2^-25", -1.0 / 33554432.0)?;
+    quantise(rt, "-2^-26", -1.0 / 67108864.0)?;
+    quantise(rt, "-65536", -65536.0)?;
+    quantise(rt, "65536", 65536.0)?;
+    quantise(rt, "2^-25", 1.0 / 33554432.0)?;
+    quantise(rt, "2^-25 - 2^-49", 16777215.0 / 562949953421312.0)?;
+    quantise(rt, "5 * 2^-25", 5.0 / 33554432.0)?;
+    quantise(rt, "-7 * 2^-25", -7.0 / 33554432.0)
+}
+
+// Whole numbers, 0 and the smallest floats.
+fn quantise_wholes(rt: &impl Print) -> io::Result<()> {
+    quantise(rt, "2^-24", 1.0 / 16777216.0)?;
+    quantise(rt, "-0.7", -0.7)?;
+    quantise(rt, "1", 1.0)?;
+    quantise(rt, "0", 0.0)?;
+    quantise(rt, "-0", -0.0)?;
+    quantise(
+        rt,
+        "2^-149",
         1.0 / 1267650600228229401496703205376.0 / 562949953421312.0,
-        65535.99609375,
-        65536.0078125,
-        -65536.0078125,
-        1.0 / 0.0,
-        -1.0 / 0.0,
-        0.0 / 0.0,
-    ];
-    for i in 0..20usize {
-        quantise(rt, i as u32, xs[i])?;
-    }
-    Ok(())
+    )
+}
+
+// The last that are taken, and what is refused.
+fn quantise_last(rt: &impl Print) -> io::Result<()> {
+    quantise(rt, "65536 - 2^-8", 65535.99609375)?;
+    quantise(rt, "65536 + 2^-7", 65536.0078125)?;
+    quantise(rt, "-65536 - 2^-7", -65536.0078125)?;
+    quantise(rt, "infinity", 1.0 / 0.0)?;
+    quantise(rt, "-infinity", -1.0 / 0.0)?;
+    quantise(rt, "NaN", 0.0 / 0.0)
 }
 
 // Sums around 24 significant bits, and the ends of the range.
@@ -92,6 +78,8 @@ fn back_all(rt: &impl Print) -> io::Result<()> {
 
 // Both functions, each on its numbers.
 pub(crate) fn show_all(rt: &impl Print) -> io::Result<()> {
-    quantise_all(rt)?;
+    quantise_halves(rt)?;
+    quantise_wholes(rt)?;
+    quantise_last(rt)?;
     back_all(rt)
 }

@@ -10,20 +10,19 @@ mod class_tables; // the class tables of one list for two transforms
 mod windows; // hard decode of windows and of lists that it must refuse
 mod soft_windows; // soft decode of noisy windows
 
-use console::print::print;
 use std::io;
 
 fn main(rt: HostRuntime) -> io::Result<()> {
-    print(&rt, b"== likelihoods ==\n")?;
+    println!(rt; "== likelihoods ==")?;
     likelihoods::show_all(&rt)?;
-    print(&rt, b"== refusals ==\n")?;
+    println!(rt; "== refusals ==")?;
     refused::show_all(&rt)?;
-    print(&rt, b"== which edge ==\n")?;
+    println!(rt; "== which edge ==")?;
     which_edge::show_all(&rt)?;
-    print(&rt, b"== class tables ==\n")?;
+    println!(rt; "== class tables ==")?;
     class_tables::show_all(&rt)?;
-    print(&rt, b"== windows ==\n")?;
+    println!(rt; "== windows ==")?;
     windows::show_all(&rt)?;
-    print(&rt, b"== soft windows ==\n")?;
+    println!(rt; "== soft windows ==")?;
     soft_windows::show_all(&rt)
 }

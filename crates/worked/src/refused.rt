@@ -1,139 +1,234 @@
 // Tries each refusal from 1 to 9, 16 and 17 alone, each pair of neighbours (those of 4, 16 and 17 in `which_edge`), the limits of every range, and NaN, infinities and -0
-// in each float place. A case is a good call with one or two faults, by number; what hard decode, soft decode and match statistics say of it is written in a line.
-use answer::StatsAnswer;
-use console::print::print;
+// in each float place. A case is a good call with one or two faults; what hard decode, soft decode and match statistics say of it is written in a line.
+use admission::call::{HardCall, SoftCall};
+use answer::{Square, StatsAnswer};
+use board::list::{Edges, List};
+use board::pattern::Tables;
+use likelihood::Likelihoods;
 use refusals::Admission;
-use runs::cut::{front_f32, front_i32, front_u8};
-use runs::print::{print_admission, print_line, print_stats};
+use runs::print::{print_admission, print_stats};
+use slices::part::front;
 use std::io;
 
-// Whether fault k is one of the two of a case.
-fn on(a: u32, b: u32, k: u32) -> bool {
-    a == k || b == k
+// A place of a call that holds a float: a logical edge's confidence, the log likelihoods of a match and of a mismatch, the error limit and the soft margin.
+#[derive(Clone, Copy, PartialEq, Eq)]
+enum Place {
+    Confidence,
+    Match,
+    Mismatch,
+    Limit,
+    Margin,
 }
 
-// x if yes, else y; one function for each type.
-fn pick(yes: bool, x: usize, y: usize) -> usize {
-    if yes { x } else { y }
-}
-
-fn pick_f32(yes: bool, x: f32, y: f32) -> f32 {
-    if yes { x } else { y }
-}
-
-fn pick_i32(yes: bool, x: i32, y: i32) -> i32 {
-    if yes { x } else { y }
-}
-
-fn pick_u32(yes: bool, x: u32, y: u32) -> u32 {
-    if yes { x } else { y }
-}
-
-fn pick_u8(yes: bool, x: u8, y: u8) -> u8 {
-    if yes { x } else { y }
-}
-
-// A column whose first element may differ from the others; one function for each type.
-fn column_i32(first: i32, rest: i32) -> [i32; 8193] {
-    let mut xs = [rest; 8193];
-    xs[0] = first;
-    xs
-}
-
-fn column_u8(first: u8, rest: u8) -> [u8; 8193] {
-    let mut xs = [rest; 8193];
-    xs[0] = first;
-    xs
-}
-
-fn column_f32(first: f32, rest: f32) -> [f32; 8193] {
-    let mut xs = [rest; 8193];
-    xs[0] = first;
-    xs
-}
-
-// The columns of a case: the logical list's, then those of the physical list that differ from them, likelihoods, transforms and tables. A fault is in the first
-// element.
-fn rows_of(a: u32, b: u32) -> [i32; 8193] {
-    let x = pick_i32(on(a, b, 20), 1000001, 3);
-    let x = pick_i32(on(a, b, 21), -1000001, x);
-    column_i32(pick_i32(on(a, b, 23), -1000000, x), 3)
-}
-
-fn cols_of(a: u32, b: u32) -> [i32; 8193] {
-    let x = pick_i32(on(a, b, 22), 1000001, 4);
-    column_i32(pick_i32(on(a, b, 24), 1000000, x), 4)
-}
-
-fn orientations_of(a: u32, b: u32) -> [u8; 8193] {
-    column_u8(pick_u8(on(a, b, 25), 2, 1), 1)
-}
-
-fn bits_of(a: u32, b: u32) -> [u8; 8193] {
-    let x = pick_u8(on(a, b, 26), 2, 0);
-    column_u8(pick_u8(on(a, b, 27), 1, x), 0)
-}
-
-fn confidences_of(a: u32, b: u32) -> [f32; 8193] {
-    let x = pick_f32(on(a, b, 50), 0.0 / 0.0, 0.5);
-    let x = pick_f32(on(a, b, 51), -0.5, x);
-    let x = pick_f32(on(a, b, 52), 1.5, x);
-    let x = pick_f32(on(a, b, 53), 1.0 / 0.0, x);
-    let x = pick_f32(on(a, b, 54), -1.0 / 0.0, x);
-    let x = pick_f32(on(a, b, 55), -0.0, x);
-    column_f32(pick_f32(on(a, b, 56), 1.0, x), 0.5)
-}
-
-fn prows_of(a: u32, b: u32) -> [i32; 8193] {
-    column_i32(pick_i32(on(a, b, 30), 1000001, 3), 3)
-}
-
-fn porientations_of(a: u32, b: u32) -> [u8; 8193] {
-    column_u8(pick_u8(on(a, b, 31), 2, 1), 1)
-}
-
-fn pconfidences_of(a: u32, b: u32) -> [f32; 8193] {
-    column_f32(pick_f32(on(a, b, 32), 1.5, 0.5), 0.5)
-}
-
-fn transforms_of(a: u32, b: u32) -> [u8; 8193] {
-    column_u8(pick_u8(on(a, b, 70), 8, 5), 5)
-}
-
-fn horizontal_of(a: u32, b: u32) -> [u8; 8193] {
-    column_u8(pick_u8(on(a, b, 80), 8, 2), 2)
-}
-
-fn vertical_of(a: u32, b: u32) -> [u8; 8193] {
-    column_u8(pick_u8(on(a, b, 81), 8, 5), 5)
-}
-
-// One likelihood's column, with the faults from k on.
-fn likelihoods_of(good: f32, a: u32, b: u32, k: u32) -> [f32; 8193] {
-    if k < 1000 {
-        let x = pick_f32(on(a, b, k), 0.0 / 0.0, good);
-        let x = pick_f32(on(a, b, k + 1), 1.0 / 0.0, x);
-        let x = pick_f32(on(a, b, k + 2), -1.0 / 0.0, x);
-        let x = pick_f32(on(a, b, k + 3), 65536.0078125, x);
-        let x = pick_f32(on(a, b, k + 4), -65536.0078125, x);
-        let x = pick_f32(on(a, b, k + 5), -0.0, x);
-        return column_f32(pick_f32(on(a, b, k + 6), -65536.0, x), good);
+impl Place {
+    // The floats that it is tried with.
+    fn range(self) -> Range {
+        let (good, above, below, end) = match self {
+            Place::Confidence => (0.5, 1.5, -0.5, 1.0),
+            Place::Match => (-0.25, 65536.0078125, -65536.0078125, -65536.0),
+            Place::Mismatch => (-2.0, 65536.0078125, -65536.0078125, -65536.0),
+            Place::Limit => (0.25, 1.5, -0.5, 1.0),
+            Place::Margin => (0.5, 98304.0, -0.5, 65536.0),
+        };
+        Range {
+            good,
+            above,
+            below,
+            end,
+        }
     }
-    column_f32(good, good)
 }
 
-// A setting with the faults of its place, from k on; top is the largest that is taken.
-fn setting(good: f32, a: u32, b: u32, k: u32, top: f32) -> f32 {
-    if k < 1000 {
-        let x = pick_f32(on(a, b, k), 0.0 / 0.0, good);
-        let x = pick_f32(on(a, b, k + 1), 1.0 / 0.0, x);
-        let x = pick_f32(on(a, b, k + 2), -1.0 / 0.0, x);
-        let x = pick_f32(on(a, b, k + 3), top * 1.5, x);
-        let x = pick_f32(on(a, b, k + 4), -0.5, x);
-        let x = pick_f32(on(a, b, k + 5), -0.0, x);
-        return pick_f32(on(a, b, k + 6), top, x);
+// What a float place is tried with: a good float, one above its range, one below it, and one at its end, which is taken.
+#[derive(Clone, Copy)]
+struct Range {
+    good: f32,
+    above: f32,
+    below: f32,
+    end: f32,
+}
+
+impl Range {
+    // The float of a kind, or the good one.
+    fn of(self, kind: Option<Kind>) -> f32 {
+        match kind {
+            None => self.good,
+            Some(Kind::Nan) => 0.0 / 0.0,
+            Some(Kind::Infinity) => 1.0 / 0.0,
+            Some(Kind::MinusInfinity) => -1.0 / 0.0,
+            Some(Kind::Above) => self.above,
+            Some(Kind::Below) => self.below,
+            Some(Kind::MinusZero) => -0.0,
+            Some(Kind::End) => self.end,
+        }
     }
-    good
+}
+
+// The kind of a float that is not the good one.
+#[derive(Clone, Copy, PartialEq, Eq)]
+enum Kind {
+    Nan,
+    Infinity,
+    MinusInfinity,
+    Above,
+    Below,
+    MinusZero,
+    End,
+}
+
+// What a case has in place of what a good call has; some of it is taken as well. A fault of a list, a table or the transforms is in the first element.
+#[derive(Clone, Copy, PartialEq, Eq)]
+enum Fault {
+    None,
+    // lent room, columns and lists of other lengths
+    CountsShort,
+    WeightsShort,
+    SumsShort,
+    ColumnsShort,
+    PhysicalConfidencesShort,
+    MatchesShort,
+    Empty,
+    PhysicalEmpty,
+    Edges1,
+    Edges8192,
+    Edges8193,
+    // an edge of the logical list
+    RowAbove,
+    RowBelow,
+    RowLeast,
+    ColAbove,
+    ColMost,
+    Orientation,
+    Bit,
+    Missed,
+    // an edge of the physical list
+    PhysicalRow,
+    PhysicalOrientation,
+    PhysicalConfidence,
+    // transforms, pattern tables, and the origin for match statistics
+    Transform,
+    NoTransforms,
+    NineTransforms,
+    HorizontalPattern,
+    VerticalPattern,
+    HorizontalTable,
+    VerticalTable,
+    OriginRow,
+    OriginCol,
+    // a float
+    Float(Place, Kind),
+}
+
+impl Fault {
+    // The kind of the float that it puts in a place, if it puts one there.
+    fn float_in(self, place: Place) -> Option<Kind> {
+        match self {
+            Fault::Float(at, kind) => { if at == place { Some(kind) } else { None } }
+            _ => None,
+        }
+    }
+}
+
+// The faults of a case: two, of which one or both may be none.
+#[derive(Clone, Copy)]
+struct Case {
+    one: Fault,
+    other: Fault,
+}
+
+impl Case {
+    // x if the fault is one of the two, else y.
+    fn pick<T: Copy>(self, fault: Fault, x: T, y: T) -> T {
+        if self.one == fault || self.other == fault {
+            x
+        } else {
+            y
+        }
+    }
+
+    // The float at a place.
+    fn float(self, place: Place) -> f32 {
+        let kind = match self.one.float_in(place) {
+            None => self.other.float_in(place),
+            found => found,
+        };
+        place.range().of(kind)
+    }
+
+    // The first row of the logical list.
+    fn row(self) -> i32 {
+        let x = self.pick(Fault::RowAbove, 1000001, 3);
+        let x = self.pick(Fault::RowBelow, -1000001, x);
+        self.pick(Fault::RowLeast, -1000000, x)
+    }
+
+    // The first column of both lists.
+    fn col(self) -> i32 {
+        let x = self.pick(Fault::ColAbove, 1000001, 4);
+        self.pick(Fault::ColMost, 1000000, x)
+    }
+
+    // The first bit of both lists.
+    fn bit(self) -> u8 {
+        let x = self.pick(Fault::Bit, 2, 0);
+        self.pick(Fault::Missed, 1, x)
+    }
+
+    // How many edges both lists have, where neither is empty.
+    fn edges(self) -> usize {
+        let n = self.pick(Fault::Edges8193, 8193, 2);
+        let n = self.pick(Fault::Edges8192, 8192, n);
+        self.pick(Fault::Edges1, 1, n)
+    }
+}
+
+// A column whose first element may differ from the others.
+fn column<T: Copy>(first: T, rest: T) -> [T; 8193] {
+    let mut xs = [rest; 8193];
+    xs[0] = first;
+    xs
+}
+
+// A column of floats, of which the first is that of a case at the column's place.
+fn float_column(case: Case, place: Place) -> [f32; 8193] {
+    column(case.float(place), place.range().good)
+}
+
+// The columns of a case: the logical list's, then those of the physical list that differ from them, likelihoods, transforms and tables.
+#[derive(Drop)]
+struct Columns {
+    rows: [i32; 8193],
+    cols: [i32; 8193],
+    orientations: [u8; 8193],
+    bits: [u8; 8193],
+    confidences: [f32; 8193],
+    prows: [i32; 8193],
+    porientations: [u8; 8193],
+    pconfidences: [f32; 8193],
+    matches: [f32; 8193],
+    mismatches: [f32; 8193],
+    transforms: [u8; 8193],
+    h: [u8; 8193],
+    v: [u8; 8193],
+}
+
+// The columns of a good call with the faults of a case.
+fn columns_of(case: Case) -> Columns {
+    Columns {
+        rows: column(case.row(), 3),
+        cols: column(case.col(), 4),
+        orientations: column(case.pick(Fault::Orientation, 2, 1), 1),
+        bits: column(case.bit(), 0),
+        confidences: float_column(case, Place::Confidence),
+        prows: column(case.pick(Fault::PhysicalRow, 1000001, 3), 3),
+        porientations: column(case.pick(Fault::PhysicalOrientation, 2, 1), 1),
+        pconfidences: column(case.pick(Fault::PhysicalConfidence, 1.5, 0.5), 0.5),
+        matches: float_column(case, Place::Match),
+        mismatches: float_column(case, Place::Mismatch),
+        transforms: column(case.pick(Fault::Transform, 8, 5), 5),
+        h: column(case.pick(Fault::HorizontalPattern, 8, 2), 2),
+        v: column(case.pick(Fault::VerticalPattern, 8, 5), 5),
+    }
 }
 
 // How long the columns of a case are, and how much room it is lent.
@@ -152,150 +247,148 @@ struct Lengths {
     sums: usize,
 }
 
-// The lengths of a good call with the faults a and b.
-fn lengths_of(a: u32, b: u32) -> Lengths {
-    let n = pick(
-        on(a, b, 60),
-        1,
-        pick(on(a, b, 61), 8192, pick(on(a, b, 62), 8193, 2)),
-    );
-    let logical = pick(on(a, b, 3), 0, n);
-    let physical = pick(on(a, b, 33), 0, n);
+// The lengths of a good call with the faults of a case.
+fn lengths_of(case: Case) -> Lengths {
+    let logical = case.pick(Fault::Empty, 0, case.edges());
+    let physical = case.pick(Fault::PhysicalEmpty, 0, case.edges());
+    let transforms = case.pick(Fault::NineTransforms, 9, 8);
     Lengths {
         logical,
-        cols: pick(on(a, b, 2), 1, logical),
+        cols: case.pick(Fault::ColumnsShort, 1, logical),
         physical,
-        pconfidences: pick(on(a, b, 34), 1, physical),
-        matches: pick(on(a, b, 35), 1, physical),
-        transforms: pick(on(a, b, 71), 0, pick(on(a, b, 72), 9, 8)),
-        h: pick(on(a, b, 82), 168, 167),
-        v: pick(on(a, b, 83), 168, 167),
-        counts: pick(on(a, b, 10), 3005, 3006),
-        weights: pick(on(a, b, 11), 3005, 3006),
-        sums: pick(on(a, b, 12), 5009, 5010),
+        pconfidences: case.pick(Fault::PhysicalConfidencesShort, 1, physical),
+        matches: case.pick(Fault::MatchesShort, 1, physical),
+        transforms: case.pick(Fault::NoTransforms, 0, transforms),
+        h: case.pick(Fault::HorizontalTable, 168, 167),
+        v: case.pick(Fault::VerticalTable, 168, 167),
+        counts: case.pick(Fault::CountsShort, 3005, 3006),
+        weights: case.pick(Fault::WeightsShort, 3005, 3006),
+        sums: case.pick(Fault::SumsShort, 5009, 5010),
     }
 }
 
-// What hard decode's checks say of a good call with the faults a and b.
-fn hard_of(a: u32, b: u32) -> Admission {
-    let rows = rows_of(a, b);
-    let cols = cols_of(a, b);
-    let orientations = orientations_of(a, b);
-    let bits = bits_of(a, b);
-    let confidences = confidences_of(a, b);
-    let prows = prows_of(a, b);
-    let porientations = porientations_of(a, b);
-    let pconfidences = pconfidences_of(a, b);
-    let transforms = transforms_of(a, b);
-    let h = horizontal_of(a, b);
-    let v = vertical_of(a, b);
-    let n = lengths_of(a, b);
-    admission::refusal::hard_admission(
-        front_i32(&rows, n.logical),
-        front_i32(&cols, n.cols),
-        front_u8(&orientations, n.logical),
-        front_u8(&bits, n.logical),
-        front_f32(&confidences, n.logical),
-        front_i32(&prows, n.physical),
-        front_i32(&cols, n.physical),
-        front_u8(&porientations, n.physical),
-        front_u8(&bits, n.physical),
-        front_f32(&pconfidences, n.pconfidences),
-        front_u8(&transforms, n.transforms),
-        front_u8(&h, n.h),
-        front_u8(&v, n.v),
-        setting(0.25, a, b, 120, 1.0),
-        n.counts,
-        n.weights,
-    )
+impl Columns {
+    // The logical list.
+    fn logical(&self, n: Lengths) -> List<'_> {
+        List {
+            edges: Edges {
+                rows: front(&self.rows, n.logical),
+                cols: front(&self.cols, n.cols),
+                orientations: front(&self.orientations, n.logical),
+                bits: front(&self.bits, n.logical),
+            },
+            confidences: front(&self.confidences, n.logical),
+        }
+    }
+
+    // The physical list.
+    fn physical(&self, n: Lengths) -> List<'_> {
+        List {
+            edges: Edges {
+                rows: front(&self.prows, n.physical),
+                cols: front(&self.cols, n.physical),
+                orientations: front(&self.porientations, n.physical),
+                bits: front(&self.bits, n.physical),
+            },
+            confidences: front(&self.pconfidences, n.pconfidences),
+        }
+    }
+
+    // The pattern tables.
+    fn tables(&self, n: Lengths) -> Tables<'_> {
+        Tables {
+            h: front(&self.h, n.h),
+            v: front(&self.v, n.v),
+        }
+    }
+
+    // The call of hard decode under an error limit.
+    fn hard(&self, n: Lengths, error_limit: f32) -> HardCall<'_> {
+        HardCall {
+            logical: self.logical(n),
+            physical: self.physical(n),
+            transforms: front(&self.transforms, n.transforms),
+            tables: self.tables(n),
+            error_limit,
+        }
+    }
+
+    // The likelihoods of the physical list's edges.
+    fn likelihoods(&self, n: Lengths) -> Likelihoods<'_> {
+        Likelihoods {
+            matches: front(&self.matches, n.matches),
+            mismatches: front(&self.mismatches, n.physical),
+        }
+    }
+}
+
+// What hard decode's checks say of a good call with the faults of a case.
+fn hard_of(case: Case) -> Admission {
+    let columns = columns_of(case);
+    let n = lengths_of(case);
+    let call = columns.hard(n, case.float(Place::Limit));
+    admission::refusal::hard_admission(call, n.counts, n.weights)
 }
 
 // What soft decode's checks say of it.
-fn soft_of(a: u32, b: u32) -> Admission {
-    let rows = rows_of(a, b);
-    let cols = cols_of(a, b);
-    let orientations = orientations_of(a, b);
-    let bits = bits_of(a, b);
-    let confidences = confidences_of(a, b);
-    let prows = prows_of(a, b);
-    let porientations = porientations_of(a, b);
-    let pconfidences = pconfidences_of(a, b);
-    let matches = likelihoods_of(-0.25, a, b, 100);
-    let mismatches = likelihoods_of(-2.0, a, b, 110);
-    let transforms = transforms_of(a, b);
-    let h = horizontal_of(a, b);
-    let v = vertical_of(a, b);
-    let n = lengths_of(a, b);
-    soft_admission::soft_admission(
-        front_i32(&rows, n.logical),
-        front_i32(&cols, n.cols),
-        front_u8(&orientations, n.logical),
-        front_u8(&bits, n.logical),
-        front_f32(&confidences, n.logical),
-        front_i32(&prows, n.physical),
-        front_i32(&cols, n.physical),
-        front_u8(&porientations, n.physical),
-        front_u8(&bits, n.physical),
-        front_f32(&pconfidences, n.pconfidences),
-        front_f32(&matches, n.matches),
-        front_f32(&mismatches, n.physical),
-        front_u8(&transforms, n.transforms),
-        front_u8(&h, n.h),
-        front_u8(&v, n.v),
-        setting(0.25, a, b, 120, 1.0),
-        setting(0.5, a, b, 130, 65536.0),
-        n.counts,
-        n.weights,
-        n.sums,
-    )
+fn soft_of(case: Case) -> Admission {
+    let columns = columns_of(case);
+    let n = lengths_of(case);
+    let call = SoftCall {
+        hard: columns.hard(n, case.float(Place::Limit)),
+        likelihoods: columns.likelihoods(n),
+        soft_margin: case.float(Place::Margin),
+    };
+    soft_admission::soft_admission(call, n.counts, n.weights, n.sums)
 }
 
 // What match statistics say of the logical list.
-fn stats_of(a: u32, b: u32) -> StatsAnswer {
-    let rows = rows_of(a, b);
-    let cols = cols_of(a, b);
-    let orientations = orientations_of(a, b);
-    let bits = bits_of(a, b);
-    let confidences = confidences_of(a, b);
-    let h = horizontal_of(a, b);
-    let v = vertical_of(a, b);
-    let n = lengths_of(a, b);
-    stats::stats::match_stats(
-        front_i32(&rows, n.logical),
-        front_i32(&cols, n.cols),
-        front_u8(&orientations, n.logical),
-        front_u8(&bits, n.logical),
-        front_f32(&confidences, n.logical),
-        pick_u8(on(a, b, 70), 8, 5),
-        pick_u32(on(a, b, 90), 501, 500),
-        pick_u32(on(a, b, 91), 501, 0),
-        front_u8(&h, n.h),
-        front_u8(&v, n.v),
-    )
+fn stats_of(case: Case) -> StatsAnswer {
+    let columns = columns_of(case);
+    let n = lengths_of(case);
+    let square = Square {
+        transform: case.pick(Fault::Transform, 8, 5),
+        row: case.pick(Fault::OriginRow, 501, 500),
+        col: case.pick(Fault::OriginCol, 501, 0),
+    };
+    stats::stats::match_stats(columns.logical(n), square, columns.tables(n))
 }
 
-// What the three calls say of the good input with the faults a and b. Faults of the logical list are 20 to 29 and 50 to 59, of the physical list 30 to 39.
-fn show_case(rt: &impl Print, a: u32, b: u32) -> io::Result<()> {
-    print(rt, b": hard ")?;
-    print_admission(rt, hard_of(a, b))?;
-    print(rt, b", soft ")?;
-    print_admission(rt, soft_of(a, b))?;
-    print(rt, b", statistics ")?;
-    print_stats(rt, stats_of(a, b))?;
-    print(rt, b"\n")
+// What the three calls say of the good input with the faults of a case.
+fn show_case(rt: &impl Print, case: Case) -> io::Result<()> {
+    print!(rt; ": hard ")?;
+    print_admission(rt, hard_of(case))?;
+    print!(rt; ", soft ")?;
+    print_admission(rt, soft_of(case))?;
+    print!(rt; ", statistics ")?;
+    print_stats(rt, stats_of(case))?;
+    println!(rt; "")
 }
 
-// The same under its name.
-fn show(rt: &impl Print, name: &[u8], a: u32, b: u32) -> io::Result<()> {
-    print(rt, name)?;
-    show_case(rt, a, b)
+// The same with two faults, under its name.
+fn show(rt: &impl Print, name: &str, one: Fault, other: Fault) -> io::Result<()> {
+    print!(rt; "{name}")?;
+    show_case(rt, Case { one, other })
 }
 
-// n faults, each alone, from one on, under their names, a line each.
-fn show_each(rt: &impl Print, names: &[u8], first: u32, n: u32) -> io::Result<()> {
-    for i in 0..n {
-        print_line(rt, names, i)?;
-        show_case(rt, std::num::wrapping_add_u32(first, i), 0)?;
+// Faults, each alone, under their names, a line each.
+fn show_each(rt: &impl Print, faults: &[(&str, Fault)]) -> io::Result<()> {
+    for (name, fault) in faults {
+        show(rt, *name, *fault, Fault::None)?;
+    }
+    Ok(())
+}
+
+// A float place with floats of each kind, each alone, a line each under the names of both.
+fn show_floats(
+    rt: &impl Print,
+    place: Place,
+    place_name: &str,
+    kinds: &[(&str, Kind)],
+) -> io::Result<()> {
+    for (name, kind) in kinds {
+        print!(rt; "{place_name} ")?;
+        show(rt, *name, Fault::Float(place, *kind), Fault::None)?;
     }
     Ok(())
 }
@@ -303,101 +396,244 @@ fn show_each(rt: &impl Print, names: &[u8], first: u32, n: u32) -> io::Result<()
 // Each fault alone, and the numbers at the ends of the ranges that are taken: the call as it should be, lent room and columns that are too short, and lists that are empty
 // or of the lengths at the limits.
 fn sizes(rt: &impl Print) -> io::Result<()> {
-    show(rt, b"good", 0, 0)?;
-    show_each(rt, b"counts short\nweights short\nsums short", 10, 3)?;
-    show(rt, b"logical columns short", 2, 0)?;
+    show(rt, "good", Fault::None, Fault::None)?;
     show_each(
         rt,
-        b"physical confidences short\nmatch likelihoods short",
-        34,
-        2,
+        &[
+            ("counts short", Fault::CountsShort),
+            ("weights short", Fault::WeightsShort),
+            ("sums short", Fault::SumsShort),
+        ],
     )?;
-    show(rt, b"logical empty", 3, 0)?;
-    show(rt, b"physical empty", 33, 0)?;
-    show_each(rt, b"1 edge\n8192 edges\n8193 edges", 60, 3)
+    show(
+        rt,
+        "logical columns short",
+        Fault::ColumnsShort,
+        Fault::None,
+    )?;
+    show_each(
+        rt,
+        &[
+            (
+                "physical confidences short",
+                Fault::PhysicalConfidencesShort,
+            ),
+            ("match likelihoods short", Fault::MatchesShort),
+        ],
+    )?;
+    show(rt, "logical empty", Fault::Empty, Fault::None)?;
+    show(rt, "physical empty", Fault::PhysicalEmpty, Fault::None)?;
+    show_each(
+        rt,
+        &[
+            ("1 edge", Fault::Edges1),
+            ("8192 edges", Fault::Edges8192),
+            ("8193 edges", Fault::Edges8193),
+        ],
+    )
 }
 
 // Edges: row, column, orientation and bit; the same of the physical list. Transforms.
 fn edges(rt: &impl Print) -> io::Result<()> {
     show_each(
         rt,
-        b"row 1000001\nrow -1000001\ncolumn 1000001\nrow -1000000\ncolumn 1000000\norientation 2\nbit 2\none of two edges missed",
-        20,
-        8,
+        &[
+            ("row 1000001", Fault::RowAbove),
+            ("row -1000001", Fault::RowBelow),
+            ("column 1000001", Fault::ColAbove),
+            ("row -1000000", Fault::RowLeast),
+            ("column 1000000", Fault::ColMost),
+            ("orientation 2", Fault::Orientation),
+            ("bit 2", Fault::Bit),
+            ("one of two edges missed", Fault::Missed),
+        ],
     )?;
-    show(rt, b"the only edge missed", 27, 60)?;
+    show(rt, "the only edge missed", Fault::Missed, Fault::Edges1)?;
     show_each(
         rt,
-        b"physical row 1000001\nphysical orientation 2\nphysical confidence 1.5",
-        30,
-        3,
+        &[
+            ("physical row 1000001", Fault::PhysicalRow),
+            ("physical orientation 2", Fault::PhysicalOrientation),
+            ("physical confidence 1.5", Fault::PhysicalConfidence),
+        ],
     )?;
-    show_each(rt, b"transform 8\nno transforms\nnine transforms", 70, 3)
+    show_each(
+        rt,
+        &[
+            ("transform 8", Fault::Transform),
+            ("no transforms", Fault::NoTransforms),
+            ("nine transforms", Fault::NineTransforms),
+        ],
+    )
 }
 
 // Tables, and origins for match statistics.
 fn boards(rt: &impl Print) -> io::Result<()> {
     show_each(
         rt,
-        b"horizontal pattern 8\nvertical pattern 8\nhorizontal table 168\nvertical table 168",
-        80,
-        4,
+        &[
+            ("horizontal pattern 8", Fault::HorizontalPattern),
+            ("vertical pattern 8", Fault::VerticalPattern),
+            ("horizontal table 168", Fault::HorizontalTable),
+            ("vertical table 168", Fault::VerticalTable),
+        ],
     )?;
-    show_each(rt, b"origin row 501\norigin column 501", 90, 2)
+    show_each(
+        rt,
+        &[
+            ("origin row 501", Fault::OriginRow),
+            ("origin column 501", Fault::OriginCol),
+        ],
+    )
 }
 
 // Each float place with NaN, both infinities, values out of range, -0 and the value at the end of its range: confidences, the likelihoods of a match and of a mismatch,
 // the error limit and the soft margin.
 fn floats(rt: &impl Print) -> io::Result<()> {
-    show_each(
+    show_floats(
         rt,
-        b"confidence NaN\nconfidence -0.5\nconfidence 1.5\nconfidence infinity\nconfidence -infinity\nconfidence -0\nconfidence 1",
-        50,
-        7,
+        Place::Confidence,
+        "confidence",
+        &[
+            ("NaN", Kind::Nan),
+            ("-0.5", Kind::Below),
+            ("1.5", Kind::Above),
+            ("infinity", Kind::Infinity),
+            ("-infinity", Kind::MinusInfinity),
+            ("-0", Kind::MinusZero),
+            ("1", Kind::End),
+        ],
     )?;
-    show_each(
+    show_floats(
         rt,
-        b"match NaN\nmatch infinity\nmatch -infinity\nmatch above 65536\nmatch below -65536\nmatch -0\nmatch -65536",
-        100,
-        7,
+        Place::Match,
+        "match",
+        &[
+            ("NaN", Kind::Nan),
+            ("infinity", Kind::Infinity),
+            ("-infinity", Kind::MinusInfinity),
+            ("above 65536", Kind::Above),
+            ("below -65536", Kind::Below),
+            ("-0", Kind::MinusZero),
+            ("-65536", Kind::End),
+        ],
     )?;
-    show_each(
+    show_floats(
         rt,
-        b"mismatch NaN\nmismatch infinity\nmismatch -infinity\nmismatch above 65536\nmismatch below -65536\nmismatch -0\nmismatch -65536",
-        110,
-        7,
+        Place::Mismatch,
+        "mismatch",
+        &[
+            ("NaN", Kind::Nan),
+            ("infinity", Kind::Infinity),
+            ("-infinity", Kind::MinusInfinity),
+            ("above 65536", Kind::Above),
+            ("below -65536", Kind::Below),
+            ("-0", Kind::MinusZero),
+            ("-65536", Kind::End),
+        ],
     )?;
-    show_each(
+    show_floats(
         rt,
-        b"limit NaN\nlimit infinity\nlimit -infinity\nlimit 1.5\nlimit -0.5\nlimit -0\nlimit 1",
-        120,
-        7,
+        Place::Limit,
+        "limit",
+        &[
+            ("NaN", Kind::Nan),
+            ("infinity", Kind::Infinity),
+            ("-infinity", Kind::MinusInfinity),
+            ("1.5", Kind::Above),
+            ("-0.5", Kind::Below),
+            ("-0", Kind::MinusZero),
+            ("1", Kind::End),
+        ],
     )?;
-    show_each(
+    show_floats(
         rt,
-        b"margin NaN\nmargin infinity\nmargin -infinity\nmargin 98304\nmargin -0.5\nmargin -0\nmargin 65536",
-        130,
-        7,
+        Place::Margin,
+        "margin",
+        &[
+            ("NaN", Kind::Nan),
+            ("infinity", Kind::Infinity),
+            ("-infinity", Kind::MinusInfinity),
+            ("98304", Kind::Above),
+            ("-0.5", Kind::Below),
+            ("-0", Kind::MinusZero),
+            ("65536", Kind::End),
+        ],
     )
 }
 
 // Two faults of different numbers: the one that comes first in the order 1, 2, 3, 4, 16, 17, 5, 6, 7, 8, 9 is given, over all lists.
 fn pairs(rt: &impl Print) -> io::Result<()> {
-    show(rt, b"1 and 2: room and lengths", 10, 34)?;
-    show(rt, b"2 and 3: lengths and 8193 edges", 2, 62)?;
-    show(rt, b"3 and 4: empty and physical row", 3, 30)?;
-    show(rt, b"4 and 5: physical row and logical confidence", 30, 50)?;
-    show(rt, b"17 and 5: logical bit and physical confidence", 26, 32)?;
-    show(rt, b"5 and 6: logical confidence and match", 50, 100)
+    show(
+        rt,
+        "1 and 2: room and lengths",
+        Fault::CountsShort,
+        Fault::PhysicalConfidencesShort,
+    )?;
+    show(
+        rt,
+        "2 and 3: lengths and 8193 edges",
+        Fault::ColumnsShort,
+        Fault::Edges8193,
+    )?;
+    show(
+        rt,
+        "3 and 4: empty and physical row",
+        Fault::Empty,
+        Fault::PhysicalRow,
+    )?;
+    show(
+        rt,
+        "4 and 5: physical row and logical confidence",
+        Fault::PhysicalRow,
+        Fault::Float(Place::Confidence, Kind::Nan),
+    )?;
+    show(
+        rt,
+        "17 and 5: logical bit and physical confidence",
+        Fault::Bit,
+        Fault::PhysicalConfidence,
+    )?;
+    show(
+        rt,
+        "5 and 6: logical confidence and match",
+        Fault::Float(Place::Confidence, Kind::Nan),
+        Fault::Float(Place::Match, Kind::Nan),
+    )
 }
 
 // The same from 6 on.
 fn later_pairs(rt: &impl Print) -> io::Result<()> {
-    show(rt, b"6 and 7: match and transform", 100, 70)?;
-    show(rt, b"7 and 8: transform and table", 70, 82)?;
-    show(rt, b"8 and 9: pattern and limit", 81, 120)?;
-    show(rt, b"8 and 9: table and origin", 83, 90)?;
-    show(rt, b"1 and 9: room and limit", 11, 120)
+    show(
+        rt,
+        "6 and 7: match and transform",
+        Fault::Float(Place::Match, Kind::Nan),
+        Fault::Transform,
+    )?;
+    show(
+        rt,
+        "7 and 8: transform and table",
+        Fault::Transform,
+        Fault::HorizontalTable,
+    )?;
+    show(
+        rt,
+        "8 and 9: pattern and limit",
+        Fault::VerticalPattern,
+        Fault::Float(Place::Limit, Kind::Nan),
+    )?;
+    show(
+        rt,
+        "8 and 9: table and origin",
+        Fault::VerticalTable,
+        Fault::OriginRow,
+    )?;
+    show(
+        rt,
+        "1 and 9: room and limit",
+        Fault::WeightsShort,
+        Fault::Float(Place::Limit, Kind::Nan),
+    )
 }
 
 // All cases.

@@ -1,23 +1,27 @@
 // Soft decode run on noisy windows: 12 by 12 squares of which the first edges are missed. Confidences go round by eighths, and an edge's likelihoods are those of a
 // sigmoid of slope 6, not below -6. Both lists have the same edges and the error limit is 1.
 use crate::bent::{repeat, turn_bits};
-use console::print::print;
-use runs::cut::{fill_patterns, front_f32, front_i32, front_u8, put_window};
+use admission::call::{HardCall, SoftCall};
+use board::list::{Edges, List};
+use board::pattern::Tables;
+use likelihood::Likelihoods;
+use runs::cut::{fill_patterns, put_window};
 use runs::lent::{print_room, print_sums};
 use runs::print::print_soft_answer;
+use slices::part::front;
 use std::io;
 
 // Soft decode of the first n edges, with bits of their own for each list, over all transforms.
 fn show<'a>(
     rt: &impl Print,
-    rows: &[i32; 8193],
-    cols: &[i32; 8193],
-    orientations: &[u8; 8193],
-    pbits: &[u8; 8193],
-    lbits: &[u8; 8193],
-    confidences: &[f32; 8193],
-    matches: &[f32; 8193],
-    mismatches: &[f32; 8193],
+    rows: &'a [i32; 8193],
+    cols: &'a [i32; 8193],
+    orientations: &'a [u8; 8193],
+    pbits: &'a [u8; 8193],
+    lbits: &'a [u8; 8193],
+    confidences: &'a [f32; 8193],
+    matches: &'a [f32; 8193],
+    mismatches: &'a [f32; 8193],
     n: usize,
     h: &'a [u8; 167],
     v: &'a [u8; 167],
@@ -27,43 +31,56 @@ fn show<'a>(
     let mut counts = [7u32; 3010];
     let mut weights = [7.0f32; 3010];
     let mut sums = [7i64; 5014];
-    let r = front_i32(rows, n);
-    let c = front_i32(cols, n);
-    let o = front_u8(orientations, n);
-    let k = front_f32(confidences, n);
-    let answer = decode_soft::decode_soft(
-        r,
-        c,
-        o,
-        front_u8(lbits, n),
-        k,
-        r,
-        c,
-        o,
-        front_u8(pbits, n),
-        k,
-        front_f32(matches, n),
-        front_f32(mismatches, n),
-        &transforms,
-        h,
-        v,
-        1.0,
-        margin,
-        &mut counts,
-        &mut weights,
-        &mut sums,
-    );
-    print(rt, b": ")?;
+    let r = front(rows, n);
+    let c = front(cols, n);
+    let o = front(orientations, n);
+    let k = front(confidences, n);
+    let logical = List {
+        edges: Edges {
+            rows: r,
+            cols: c,
+            orientations: o,
+            bits: front(lbits, n),
+        },
+        confidences: k,
+    };
+    let physical = List {
+        edges: Edges {
+            rows: r,
+            cols: c,
+            orientations: o,
+            bits: front(pbits, n),
+        },
+        confidences: k,
+    };
+    let hard = HardCall {
+        logical,
+        physical,
+        transforms: &transforms,
+        tables: Tables { h, v },
+        error_limit: 1.0,
+    };
+    let likelihoods = Likelihoods {
+        matches: front(matches, n),
+        mismatches: front(mismatches, n),
+    };
+    let call = SoftCall {
+        hard,
+        likelihoods,
+        soft_margin: margin,
+    };
+    let answer = decode_soft::decode_soft(call, &mut counts, &mut weights, &mut sums);
+    print!(rt; ": ")?;
     print_soft_answer(rt, answer)?;
     print_room(rt, &counts, &weights)?;
     print_sums(rt, &sums)?;
-    print(rt, b"\n")
+    println!(rt; "")
 }
 
 // The window's lists: the logical one is cut at (row, col), the physical one at (prow, col); of each the first bits are turned.
 fn show_noisy(
     rt: &impl Print,
-    name: &[u8],
+    name: &str,
     transform: u8,
     row: u32,
     col: u32,
@@ -72,7 +89,7 @@ fn show_noisy(
     confidences: &[f32; 8193],
     margin: f32,
 ) -> io::Result<()> {
-    print(rt, name)?;
+    print!(rt; "{name}")?;
     let mut h = [0u8; 167];
     let mut v = [0u8; 167];
     fill_patterns(&mut h, 1);
@@ -151,11 +168,11 @@ fn show_noisy(
 
 // A noisy window is found at its own square. The margin of the first is 3e5aa3e8: as soft margin it is met, and the next float above it is not.
 fn noisy(rt: &impl Print, c: &[f32; 8193]) -> io::Result<()> {
-    show_noisy(rt, b"noisy under 0 at 17, 400", 0, 17, 400, 17, 12, c, 0.0)?;
-    show_noisy(rt, b"noisy under 1 at 500, 0", 1, 500, 0, 500, 12, c, 0.0)?;
+    show_noisy(rt, "noisy under 0 at 17, 400", 0, 17, 400, 17, 12, c, 0.0)?;
+    show_noisy(rt, "noisy under 1 at 500, 0", 1, 500, 0, 500, 12, c, 0.0)?;
     show_noisy(
         rt,
-        b"noisy under 4 at 333, 334",
+        "noisy under 4 at 333, 334",
         4,
         333,
         334,
@@ -164,10 +181,10 @@ fn noisy(rt: &impl Print, c: &[f32; 8193]) -> io::Result<()> {
         c,
         0.0,
     )?;
-    show_noisy(rt, b"noisy under 7 at 1, 2", 7, 1, 2, 1, 12, c, 0.0)?;
+    show_noisy(rt, "noisy under 7 at 1, 2", 7, 1, 2, 1, 12, c, 0.0)?;
     show_noisy(
         rt,
-        b"soft margin 3e5aa3e7",
+        "soft margin 3e5aa3e7",
         0,
         17,
         400,
@@ -178,7 +195,7 @@ fn noisy(rt: &impl Print, c: &[f32; 8193]) -> io::Result<()> {
     )?;
     show_noisy(
         rt,
-        b"soft margin 3e5aa3e8",
+        "soft margin 3e5aa3e8",
         0,
         17,
         400,
@@ -189,7 +206,7 @@ fn noisy(rt: &impl Print, c: &[f32; 8193]) -> io::Result<()> {
     )?;
     show_noisy(
         rt,
-        b"soft margin 3e5aa3e9",
+        "soft margin 3e5aa3e9",
         0,
         17,
         400,
@@ -202,10 +219,10 @@ fn noisy(rt: &impl Print, c: &[f32; 8193]) -> io::Result<()> {
 
 // Lists that must be refused.
 fn refused(rt: &impl Print, c: &[f32; 8193]) -> io::Result<()> {
-    show_noisy(rt, b"physical list from row 18", 0, 17, 400, 18, 12, c, 0.0)?;
+    show_noisy(rt, "physical list from row 18", 0, 17, 400, 18, 12, c, 0.0)?;
     show_noisy(
         rt,
-        b"physical list from row 18, soft margin 1",
+        "physical list from row 18, soft margin 1",
         0,
         17,
         400,
@@ -214,12 +231,12 @@ fn refused(rt: &impl Print, c: &[f32; 8193]) -> io::Result<()> {
         c,
         1.0,
     )?;
-    show_noisy(rt, b"20 edges missed", 0, 17, 400, 17, 20, c, 0.0)?;
-    show_noisy(rt, b"soft margin NaN", 0, 17, 400, 17, 12, c, 0.0 / 0.0)?;
+    show_noisy(rt, "20 edges missed", 0, 17, 400, 17, 20, c, 0.0)?;
+    show_noisy(rt, "soft margin NaN", 0, 17, 400, 17, 12, c, 0.0 / 0.0)?;
     let none = [0.0f32; 8193];
     show_noisy(
         rt,
-        b"confidence 0, soft margin 1",
+        "confidence 0, soft margin 1",
         0,
         17,
         400,
@@ -237,7 +254,7 @@ fn zeros(rt: &impl Print) -> io::Result<()> {
     repeat(&mut confidences, &mixed);
     show_noisy(
         rt,
-        b"confidences of 0 and -0 among others",
+        "confidences of 0 and -0 among others",
         0,
         17,
         400,

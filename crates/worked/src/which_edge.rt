@@ -1,281 +1,328 @@
 // Which edge a refusal is about: one bad edge of each kind at the first, a middle and the last place of each list; two bad edges of one kind; and two kinds in two
 // lists. Lists have five edges. What hard decode, soft decode and match statistics of the logical list say is written in a line. Positions count from 0.
-use answer::StatsAnswer;
-use console::form::{put_line, put_wholes};
-use console::page::say;
-use console::print::print;
+use admission::call::{HardCall, SoftCall};
+use answer::{Square, StatsAnswer};
+use board::pattern::Tables;
+use likelihood::Likelihoods;
 use refusals::Admission;
 use runs::print::{print_admission, print_stats};
-use slices::page::{blank, put};
-use std::io;
+use std::{fmt, io};
 
-// A bad edge: the field that is bad (1 row, 2 column, 3 orientation, 4 bit, 5 confidence, 6 and 7 likelihood of a match and of a mismatch; 0 for no bad edge), the
-// list (1 logical, 2 physical) and the position.
+// The field of an edge that is bad; the last two are the log likelihoods of a match and of a mismatch.
+#[derive(Clone, Copy, PartialEq, Eq)]
+enum Field {
+    Row,
+    Column,
+    Orientation,
+    Bit,
+    Confidence,
+    Match,
+    Mismatch,
+}
+
+impl fmt::Display for Field {
+    fn fmt<W: fmt::Write>(&self, f: &mut fmt::Formatter<W>) -> fmt::Result {
+        f.write_str(match self {
+            Field::Row => "row",
+            Field::Column => "column",
+            Field::Orientation => "orientation",
+            Field::Bit => "bit",
+            Field::Confidence => "confidence",
+            Field::Match => "match",
+            Field::Mismatch => "mismatch",
+        })
+    }
+}
+
+// The list of an edge.
+#[derive(Clone, Copy, PartialEq, Eq)]
+enum List {
+    Logical,
+    Physical,
+}
+
+impl fmt::Display for List {
+    fn fmt<W: fmt::Write>(&self, f: &mut fmt::Formatter<W>) -> fmt::Result {
+        f.write_str(match self {
+            List::Logical => "logical",
+            List::Physical => "physical",
+        })
+    }
+}
+
+// A bad edge: the field that is bad, the list and the position.
 #[derive(Clone, Copy)]
 struct Bad {
-    field: u32,
-    list: u32,
-    at: u32,
+    field: Field,
+    list: List,
+    at: usize,
+}
+
+impl fmt::Display for Bad {
+    fn fmt<W: fmt::Write>(&self, f: &mut fmt::Formatter<W>) -> fmt::Result {
+        let Bad { field, list, at } = *self;
+        write!(f, "{list} {field} at {at}")
+    }
 }
 
 // An edge that is bad in a field.
-fn spoilt(field: u32, list: u32, at: u32) -> Bad {
+fn spoilt(field: Field, list: List, at: usize) -> Bad {
     Bad { field, list, at }
 }
 
-// No bad edge.
-fn none() -> Bad {
-    spoilt(0, 0, 0)
-}
-
-// Whether an edge is bad in this field of this list.
-fn is_in(b: Bad, field: u32, list: u32) -> bool {
-    b.field == field && b.list == list
-}
-
-// A column with x at a place, if yes; one function for each type.
-fn set_i32(xs: [i32; 5], yes: bool, at: u32, x: i32) -> [i32; 5] {
-    let mut out = xs;
-    if yes {
-        if at < 5 {
-            out[at as usize] = x;
+// The column of a field of a list of good edges, with what is wrong at each bad edge.
+fn spoil<T: Copy>(column: &mut [T], wrong: T, field: Field, list: List, bad: &[Bad]) {
+    for b in bad {
+        if b.field == field && b.list == list && b.at < column.len() {
+            column[b.at] = wrong;
         }
     }
-    out
 }
 
-fn set_u8(xs: [u8; 5], yes: bool, at: u32, x: u8) -> [u8; 5] {
-    let mut out = xs;
-    if yes {
-        if at < 5 {
-            out[at as usize] = x;
+// A list of five edges.
+#[derive(Clone, Copy)]
+struct Edges {
+    rows: [i32; 5],
+    cols: [i32; 5],
+    orientations: [u8; 5],
+    bits: [u8; 5],
+    confidences: [f32; 5],
+}
+
+impl Edges {
+    // As the library takes them.
+    fn lent(&self) -> board::list::List<'_> {
+        board::list::List {
+            edges: board::list::Edges {
+                rows: &self.rows,
+                cols: &self.cols,
+                orientations: &self.orientations,
+                bits: &self.bits,
+            },
+            confidences: &self.confidences,
         }
     }
-    out
 }
 
-fn set_f32(xs: [f32; 5], yes: bool, at: u32, x: f32) -> [f32; 5] {
-    let mut out = xs;
-    if yes {
-        if at < 5 {
-            out[at as usize] = x;
-        }
+// A list of good edges, but for the bad ones.
+fn edges_of(list: List, bad: &[Bad]) -> Edges {
+    let mut rows = [3; 5];
+    let mut cols = [4; 5];
+    let mut orientations = [1; 5];
+    let mut bits = [0; 5];
+    let mut confidences = [0.5; 5];
+    spoil(&mut rows, 1000001, Field::Row, list, bad);
+    spoil(&mut cols, -1000001, Field::Column, list, bad);
+    spoil(&mut orientations, 2, Field::Orientation, list, bad);
+    spoil(&mut bits, 2, Field::Bit, list, bad);
+    spoil(&mut confidences, 1.5, Field::Confidence, list, bad);
+    Edges {
+        rows,
+        cols,
+        orientations,
+        bits,
+        confidences,
     }
-    out
 }
 
-// The column of a field of a list, good but for the bad edges a and b; one function for each type.
-fn column_i32(good: i32, wrong: i32, field: u32, list: u32, a: Bad, b: Bad) -> [i32; 5] {
-    let xs = set_i32([good; 5], is_in(a, field, list), a.at, wrong);
-    set_i32(xs, is_in(b, field, list), b.at, wrong)
-}
-
-fn column_u8(good: u8, field: u32, list: u32, a: Bad, b: Bad) -> [u8; 5] {
-    let xs = set_u8([good; 5], is_in(a, field, list), a.at, 2);
-    set_u8(xs, is_in(b, field, list), b.at, 2)
-}
-
-fn column_f32(good: f32, wrong: f32, field: u32, list: u32, a: Bad, b: Bad) -> [f32; 5] {
-    let xs = set_f32([good; 5], is_in(a, field, list), a.at, wrong);
-    set_f32(xs, is_in(b, field, list), b.at, wrong)
-}
-
-// A column as it is lent; one function for each type.
-fn lent_i32(xs: &[i32; 5]) -> &[i32] {
-    xs
-}
-
-fn lent_u8(xs: &[u8; 5]) -> &[u8] {
-    xs
-}
-
-fn lent_f32(xs: &[f32; 5]) -> &[f32] {
-    xs
-}
-
-// What hard decode's checks say of a good call with the bad edges a and b.
-fn hard_of(a: Bad, b: Bad) -> Admission {
-    let rows = column_i32(3, 1000001, 1, 1, a, b);
-    let cols = column_i32(4, -1000001, 2, 1, a, b);
-    let orientations = column_u8(1, 3, 1, a, b);
-    let bits = column_u8(0, 4, 1, a, b);
-    let confidences = column_f32(0.5, 1.5, 5, 1, a, b);
-    let prows = column_i32(3, 1000001, 1, 2, a, b);
-    let pcols = column_i32(4, -1000001, 2, 2, a, b);
-    let porientations = column_u8(1, 3, 2, a, b);
-    let pbits = column_u8(0, 4, 2, a, b);
-    let pconfidences = column_f32(0.5, 1.5, 5, 2, a, b);
+// What hard decode's checks say of a good call with the bad edges.
+fn hard_of(bad: &[Bad]) -> Admission {
+    let l = edges_of(List::Logical, bad);
+    let p = edges_of(List::Physical, bad);
     let transforms = [5u8; 1];
     let table = [2u8; 167];
-    admission::refusal::hard_admission(
-        lent_i32(&rows),
-        lent_i32(&cols),
-        lent_u8(&orientations),
-        lent_u8(&bits),
-        lent_f32(&confidences),
-        lent_i32(&prows),
-        lent_i32(&pcols),
-        lent_u8(&porientations),
-        lent_u8(&pbits),
-        lent_f32(&pconfidences),
-        &transforms,
-        &table,
-        &table,
-        0.25,
-        3006,
-        3006,
-    )
+    let logical = l.lent();
+    let physical = p.lent();
+    let call = HardCall {
+        logical,
+        physical,
+        transforms: &transforms,
+        tables: Tables {
+            h: &table,
+            v: &table,
+        },
+        error_limit: 0.25,
+    };
+    admission::refusal::hard_admission(call, 3006, 3006)
 }
 
 // What soft decode's checks say of it.
-fn soft_of(a: Bad, b: Bad) -> Admission {
-    let rows = column_i32(3, 1000001, 1, 1, a, b);
-    let cols = column_i32(4, -1000001, 2, 1, a, b);
-    let orientations = column_u8(1, 3, 1, a, b);
-    let bits = column_u8(0, 4, 1, a, b);
-    let confidences = column_f32(0.5, 1.5, 5, 1, a, b);
-    let prows = column_i32(3, 1000001, 1, 2, a, b);
-    let pcols = column_i32(4, -1000001, 2, 2, a, b);
-    let porientations = column_u8(1, 3, 2, a, b);
-    let pbits = column_u8(0, 4, 2, a, b);
-    let pconfidences = column_f32(0.5, 1.5, 5, 2, a, b);
-    let matches = column_f32(-0.25, 65537.0, 6, 2, a, b);
-    let mismatches = column_f32(-2.0, -65537.0, 7, 2, a, b);
+fn soft_of(bad: &[Bad]) -> Admission {
+    let l = edges_of(List::Logical, bad);
+    let p = edges_of(List::Physical, bad);
+    let mut matches = [-0.25; 5];
+    let mut mismatches = [-2.0; 5];
+    spoil(&mut matches, 65537.0, Field::Match, List::Physical, bad);
+    spoil(
+        &mut mismatches,
+        -65537.0,
+        Field::Mismatch,
+        List::Physical,
+        bad,
+    );
     let transforms = [5u8; 1];
     let table = [2u8; 167];
-    soft_admission::soft_admission(
-        lent_i32(&rows),
-        lent_i32(&cols),
-        lent_u8(&orientations),
-        lent_u8(&bits),
-        lent_f32(&confidences),
-        lent_i32(&prows),
-        lent_i32(&pcols),
-        lent_u8(&porientations),
-        lent_u8(&pbits),
-        lent_f32(&pconfidences),
-        lent_f32(&matches),
-        lent_f32(&mismatches),
-        &transforms,
-        &table,
-        &table,
-        0.25,
-        0.5,
-        3006,
-        3006,
-        5010,
-    )
+    let logical = l.lent();
+    let physical = p.lent();
+    let hard = HardCall {
+        logical,
+        physical,
+        transforms: &transforms,
+        tables: Tables {
+            h: &table,
+            v: &table,
+        },
+        error_limit: 0.25,
+    };
+    let likelihoods = Likelihoods {
+        matches: &matches,
+        mismatches: &mismatches,
+    };
+    let call = SoftCall {
+        hard,
+        likelihoods,
+        soft_margin: 0.5,
+    };
+    soft_admission::soft_admission(call, 3006, 3006, 5010)
 }
 
 // What match statistics say of the logical list.
-fn stats_of(a: Bad, b: Bad) -> StatsAnswer {
-    let rows = column_i32(3, 1000001, 1, 1, a, b);
-    let cols = column_i32(4, -1000001, 2, 1, a, b);
-    let orientations = column_u8(1, 3, 1, a, b);
-    let bits = column_u8(0, 4, 1, a, b);
-    let confidences = column_f32(0.5, 1.5, 5, 1, a, b);
+fn stats_of(bad: &[Bad]) -> StatsAnswer {
+    let l = edges_of(List::Logical, bad);
     let table = [2u8; 167];
-    stats::stats::match_stats(
-        lent_i32(&rows),
-        lent_i32(&cols),
-        lent_u8(&orientations),
-        lent_u8(&bits),
-        lent_f32(&confidences),
-        5,
-        500,
-        0,
-        &table,
-        &table,
-    )
+    let list = l.lent();
+    let tables = Tables {
+        h: &table,
+        v: &table,
+    };
+    let square = Square {
+        transform: 5,
+        row: 500,
+        col: 0,
+    };
+    stats::stats::match_stats(list, square, tables)
 }
 
-// A bad edge in words.
-fn put_bad(page: &mut [u8; 32768], at: usize, b: Bad) -> usize {
-    let n = put_line(page, at, b"\nlogical \nphysical ", b.list);
-    let n = put_line(
-        page,
-        n,
-        b"\nrow\ncolumn\norientation\nbit\nconfidence\nmatch\nmismatch",
-        b.field,
-    );
-    let wholes = [b.at];
-    put_wholes(page, n, b" at %", &wholes)
-}
-
-// The second bad edge, where there is one.
-fn put_also(page: &mut [u8; 32768], at: usize, b: Bad) -> usize {
-    if b.field == 0 {
-        return at;
+// What the three calls say of the good input with the bad edges, one or more.
+fn show(rt: &impl Print, bad: &[Bad]) -> io::Result<()> {
+    let mut between = "";
+    for b in bad {
+        print!(rt; "{between}{b}")?;
+        between = " and ";
     }
-    let n = put(page, at, b" and ");
-    put_bad(page, n, b)
-}
-
-// What the three calls say of the good input with the bad edges a and b.
-fn show(rt: &impl Print, a: Bad, b: Bad) -> io::Result<()> {
-    let mut page = blank();
-    let n = put_bad(&mut page, 0, a);
-    let n = put_also(&mut page, n, b);
-    say(rt, &page, n)?;
-    print(rt, b": hard ")?;
-    print_admission(rt, hard_of(a, b))?;
-    print(rt, b", soft ")?;
-    print_admission(rt, soft_of(a, b))?;
-    print(rt, b", statistics ")?;
-    print_stats(rt, stats_of(a, b))?;
-    print(rt, b"\n")
+    print!(rt; ": hard ")?;
+    print_admission(rt, hard_of(bad))?;
+    print!(rt; ", soft ")?;
+    print_admission(rt, soft_of(bad))?;
+    print!(rt; ", statistics ")?;
+    print_stats(rt, stats_of(bad))?;
+    println!(rt; "")
 }
 
 // One bad edge, at the first, a middle and the last place of a list.
-fn places(rt: &impl Print, field: u32, list: u32) -> io::Result<()> {
-    show(rt, spoilt(field, list, 0), none())?;
-    show(rt, spoilt(field, list, 2), none())?;
-    show(rt, spoilt(field, list, 4), none())
+fn places(rt: &impl Print, field: Field, list: List) -> io::Result<()> {
+    show(rt, &[spoilt(field, list, 0)])?;
+    show(rt, &[spoilt(field, list, 2)])?;
+    show(rt, &[spoilt(field, list, 4)])
 }
 
 // Each field that both lists have.
-fn fields(rt: &impl Print, list: u32) -> io::Result<()> {
-    places(rt, 1, list)?;
-    places(rt, 2, list)?;
-    places(rt, 3, list)?;
-    places(rt, 4, list)?;
-    places(rt, 5, list)
+fn fields(rt: &impl Print, list: List) -> io::Result<()> {
+    places(rt, Field::Row, list)?;
+    places(rt, Field::Column, list)?;
+    places(rt, Field::Orientation, list)?;
+    places(rt, Field::Bit, list)?;
+    places(rt, Field::Confidence, list)
 }
 
 // Two bad edges of one kind: in one list, and in both. The first is given, of the logical list where both have one.
-fn one_kind(rt: &impl Print, field: u32) -> io::Result<()> {
-    show(rt, spoilt(field, 1, 3), spoilt(field, 1, 1))?;
-    show(rt, spoilt(field, 2, 3), spoilt(field, 2, 1))?;
-    show(rt, spoilt(field, 2, 1), spoilt(field, 1, 3))
+fn one_kind(rt: &impl Print, field: Field) -> io::Result<()> {
+    show(
+        rt,
+        &[
+            spoilt(field, List::Logical, 3),
+            spoilt(field, List::Logical, 1),
+        ],
+    )?;
+    show(
+        rt,
+        &[
+            spoilt(field, List::Physical, 3),
+            spoilt(field, List::Physical, 1),
+        ],
+    )?;
+    show(
+        rt,
+        &[
+            spoilt(field, List::Physical, 1),
+            spoilt(field, List::Logical, 3),
+        ],
+    )
 }
 
 // The same of each kind. A row and a column are of one kind, and so are the two likelihoods.
 fn kinds(rt: &impl Print) -> io::Result<()> {
-    one_kind(rt, 1)?;
-    one_kind(rt, 3)?;
-    one_kind(rt, 4)?;
-    one_kind(rt, 5)?;
-    show(rt, spoilt(1, 1, 3), spoilt(2, 1, 1))?;
-    show(rt, spoilt(6, 2, 3), spoilt(7, 2, 1))?;
-    show(rt, spoilt(7, 2, 3), spoilt(6, 2, 1))
+    one_kind(rt, Field::Row)?;
+    one_kind(rt, Field::Orientation)?;
+    one_kind(rt, Field::Bit)?;
+    one_kind(rt, Field::Confidence)?;
+    show(
+        rt,
+        &[
+            spoilt(Field::Row, List::Logical, 3),
+            spoilt(Field::Column, List::Logical, 1),
+        ],
+    )?;
+    show(
+        rt,
+        &[
+            spoilt(Field::Match, List::Physical, 3),
+            spoilt(Field::Mismatch, List::Physical, 1),
+        ],
+    )?;
+    show(
+        rt,
+        &[
+            spoilt(Field::Mismatch, List::Physical, 3),
+            spoilt(Field::Match, List::Physical, 1),
+        ],
+    )
 }
 
 // Bad edges of two kinds in two lists: the kind that comes first is given, also where it stands in the physical list and later.
-fn two_kinds(rt: &impl Print, field: u32, later: u32) -> io::Result<()> {
-    show(rt, spoilt(field, 2, 4), spoilt(later, 1, 0))?;
-    show(rt, spoilt(field, 1, 4), spoilt(later, 2, 0))
+fn two_kinds(rt: &impl Print, field: Field, later: Field) -> io::Result<()> {
+    show(
+        rt,
+        &[
+            spoilt(field, List::Physical, 4),
+            spoilt(later, List::Logical, 0),
+        ],
+    )?;
+    show(
+        rt,
+        &[
+            spoilt(field, List::Logical, 4),
+            spoilt(later, List::Physical, 0),
+        ],
+    )
 }
 
 // All cases.
 pub(crate) fn show_all(rt: &impl Print) -> io::Result<()> {
-    fields(rt, 1)?;
-    fields(rt, 2)?;
-    places(rt, 6, 2)?;
-    places(rt, 7, 2)?;
+    fields(rt, List::Logical)?;
+    fields(rt, List::Physical)?;
+    places(rt, Field::Match, List::Physical)?;
+    places(rt, Field::Mismatch, List::Physical)?;
     kinds(rt)?;
-    two_kinds(rt, 1, 3)?;
-    two_kinds(rt, 3, 4)?;
-    two_kinds(rt, 4, 5)?;
-    two_kinds(rt, 2, 5)?;
-    show(rt, spoilt(5, 1, 4), spoilt(6, 2, 0))
+    two_kinds(rt, Field::Row, Field::Orientation)?;
+    two_kinds(rt, Field::Orientation, Field::Bit)?;
+    two_kinds(rt, Field::Bit, Field::Confidence)?;
+    two_kinds(rt, Field::Column, Field::Confidence)?;
+    show(
+        rt,
+        &[
+            spoilt(Field::Confidence, List::Logical, 4),
+            spoilt(Field::Match, List::Physical, 0),
+        ],
+    )
 }

@@ -1,16 +1,14 @@
--- `is_name`: there are too few bytes, as many as the name has, or another number.
-use Rattle.std.proofs.Common.{◌∙◌, arith}
-use Rattle.viewtext.specs.Text.{named_back, named_past, named_other, named-same}
+-- `is_name`: the part of the text, where it has one, is compared with the name.
+use Rattle.std.proofs.lemmas.Bool.Decides.{Decides-eqb}
+use Rattle.std.proofs.lemmas.Slice.Eq.{slice_eq-Decides}
+use Rattle.viewtext.proofs.Names.{named-part, named-none}
 use Rattle.viewtext.proofs.text.is_name.Goals as goal
 
-pub returns-then-from-to : goal.returns-then-from-to
-returns-then-from-to c = let s = c.args in named_back s.s.now s.from s.name.now s.to (omega arith)
+pub returns-in-Some : goal.returns-in-Some
+returns-in-Some c =
+    let s = c.args in
+    let l = c.in-Some.ensures.lookup.0 in
+    named-part s.s.now s.from s.name.now s.to l.0 l.1 c.in-Some.part.now c.eq.result l.2 (slice_eq-Decides Decides-eqb _ _ _ c.eq.ensures)
 
-pub returns-then-to-s : goal.returns-then-to-s
-returns-then-to-s c = let s = c.args in named_past s.s.now s.from s.name.now s.to (omega arith) (omega arith)
-
-pub returns-then-to-from : goal.returns-then-to-from
-returns-then-to-from c = let s = c.args in named_other s.s.now s.from s.name.now s.to (omega arith) (omega arith) c.if-to-from.true
-
-pub returns : goal.returns
-returns c = let s = c.args in c.matches.ensures ∙ named-same s.s.now s.from s.name.now s.to (omega arith) (omega arith) (omega arith)
+pub returns-in-None : goal.returns-in-None
+returns-in-None c = let s = c.args in named-none s.s.now s.from s.name.now s.to c.in-None.ensures.lookup.0

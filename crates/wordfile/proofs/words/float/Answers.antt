@@ -7,6 +7,6 @@ use Rattle.wordfile.proofs.words.float.Goals as goal
 pub float_of-requires : goal.float_of-requires
 float_of-requires c = sym c.real.ensures ∙ c.if-real.true
 
-pub returns : goal.returns
+pub returns-else-real : goal.returns-else-real
 unfolding div lib.Ieee.of_bits
-returns c = float-nan _ (sym c.real.ensures ∙ c.if-real.false)
+returns-else-real c = float-nan _ (sym c.real.ensures ∙ c.if-real.false)

@@ -2,5 +2,5 @@
 use Rattle.std.proofs.Common.{◌<◌}
 use Rattle.worked.proofs.class_tables.checksum.Given as goal
 
-abbrev pub invariant-loop-i : goal.invariant-loop-i
-invariant-loop-i l = l.sum < 1000000007
+abbrev pub invariant-loop-count : goal.invariant-loop-count
+invariant-loop-count l = l.sum < 1000000007

@@ -8,6 +8,7 @@ use slices::page::Page;
 use std::fs::File;
 use std::io;
 use std::io::{ErrorKind, Write};
+use viewtext::text::is_name;
 use viewtext::view_file::Extent;
 
 // A page written to a new file beside the one that is named, which then takes its place; false after a message where that fails. The new file is made only where
@@ -67,7 +68,7 @@ pub fn draw(rt: HostRuntime, i: usize, shown: Shown, extent: Extent, length: usi
 fn begins(text: &[u8], length: usize) -> bool {
     let mut page = Page::blank();
     write!(page, "{}", Head(Rows::of_pole(length)));
-    text.starts_with(page.text())
+    is_name(text, 0, page.text().len(), page.text())
 }
 
 // Whether an open file is empty or begins as every picture does.

@@ -1,6 +1,7 @@
 // What the command was asked for.
 use std::env::{Env, FillError};
 use std::fmt;
+use viewtext::text::is_name;
 
 // A way to decode by hits that an option asks for, in place of the usual one.
 #[derive(Clone, Copy, PartialEq, Eq)]
@@ -66,7 +67,7 @@ struct Reading {
 
 // Whether a text is a picture's name: it ends in .svg.
 fn is_picture(text: &[u8]) -> bool {
-    text.len() > 4 && text.ends_with(b".svg")
+    text.len() > 4 && is_name(text, text.len() - 4, text.len(), b".svg")
 }
 
 // Whether a text begins like an option.

@@ -1,5 +1,6 @@
 // The message of a file that is at fault.
 use console::argument::Argument;
+use console::digits::{put_count, put_number};
 use console::message::warn;
 use slices::page::Page;
 use viewtext::fault::{Expected, Fault};
@@ -21,12 +22,15 @@ fn put_word(page: &mut Page, word: &Word, table: bool) {
     }
     let size = word.text.len();
     if size > SHOWN {
-        writeln!(page, "..\" ({size} bytes)");
-    } else if table && size > 9 {
-        writeln!(page, "\" ({size} bytes)");
-    } else {
-        writeln!(page, "\"");
+        page.put(b"..");
     }
+    page.put(b"\"");
+    if size > SHOWN || table && size > 9 {
+        page.put(b" (");
+        put_number(page, size as u64);
+        page.put(b" bytes)");
+    }
+    page.put(b"\n");
 }
 
 // What stands at the place of a fault, to the end of the message.
@@ -46,7 +50,9 @@ pub(crate) fn report(rt: HostRuntime, i: usize, file: &[u8], fault: Fault) {
     page.put(Argument::read(&rt, i).text());
     let line = line_of(file, fault.place);
     let expected = fault.expected;
-    write!(page, ", line {line}: expected {expected}; found ");
+    page.put(b", line ");
+    put_count(&mut page, line);
+    write!(page, ": expected {expected}; found ");
     put_found(&mut page, file, fault);
     warn(rt, &page);
 }
@@ -55,6 +61,8 @@ pub(crate) fn report(rt: HostRuntime, i: usize, file: &[u8], fault: Fault) {
 pub(crate) fn report_size(rt: HostRuntime, i: usize, most: usize) {
     let mut page = Page::blank();
     page.put(Argument::read(&rt, i).text());
-    writeln!(page, ": expected a file of at most {most} bytes");
+    page.put(b": expected a file of at most ");
+    put_number(&mut page, most as u64);
+    page.put(b" bytes\n");
     warn(rt, &page);
 }

@@ -1,4 +1,5 @@
--- How long the two tables of a board file may be, and where they stood in one array: what held of them while a fault was a number beside them. `Board` has these facts as its own fields now.
+-- How long the two tables of a board file may be. `Board::read` asks `is_length` of both; `first-kept` and `table_fits` say that there is room for what it lets through. `Kept`, `Whole` and their
+-- laws are of a reader that had both tables in one array and a fault as a number; a board has these facts as its fields.
 use Rattle.std.specs.Prelude.{◌≡◌, ℕ, ◌+◌, ◌<◌, ◌≤◌, Bool, true, false, cond, not, ◌==◌}
 use Rattle.std.proofs.Common.{sym, ap, ◌∙◌, true≢false, arith, eqb-true}
 use Rattle.ranges.specs.Ranges.{pole_length}

@@ -1,7 +1,11 @@
--- The bytes of a text file: a name at a place, and the line of a place.
-use Rattle.std.specs.Prelude.{◌≡◌, ℕ, zero, suc, ◌+◌, ◌-◌, ◌<◌, ◌≤◌, min, Bool, true, false, cond, ◌⊎◌, List, length, ◌==◌, ◌≢◌, nat_le, slice_index, refl}
+-- The bytes of a text file: what parts words, a name at a place, and the line of a place.
+use Rattle.std.specs.Prelude.{◌≡◌, ℕ, zero, suc, ◌+◌, ◌-◌, ◌<◌, ◌≤◌, min, Bool, true, false, cond, ◌||◌, ◌⊎◌, List, length, ◌==◌, ◌≢◌, nat_le, slice_index, refl}
 use Rattle.std.proofs.Common.{ap, ◌∙◌, inl, inr, eq-or-lt_of_le, add-one, arith}
 use borrow.Author.Tests.{le-leb, lt-leb, eq-eqb, ne_eqb}
+
+-- a space, a tab or a carriage return, which only parts words
+abbrev pub blank : ℕ → Bool
+blank b = b == 32 || b == 9 || b == 13
 
 -- the first n bytes of a name stand in the text s from a place on
 unfoldable pub stands : List ℕ → ℕ → List ℕ → ℕ → Bool

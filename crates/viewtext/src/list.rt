@@ -1,5 +1,5 @@
 // One list of a view's edges, as the columns that the decoder takes.
-ghost use Rattle.std.specs.Prelude.{◌≡◌, ◌<◌, ◌≤◌, replicate, take, pos, from_bits};
+ghost use Rattle.std.specs.Prelude.{◌≡◌, ◌<◌, ◌≤◌, false, replicate, take, pos, from_bits};
 ghost use Rattle.std.specs.Float.{binary32};
 ghost use Rattle.viewtext.specs.State.{given, likely};
 
@@ -16,7 +16,7 @@ pub enum State {
 }
 
 // A list of at most 8,192 edges, as columns.
-#[derive(Drop)]
+#[derive(Clone, Copy)]
 pub struct List {
     state: State,
     edges: usize,
@@ -132,6 +132,14 @@ impl List {
         self.hits[n] = likelihoods.hit;
         self.misses[n] = likelihoods.miss;
         self.edges = n + 1;
+    }
+
+    // The list made one that the file does not have so far; its columns stay as they are, and count no more.
+    pub(crate) fn clear(&mut self)
+        ensures { (given self.new.state ≡ false) × (self.new.edges ≡ 0) }
+    {
+        self.state = State::Absent;
+        self.edges = 0;
     }
 
     // The list begun by its line, with no edge so far.

@@ -1,8 +1,8 @@
 // The words and lines of a text file. Words are parted by spaces and tabs; `#` starts a comment that runs to the end of its line. A carriage return counts as a
 // blank, so a file with CRLF reads like one without.
-ghost use Rattle.std.specs.Prelude.{◌≡◌, ◌==◌, ◌+◌, ◌<◌, ◌≤◌, ◌^◌, min, length, IfSome, count_by};
+ghost use Rattle.std.specs.Prelude.{◌≡◌, ◌==◌, ◌+◌, ◌<◌, ◌≤◌, ◌^◌, ℕ, true, false, min, length, nat_le, slice_index, IfSome, IsNone, count_by};
 ghost use Rattle.std.specs.Iterator.{at_most};
-ghost use Rattle.viewtext.specs.Text.{line_at, named};
+ghost use Rattle.viewtext.specs.Text.{blank, line_at, named};
 
 use crate::fault::{Expected, Fault};
 
@@ -26,6 +26,13 @@ impl Word<'_> {
     }
 }
 
+// Whether a word is empty, so that its line has no more.
+pub fn none(word: &Word) -> bool
+    ensures { result ≡ nat_le (length word.now.text.now) 0 }
+{
+    word.text.is_empty()
+}
+
 // What is not yet read of one line, without its comment, and its place in the file.
 #[derive(Clone, Copy)]
 pub struct Line<'a> {
@@ -43,14 +50,23 @@ pub(crate) struct Lines<'a> {
 }
 
 // Whether a byte only parts words.
-fn is_blank(b: u8) -> bool {
+fn is_blank(b: u8) -> bool
+    ensures { result ≡ blank b }
+{
     matches!(b, b' ' | b'\t' | b'\r')
+}
+
+// Whether a byte ends the text of a line: its end, or the start of its comment.
+fn ends_text(b: u8) -> bool {
+    matches!(b, b'\n' | b'#')
 }
 
 // How many bytes stand before the first one that a test finds; all where it finds none.
 fn count_before<F: Fn(u8) -> bool>(text: &[u8], is_sought: F) -> usize
     requires { F.IsAlwaysCallable is_sought }
-    ensures { result ≤ length text.now }
+    ensures bound { result ≤ length text.now }
+    ensures sought { result < length text.now → F.post is_sought (slice_index text.now result) true }
+    ensures others { (k : ℕ) → k < result → F.post is_sought (slice_index text.now k) false }
 {
     text.iter()
         .position(|b| is_sought(*b))
@@ -58,23 +74,14 @@ fn count_before<F: Fn(u8) -> bool>(text: &[u8], is_sought: F) -> usize
 }
 
 impl<'a> Line<'a> {
-    // The line that has this text in a file, from a place on: without its comment.
-    fn new(text: &'a [u8], place: usize) -> Line<'a>
-        requires { place + length text.now < 2 ^ 64 }
-        ensures { result.place ≡ place }
-    {
-        let (text, _) = text.split_at(count_before(text, |b| b == b'#'));
-        Line { text, place }
-    }
-
     // What follows a place of a file on its line.
     pub fn from_place(file: &'a [u8], place: usize) -> Line<'a>
         ensures { result.place ≡ min place (length file.now) }
     {
         let place = place.min(file.len());
         let (_, rest) = file.split_at(place);
-        let (text, _) = rest.split_at(count_before(rest, |b| b == b'\n'));
-        Line::new(text, place)
+        let (text, _) = rest.split_at(count_before(rest, ends_text));
+        Line { text, place }
     }
 
     // How many bytes of the file stand before what is not yet read.
@@ -87,7 +94,8 @@ impl<'a> Line<'a> {
     // The next word, which is then read; none where the line has no more.
     pub fn next_word(&mut self) -> Option<Word<'a>>
         ensures on { self.old.place ≤ self.new.place }
-        ensures word { IfSome result (λ w. (self.old.place ≤ w.place) × (w.place + length w.text.now ≡ self.new.place)) }
+        ensures word { IfSome result (λ w. (0 < length w.text.now) × (self.old.place ≤ w.place) × (w.place + length w.text.now ≡ self.new.place)) }
+        ensures end { IsNone result → length self.new.text.now ≡ 0 }
     {
         let (_, rest) = self
             .text
@@ -98,10 +106,11 @@ impl<'a> Line<'a> {
             text: rest,
             place: place + text.len(),
         };
-        if text.is_empty() {
+        let word = Word { text, place };
+        if none(&word) {
             return None;
         }
-        Some(Word { text, place })
+        Some(word)
     }
 
     // Whether the line has no more words.
@@ -121,9 +130,9 @@ impl<'a> Line<'a> {
 impl<'a> Lines<'a> {
     // The lines of a file: after a byte order mark, if there is one.
     pub(crate) fn new(file: &'a [u8]) -> Lines<'a> {
-        match file.strip_prefix(b"\xef\xbb\xbf") {
-            Some(text) => Lines { text, place: 3 },
-            None => Lines {
+        match file.get(3..) {
+            Some(text) if is_name(file, 0, 3, b"\xef\xbb\xbf") => Lines { text, place: 3 },
+            _ => Lines {
                 text: file,
                 place: 0,
             },
@@ -155,16 +164,21 @@ impl<'a> Iterator for Lines<'a> {
         if self.text.is_empty() {
             return None;
         }
-        let (text, rest) = self.text.split_at(count_before(self.text, |b| b == b'\n'));
-        let line = Line::new(text, self.place);
+        let (text, rest) = self.text.split_at(count_before(self.text, ends_text));
+        let (comment, rest) = rest.split_at(count_before(rest, |b| b == b'\n'));
+        let line = Line {
+            text,
+            place: self.place,
+        };
+        let end = self.place + text.len() + comment.len();
         *self = match rest.split_first() {
             Some((_, rest)) => Lines {
                 text: rest,
-                place: self.place + text.len() + 1,
+                place: end + 1,
             },
             None => Lines {
                 text: rest,
-                place: self.place + text.len(),
+                place: end,
             },
         };
         Some(line)

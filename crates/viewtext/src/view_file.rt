@@ -1,5 +1,6 @@
 // A view: the two edge lists and the settings, as its file gives them.
-ghost use Rattle.std.specs.Prelude.{◌≡◌};
+ghost use Rattle.std.specs.Prelude.{◌≡◌, false};
+ghost use Rattle.viewtext.specs.State.{given};
 ghost use Rattle.viewtext.specs.View.{list_of, serving};
 
 use crate::edge::{Edge, Orientation};
@@ -16,7 +17,7 @@ pub enum Which {
 }
 
 // The two lists.
-#[derive(Drop)]
+#[derive(Clone, Copy)]
 pub struct Lists {
     pub logical: List,
     pub physical: List,
@@ -31,6 +32,15 @@ impl Lists {
             logical: List::new(),
             physical: List::new(),
         }
+    }
+
+    // Both made lists that the file does not have so far.
+    fn clear(&mut self)
+        ensures absent { (given self.new.logical.state ≡ false) × (given self.new.physical.state ≡ false) }
+        ensures edges { (self.new.logical.edges ≡ 0) × (self.new.physical.edges ≡ 0) }
+    {
+        self.logical.clear();
+        self.physical.clear();
     }
 
     // One of them.
@@ -102,8 +112,12 @@ struct Reading {
 }
 
 impl Reading {
-    // A file of which nothing is read.
-    fn new() -> Reading {
+    // A file of which nothing is read, so that it has neither list, whatever the lists were before.
+    fn new(lists: &mut Lists) -> Reading
+        ensures absent { (given lists.new.logical.state ≡ false) × (given lists.new.physical.state ≡ false) }
+        ensures edges { (lists.new.logical.edges ≡ 0) × (lists.new.physical.edges ≡ 0) }
+    {
+        lists.clear();
         Reading {
             view: View {
                 settings: Settings::new(),
@@ -174,7 +188,7 @@ impl Reading {
 
 // The view that a file gives, with its edges in the lists, or where the file is first at fault. Log likelihoods belong to the physical list, where there is one.
 pub fn read_view(file: &[u8], lists: &mut Lists) -> Result<View, Fault> {
-    let mut reading = Reading::new();
+    let mut reading = Reading::new(lists);
     for line in Lines::new(file) {
         reading.read_line(line, lists)?;
     }

@@ -1,5 +1,6 @@
 -- The bits of a float, where every NaN counts as one.
-use Rattle.std.specs.Prelude.{◌≡◌, ℕ, true, false, cond, not, T, to_bits, refl, Float}
+use Rattle.std.specs.Prelude.{◌≡◌, ℕ, List, true, false, cond, not, T, to_bits, refl, Float, codes}
+use Rattle.io.specs.Digits.{last_digits}
 use Rattle.std.proofs.Common.{sym, subst, ◌∙◌}
 use Rattle.std.specs.Float.{binary32, nan, inf, fin}
 use Rattle.std.specs.Float.Ieee.{ne, is_nan}
@@ -28,3 +29,19 @@ unfolding bits_of is_nan
 bits-some nan h = absurd h
 bits-some (inf s) h = refl
 bits-some (fin s m n) h = refl
+
+-- what is shown of a float: its bits in eight hexadecimal digits; NaN by its name
+unfoldable pub shown_bits : Float → List ℕ
+shown_bits x = cond (is_nan x) (codes "NaN") (last_digits 16 8 (bits_of x))
+
+-- what differs from itself is shown as NaN
+pub shown-nan : (x : Float) → ne x x ≡ true → codes "NaN" ≡ shown_bits x
+unfolding shown_bits is_nan
+shown-nan x e = rw (differs_from_itself x (subst T (sym e) tt)) refl
+
+-- what does not is shown by its bits
+pub shown-some : (x : Float) → T (not (is_nan x)) → last_digits 16 8 (bits_of x) ≡ shown_bits x
+unfolding shown_bits is_nan
+shown-some nan h = absurd h
+shown-some (inf s) h = refl
+shown-some (fin s m n) h = refl

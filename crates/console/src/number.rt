@@ -1,6 +1,6 @@
 // Floats as people read them: values that `write!` and `println!` show.
-ghost use Rattle.std.specs.Prelude.{◌≡◌};
-ghost use Rattle.console.specs.Bits.{bits_of};
+ghost use Rattle.std.specs.Prelude.{◌≡◌, Some};
+ghost use Rattle.console.specs.Bits.{bits_of, shown_bits};
 
 use std::fmt;
 
@@ -64,12 +64,14 @@ impl fmt::Display for Millionths {
 }
 
 impl fmt::Display for Bits {
+    ghost output = { λ b. Some (shown_bits b.0) };
+
     fn fmt<W: fmt::Write>(&self, f: &mut fmt::Formatter<W>) -> fmt::Result {
         let x = self.0;
-        if x == x {
-            write!(f, "{:08x}", bits_of(x))
-        } else {
+        if x != x {
             f.write_str("NaN")
+        } else {
+            write!(f, "{:08x}", bits_of(x))
         }
     }
 }

@@ -1,5 +1,7 @@
 // What was compared, and what differs. A tally has eighteen places for each kind (place 18 · kind + refusal number, 0 for found), the first eighteen of them for sums:
 // 0 cases, 1 cases that differ, 2 cases in which the Rust does not tell 13 from 15.
+use console::digits::{put_count, put_word};
+use slices::page::Page;
 use std::io;
 
 // One more at a place.
@@ -69,7 +71,13 @@ fn print_difference(
     } else {
         name_of(i)
     };
-    println!(rt; "entry {at} differs in {name}: stored {theirs:08x}, ours {ours:08x}")
+    let mut page = Page::blank();
+    write!(page, "entry {at} differs in {name}: stored ");
+    put_word(&mut page, theirs);
+    page.put(b", ours ");
+    put_word(&mut page, ours);
+    page.put(b"\n");
+    rt.write_all(page.text())
 }
 
 // Whether no word differs; each that does is written.
@@ -157,14 +165,21 @@ fn kind_name(kind: u32) -> &'static str {
 // One kind of call: how many were found, and how many refused with each number, where there are any.
 fn show_kind(rt: &impl Print, tally: &[u32; 132], kind: u32) -> io::Result<()> {
     let name = kind_name(kind);
-    print!(rt; "{name}: {} found", count_at(tally, place_of(kind, 0)))?;
+    let mut page = Page::blank();
+    write!(page, "{name}: ");
+    put_count(&mut page, count_at(tally, place_of(kind, 0)));
+    page.put(b" found");
     for number in 1..18u32 {
         let count = count_at(tally, place_of(kind, number));
         if count != 0 {
-            print!(rt; ", {count} refused with {number}")?;
+            page.put(b", ");
+            put_count(&mut page, count);
+            page.put(b" refused with ");
+            put_count(&mut page, number);
         }
     }
-    println!(rt; "")
+    page.put(b"\n");
+    rt.write_all(page.text())
 }
 
 // All kinds, and the sums.
@@ -172,6 +187,12 @@ pub(crate) fn show(rt: &impl Print, tally: &[u32; 132]) -> io::Result<()> {
     for kind in 1..7u32 {
         show_kind(rt, tally, kind)?;
     }
-    println!(rt; "{} cases are stored as 13 or 15", tally[2])?;
-    println!(rt; "{} cases, {} differ", tally[0], tally[1])
+    let mut page = Page::blank();
+    put_count(&mut page, tally[2]);
+    page.put(b" cases are stored as 13 or 15\n");
+    put_count(&mut page, tally[0]);
+    page.put(b" cases, ");
+    put_count(&mut page, tally[1]);
+    page.put(b" differ\n");
+    rt.write_all(page.text())
 }

@@ -1,4 +1,4 @@
--- A page as an array of 32,768 bytes with a place handed along: what stands on it byte by byte. A `Page` promises the same of its text by `put_behind`.
+-- A page as an array of 32,768 bytes with a place handed along: what stands on it byte by byte. A `Page` promises the same of its text by `put_behind`, and `written-behind` (slices/proofs/Written.antt) says that the two agree.
 use Rattle.std.specs.Prelude.{◌≡◌, refl, List, ℕ, zero, suc, ◌+◌, ◌-◌, ◌≤◌, ◌<◌, length, get_or, set}
 use Rattle.std.proofs.Common.{ap, ◌∙◌, add-one, arith}
 use Rattle.std.proofs.Math.Nat.{min-le_left, min-le_right}

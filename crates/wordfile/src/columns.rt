@@ -1,17 +1,30 @@
 // Columns of a file: a length, and that many words.
-ghost use Rattle.std.specs.Prelude.{◌≡◌, ◌≤◌, take, length};
+ghost use Rattle.std.specs.Prelude.{◌≡◌, ◌≤◌, take, length, ⊤};
 
 use crate::words::{Words, float, octet, signed};
+use std::alloc::AllocError;
 use std::io;
 use std::io::Read;
 
 // A column of at most 8,193 words, as what they stand for.
-#[derive(Drop)]
 pub struct Column<T: Copy> {
     words: [T; 8193],
     length: usize,
     ghost in_room: { length ≤ 8193 },
 }
+
+// A column is copied whole, with all of its room.
+impl<T: Copy> Clone for Column<T> {
+    ghost is_clone = { λ x y. y ≡ x };
+
+    ghost is_infallible = { λ _. ⊤ };
+
+    fn clone(&self) -> Result<Column<T>, AllocError> {
+        Ok(*self)
+    }
+}
+
+impl<T: Copy> Copy for Column<T> {}
 
 impl<T: Copy> Column<T> {
     // A column with no words, whose room holds one value.

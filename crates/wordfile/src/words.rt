@@ -2,6 +2,7 @@
 ghost use Rattle.std.specs.Prelude.{◌≡◌, ◌≤◌, true, ◌%◌};
 ghost use Rattle.wordfile.specs.Bits.{real_bits, signed_of, float_of};
 
+use slices::part::part;
 use std::io;
 use std::io::Read;
 
@@ -48,14 +49,16 @@ impl<F: Read + Drop> Words<F> {
         if self.end - self.at < 4 {
             self.fill()?;
         }
-        match self.room[self.at..self.end].first_chunk() {
-            Some(word) => {
-                let word = u32::from_le_bytes(*word);
-                self.at += 4;
-                Ok(word)
-            }
-            None => Ok(0),
+        if self.end - self.at < 4 {
+            return Ok(0);
         }
+        let bytes = part(&self.room, self.at, 4);
+        self.at += 4;
+        Ok(
+            bytes
+                .first_chunk()
+                .map_or(0, |word| u32::from_le_bytes(*word)),
+        )
     }
 }
 

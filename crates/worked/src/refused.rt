@@ -182,18 +182,6 @@ impl Case {
     }
 }
 
-// A column whose first element may differ from the others.
-fn column<T: Copy>(first: T, rest: T) -> [T; 8193] {
-    let mut xs = [rest; 8193];
-    xs[0] = first;
-    xs
-}
-
-// A column of floats, of which the first is that of a case at the column's place.
-fn float_column(case: Case, place: Place) -> [f32; 8193] {
-    column(case.float(place), place.range().good)
-}
-
 // The columns of a case: the logical list's, then those of the physical list that differ from them, likelihoods, transforms and tables.
 #[derive(Drop)]
 struct Columns {
@@ -210,25 +198,6 @@ struct Columns {
     transforms: [u8; 8193],
     h: [u8; 8193],
     v: [u8; 8193],
-}
-
-// The columns of a good call with the faults of a case.
-fn columns_of(case: Case) -> Columns {
-    Columns {
-        rows: column(case.row(), 3),
-        cols: column(case.col(), 4),
-        orientations: column(case.pick(Fault::Orientation, 2, 1), 1),
-        bits: column(case.bit(), 0),
-        confidences: float_column(case, Place::Confidence),
-        prows: column(case.pick(Fault::PhysicalRow, 1000001, 3), 3),
-        porientations: column(case.pick(Fault::PhysicalOrientation, 2, 1), 1),
-        pconfidences: column(case.pick(Fault::PhysicalConfidence, 1.5, 0.5), 0.5),
-        matches: float_column(case, Place::Match),
-        mismatches: float_column(case, Place::Mismatch),
-        transforms: column(case.pick(Fault::Transform, 8, 5), 5),
-        h: column(case.pick(Fault::HorizontalPattern, 8, 2), 2),
-        v: column(case.pick(Fault::VerticalPattern, 8, 5), 5),
-    }
 }
 
 // How long the columns of a case are, and how much room it is lent.
@@ -268,6 +237,42 @@ fn lengths_of(case: Case) -> Lengths {
 }
 
 impl Columns {
+    // The columns of a good call. They are made once, and each case puts its faults into them.
+    fn good() -> Columns {
+        Columns {
+            rows: [3; 8193],
+            cols: [4; 8193],
+            orientations: [1; 8193],
+            bits: [0; 8193],
+            confidences: [Place::Confidence.range().good; 8193],
+            prows: [3; 8193],
+            porientations: [1; 8193],
+            pconfidences: [0.5; 8193],
+            matches: [Place::Match.range().good; 8193],
+            mismatches: [Place::Mismatch.range().good; 8193],
+            transforms: [5; 8193],
+            h: [2; 8193],
+            v: [5; 8193],
+        }
+    }
+
+    // The faults of a case, in the first place of each column.
+    fn spoil(&mut self, case: Case) {
+        self.rows[0] = case.row();
+        self.cols[0] = case.col();
+        self.orientations[0] = case.pick(Fault::Orientation, 2, 1);
+        self.bits[0] = case.bit();
+        self.confidences[0] = case.float(Place::Confidence);
+        self.prows[0] = case.pick(Fault::PhysicalRow, 1000001, 3);
+        self.porientations[0] = case.pick(Fault::PhysicalOrientation, 2, 1);
+        self.pconfidences[0] = case.pick(Fault::PhysicalConfidence, 1.5, 0.5);
+        self.matches[0] = case.float(Place::Match);
+        self.mismatches[0] = case.float(Place::Mismatch);
+        self.transforms[0] = case.pick(Fault::Transform, 8, 5);
+        self.h[0] = case.pick(Fault::HorizontalPattern, 8, 2);
+        self.v[0] = case.pick(Fault::VerticalPattern, 8, 5);
+    }
+
     // The logical list.
     fn logical(&self, n: Lengths) -> List<'_> {
         List {
@@ -323,16 +328,14 @@ impl Columns {
 }
 
 // What hard decode's checks say of a good call with the faults of a case.
-fn hard_of(case: Case) -> Admission {
-    let columns = columns_of(case);
+fn hard_of(columns: &Columns, case: Case) -> Admission {
     let n = lengths_of(case);
     let call = columns.hard(n, case.float(Place::Limit));
     admission::refusal::hard_admission(call, n.counts, n.weights)
 }
 
 // What soft decode's checks say of it.
-fn soft_of(case: Case) -> Admission {
-    let columns = columns_of(case);
+fn soft_of(columns: &Columns, case: Case) -> Admission {
     let n = lengths_of(case);
     let call = SoftCall {
         hard: columns.hard(n, case.float(Place::Limit)),
@@ -343,8 +346,7 @@ fn soft_of(case: Case) -> Admission {
 }
 
 // What match statistics say of the logical list.
-fn stats_of(case: Case) -> StatsAnswer {
-    let columns = columns_of(case);
+fn stats_of(columns: &Columns, case: Case) -> StatsAnswer {
     let n = lengths_of(case);
     let square = Square {
         transform: case.pick(Fault::Transform, 8, 5),
@@ -355,26 +357,33 @@ fn stats_of(case: Case) -> StatsAnswer {
 }
 
 // What the three calls say of the good input with the faults of a case.
-fn show_case(rt: &impl Print, case: Case) -> io::Result<()> {
+fn show_case(rt: &impl Print, columns: &mut Columns, case: Case) -> io::Result<()> {
+    columns.spoil(case);
     print!(rt; ": hard ")?;
-    print_admission(rt, hard_of(case))?;
+    print_admission(rt, hard_of(columns, case))?;
     print!(rt; ", soft ")?;
-    print_admission(rt, soft_of(case))?;
+    print_admission(rt, soft_of(columns, case))?;
     print!(rt; ", statistics ")?;
-    print_stats(rt, stats_of(case))?;
+    print_stats(rt, stats_of(columns, case))?;
     println!(rt; "")
 }
 
 // The same with two faults, under its name.
-fn show(rt: &impl Print, name: &str, one: Fault, other: Fault) -> io::Result<()> {
+fn show(
+    rt: &impl Print,
+    columns: &mut Columns,
+    name: &str,
+    one: Fault,
+    other: Fault,
+) -> io::Result<()> {
     print!(rt; "{name}")?;
-    show_case(rt, Case { one, other })
+    show_case(rt, columns, Case { one, other })
 }
 
 // Faults, each alone, under their names, a line each.
-fn show_each(rt: &impl Print, faults: &[(&str, Fault)]) -> io::Result<()> {
+fn show_each(rt: &impl Print, columns: &mut Columns, faults: &[(&str, Fault)]) -> io::Result<()> {
     for (name, fault) in faults {
-        show(rt, *name, *fault, Fault::None)?;
+        show(rt, columns, *name, *fault, Fault::None)?;
     }
     Ok(())
 }
@@ -382,23 +391,25 @@ fn show_each(rt: &impl Print, faults: &[(&str, Fault)]) -> io::Result<()> {
 // A float place with floats of each kind, each alone, a line each under the names of both.
 fn show_floats(
     rt: &impl Print,
+    columns: &mut Columns,
     place: Place,
     place_name: &str,
     kinds: &[(&str, Kind)],
 ) -> io::Result<()> {
     for (name, kind) in kinds {
         print!(rt; "{place_name} ")?;
-        show(rt, *name, Fault::Float(place, *kind), Fault::None)?;
+        show(rt, columns, *name, Fault::Float(place, *kind), Fault::None)?;
     }
     Ok(())
 }
 
 // Each fault alone, and the numbers at the ends of the ranges that are taken: the call as it should be, lent room and columns that are too short, and lists that are empty
 // or of the lengths at the limits.
-fn sizes(rt: &impl Print) -> io::Result<()> {
-    show(rt, "good", Fault::None, Fault::None)?;
+fn sizes(rt: &impl Print, columns: &mut Columns) -> io::Result<()> {
+    show(rt, columns, "good", Fault::None, Fault::None)?;
     show_each(
         rt,
+        columns,
         &[
             ("counts short", Fault::CountsShort),
             ("weights short", Fault::WeightsShort),
@@ -407,12 +418,14 @@ fn sizes(rt: &impl Print) -> io::Result<()> {
     )?;
     show(
         rt,
+        columns,
         "logical columns short",
         Fault::ColumnsShort,
         Fault::None,
     )?;
     show_each(
         rt,
+        columns,
         &[
             (
                 "physical confidences short",
@@ -421,10 +434,17 @@ fn sizes(rt: &impl Print) -> io::Result<()> {
             ("match likelihoods short", Fault::MatchesShort),
         ],
     )?;
-    show(rt, "logical empty", Fault::Empty, Fault::None)?;
-    show(rt, "physical empty", Fault::PhysicalEmpty, Fault::None)?;
+    show(rt, columns, "logical empty", Fault::Empty, Fault::None)?;
+    show(
+        rt,
+        columns,
+        "physical empty",
+        Fault::PhysicalEmpty,
+        Fault::None,
+    )?;
     show_each(
         rt,
+        columns,
         &[
             ("1 edge", Fault::Edges1),
             ("8192 edges", Fault::Edges8192),
@@ -434,9 +454,10 @@ fn sizes(rt: &impl Print) -> io::Result<()> {
 }
 
 // Edges: row, column, orientation and bit; the same of the physical list. Transforms.
-fn edges(rt: &impl Print) -> io::Result<()> {
+fn edges(rt: &impl Print, columns: &mut Columns) -> io::Result<()> {
     show_each(
         rt,
+        columns,
         &[
             ("row 1000001", Fault::RowAbove),
             ("row -1000001", Fault::RowBelow),
@@ -448,9 +469,16 @@ fn edges(rt: &impl Print) -> io::Result<()> {
             ("one of two edges missed", Fault::Missed),
         ],
     )?;
-    show(rt, "the only edge missed", Fault::Missed, Fault::Edges1)?;
+    show(
+        rt,
+        columns,
+        "the only edge missed",
+        Fault::Missed,
+        Fault::Edges1,
+    )?;
     show_each(
         rt,
+        columns,
         &[
             ("physical row 1000001", Fault::PhysicalRow),
             ("physical orientation 2", Fault::PhysicalOrientation),
@@ -459,6 +487,7 @@ fn edges(rt: &impl Print) -> io::Result<()> {
     )?;
     show_each(
         rt,
+        columns,
         &[
             ("transform 8", Fault::Transform),
             ("no transforms", Fault::NoTransforms),
@@ -468,9 +497,10 @@ fn edges(rt: &impl Print) -> io::Result<()> {
 }
 
 // Tables, and origins for match statistics.
-fn boards(rt: &impl Print) -> io::Result<()> {
+fn boards(rt: &impl Print, columns: &mut Columns) -> io::Result<()> {
     show_each(
         rt,
+        columns,
         &[
             ("horizontal pattern 8", Fault::HorizontalPattern),
             ("vertical pattern 8", Fault::VerticalPattern),
@@ -480,6 +510,7 @@ fn boards(rt: &impl Print) -> io::Result<()> {
     )?;
     show_each(
         rt,
+        columns,
         &[
             ("origin row 501", Fault::OriginRow),
             ("origin column 501", Fault::OriginCol),
@@ -489,9 +520,10 @@ fn boards(rt: &impl Print) -> io::Result<()> {
 
 // Each float place with NaN, both infinities, values out of range, -0 and the value at the end of its range: confidences, the likelihoods of a match and of a mismatch,
 // the error limit and the soft margin.
-fn floats(rt: &impl Print) -> io::Result<()> {
+fn floats(rt: &impl Print, columns: &mut Columns) -> io::Result<()> {
     show_floats(
         rt,
+        columns,
         Place::Confidence,
         "confidence",
         &[
@@ -506,6 +538,7 @@ fn floats(rt: &impl Print) -> io::Result<()> {
     )?;
     show_floats(
         rt,
+        columns,
         Place::Match,
         "match",
         &[
@@ -520,6 +553,7 @@ fn floats(rt: &impl Print) -> io::Result<()> {
     )?;
     show_floats(
         rt,
+        columns,
         Place::Mismatch,
         "mismatch",
         &[
@@ -534,6 +568,7 @@ fn floats(rt: &impl Print) -> io::Result<()> {
     )?;
     show_floats(
         rt,
+        columns,
         Place::Limit,
         "limit",
         &[
@@ -548,6 +583,7 @@ fn floats(rt: &impl Print) -> io::Result<()> {
     )?;
     show_floats(
         rt,
+        columns,
         Place::Margin,
         "margin",
         &[
@@ -563,39 +599,45 @@ fn floats(rt: &impl Print) -> io::Result<()> {
 }
 
 // Two faults of different numbers: the one that comes first in the order 1, 2, 3, 4, 16, 17, 5, 6, 7, 8, 9 is given, over all lists.
-fn pairs(rt: &impl Print) -> io::Result<()> {
+fn pairs(rt: &impl Print, columns: &mut Columns) -> io::Result<()> {
     show(
         rt,
+        columns,
         "1 and 2: room and lengths",
         Fault::CountsShort,
         Fault::PhysicalConfidencesShort,
     )?;
     show(
         rt,
+        columns,
         "2 and 3: lengths and 8193 edges",
         Fault::ColumnsShort,
         Fault::Edges8193,
     )?;
     show(
         rt,
+        columns,
         "3 and 4: empty and physical row",
         Fault::Empty,
         Fault::PhysicalRow,
     )?;
     show(
         rt,
+        columns,
         "4 and 5: physical row and logical confidence",
         Fault::PhysicalRow,
         Fault::Float(Place::Confidence, Kind::Nan),
     )?;
     show(
         rt,
+        columns,
         "17 and 5: logical bit and physical confidence",
         Fault::Bit,
         Fault::PhysicalConfidence,
     )?;
     show(
         rt,
+        columns,
         "5 and 6: logical confidence and match",
         Fault::Float(Place::Confidence, Kind::Nan),
         Fault::Float(Place::Match, Kind::Nan),
@@ -603,33 +645,38 @@ fn pairs(rt: &impl Print) -> io::Result<()> {
 }
 
 // The same from 6 on.
-fn later_pairs(rt: &impl Print) -> io::Result<()> {
+fn later_pairs(rt: &impl Print, columns: &mut Columns) -> io::Result<()> {
     show(
         rt,
+        columns,
         "6 and 7: match and transform",
         Fault::Float(Place::Match, Kind::Nan),
         Fault::Transform,
     )?;
     show(
         rt,
+        columns,
         "7 and 8: transform and table",
         Fault::Transform,
         Fault::HorizontalTable,
     )?;
     show(
         rt,
+        columns,
         "8 and 9: pattern and limit",
         Fault::VerticalPattern,
         Fault::Float(Place::Limit, Kind::Nan),
     )?;
     show(
         rt,
+        columns,
         "8 and 9: table and origin",
         Fault::VerticalTable,
         Fault::OriginRow,
     )?;
     show(
         rt,
+        columns,
         "1 and 9: room and limit",
         Fault::WeightsShort,
         Fault::Float(Place::Limit, Kind::Nan),
@@ -638,10 +685,11 @@ fn later_pairs(rt: &impl Print) -> io::Result<()> {
 
 // All cases.
 pub(crate) fn show_all(rt: &impl Print) -> io::Result<()> {
-    sizes(rt)?;
-    edges(rt)?;
-    boards(rt)?;
-    floats(rt)?;
-    pairs(rt)?;
-    later_pairs(rt)
+    let mut columns = Columns::good();
+    sizes(rt, &mut columns)?;
+    edges(rt, &mut columns)?;
+    boards(rt, &mut columns)?;
+    floats(rt, &mut columns)?;
+    pairs(rt, &mut columns)?;
+    later_pairs(rt, &mut columns)
 }

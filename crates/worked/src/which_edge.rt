@@ -6,6 +6,7 @@ use board::pattern::Tables;
 use likelihood::Likelihoods;
 use refusals::Admission;
 use runs::print::{print_admission, print_stats};
+use slices::page::Page;
 use std::{fmt, io};
 
 // The field of an edge that is bad; the last two are the log likelihoods of a match and of a mismatch.
@@ -205,11 +206,13 @@ fn stats_of(bad: &[Bad]) -> StatsAnswer {
 
 // What the three calls say of the good input with the bad edges, one or more.
 fn show(rt: &impl Print, bad: &[Bad]) -> io::Result<()> {
+    let mut page = Page::blank();
     let mut between = "";
     for b in bad {
-        print!(rt; "{between}{b}")?;
+        write!(page, "{between}{b}");
         between = " and ";
     }
+    rt.write_all(page.text())?;
     print!(rt; ": hard ")?;
     print_admission(rt, hard_of(bad))?;
     print!(rt; ", soft ")?;

@@ -6,7 +6,7 @@ ghost use Rattle.laws.specs.Words.{zero_f};
 ghost use Rattle.closing.specs.Closed.{closed};
 
 // What a column can hold, with the value of a place that nothing stands in.
-// It is not clearing's `Zero`, which has the types of lent room and not these: a column closes up over `laws` alone.
+// It is not clearing's `Zero`, which has the types of lent room, and of these f32 alone: a column closes up over `laws` alone.
 pub trait Blank: Copy {
     ghost BLANK: { Self };
 

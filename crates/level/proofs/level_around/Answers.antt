@@ -1,19 +1,24 @@
-use Rattle.std.proofs.Common.{◌≡◌, length, true, false, not, refl, sym, ap, ◌∙◌, ⊎_elim, ℤ, w64, to_z, of_z, to_z-of_z, pos, negsuc, rules, arith, lt-ltb, le-ltb, eq-eqb, ltb-false}
-use borrow.Author.Tests.{ne_eqb}
+use Rattle.std.proofs.Common.{◌≡◌, inl, inr, ◌<◌, length, List, ℕ, true, false, not, refl, sym, ap, ◌∙◌, ℤ, w64, to_z, of_z, to_z-of_z, pos, negsuc, rules, arith, eq-eqb, ltb-false}
 use lib.Signed.{lt_z}
-use Rattle.laws.specs.Tests.{clash, compared}
+use Rattle.laws.specs.Tests.{clash, cases}
 use Rattle.laws.specs.Words.{eq_z}
-use Rattle.best.specs.AroundLaws.{equal-or-below}
 use Rattle.level.specs.Level.{s_at, larger, tied_sum, level_second}
-use Rattle.level.specs.LevelLaws.{larger-weak}
+use Rattle.level.specs.LevelLaws.{larger-weak, below_top, Top}
 use Rattle.level.proofs.level_around.Goals as goal
 
--- a whole number that is not above another is equal to it, or below it
-level-or-below : (x y : ℤ) → lt_z y x ≡ false → eq_z x y ≡ not (lt_z x y)
-level-or-below (pos a) (pos b) h = equal-or-below a b (ltb-false b a h)
-level-or-below (negsuc a) (negsuc b) h = ⊎_elim (λ l. rw (lt-ltb b a l, ne_eqb a b (λ e. omega arith)) refl) (λ l. rw (le-ltb b a l, eq-eqb a b (omega (arith, ltb-false a b h))) refl) (compared b a)
-level-or-below (pos a) (negsuc b) h = clash refl h
-level-or-below (negsuc a) (pos b) h = refl
+-- whole numbers none of which is above the other are one
+level-alike : (x y : ℤ) → lt_z y x ≡ false → lt_z x y ≡ false → eq_z x y ≡ true
+level-alike (pos a) (pos b) h g = eq-eqb a b (omega (arith, ltb-false b a h, ltb-false a b g))
+level-alike (negsuc a) (negsuc b) h g = eq-eqb a b (omega (arith, ltb-false a b h, ltb-false b a g))
+level-alike (pos a) (negsuc b) h g = clash refl h
+level-alike (negsuc a) (pos b) h g = clash refl g
+
+-- a cell's sum is the largest one, or the cell is below those that have it
+tied-or-below : (xs : List ℤ) (k i : ℕ) → Top xs k → k < length xs → i < length xs → tied_sum xs (s_at xs k) i ≡ not (larger (s_at xs) k i)
+tied-or-below xs k i top in-k in-i = elim (cases (lt_z (s_at xs i) (s_at xs k))) [
+  | inl below ↦ below_top xs k k (s_at xs i) top in-k below ∙ ap not (sym below)
+  | inr level ↦ level-alike (s_at xs i) (s_at xs k) (top i in-i) level ∙ ap not (sym level)
+]
 
 pub returns : goal.returns
 returns c =
@@ -24,7 +29,7 @@ returns c =
       compares = λ i j r h k e. search rules;
       weak = larger-weak (length xs) (s_at xs);
       top = λ i l. top i l;
-      tied = λ i l. level-or-below (s_at xs i) (s_at xs cell) (top i l);
+      tied = λ i l. tied-or-below xs cell i top c.requires.1 l;
       same = λ i r l yes e. let says : r ≡ true = search rules in says ∙ sym yes;
       less = λ i l no. no;
     }) in

@@ -1,4 +1,4 @@
--- One list decided. Document 01: "Gate: margin = best minus runner-up hits, not below 0; pass exactly if margin > misses." Err by the selection, or because the
+-- One list decided. Document 01: "Gate: margin = best minus runner-up hits, not below 0; pass exactly if margin > misses." Refused by the selection, or because the
 -- gate was not passed, else the winner with its runner-up.
 use Rattle.std.specs.Prelude.{◌≡◌, Bool, true, false, List, ℕ, Float, Err, Ok}
 use Rattle.board.specs.Hits.{EdgeList, Board, size}

@@ -1,4 +1,4 @@
--- THE DOMAIN of an exact call: hard decode's conditions, with room of u32 and of u64. accepted exactly when all are met, and else refused by the number of the first that is not: hard decode's laws,
+-- THE DOMAIN of an exact call: hard decode's conditions, with room of u32 and of u64. Accepted exactly when all are met, and else refused by the number of the first that is not: hard decode's laws,
 -- since of room they know the lengths alone.
 use Rattle.std.specs.Prelude.{◌≡◌, List, ℕ, length, replicate, Err}
 use Rattle.std.proofs.Math.Path.{subst}

@@ -26,7 +26,7 @@ list_number Logical = 1
 list_number Physical = 2
 list_number Only = 3
 
--- "Some the C boundary the two new fields are SAMBUREXT_NOTHING where there is no place"
+-- "At the C boundary the two new fields are SAMBUREXT_NOTHING where there is no place"
 abbrev pub flat_list : Option EdgePlace → ℕ
 flat_list None = nothing
 flat_list (Some p) = list_number p.list

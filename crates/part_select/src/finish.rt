@@ -41,7 +41,7 @@ fn winner_of(c: Offer, edges: u32) -> ExactWinner
     }
 }
 
-// Err where the winner is over the limit, since no placing of the part has more hits; else the winner with what is shown beside it.
+// Refused where the winner is over the limit, since no placing of the part has more hits; else the winner with what is shown beside it.
 fn finish_with(c: Offer, next: PartNext, edges: u32, error_limit: f32) -> PartSelection
     requires { OfferOk edges c }
     ensures { result ≡ finished_with edges error_limit c next }
